@@ -97,25 +97,31 @@ fn texts_bytes_and_lists_hold_what_was_put(rt: HostRuntime) -> Result<(), Fail> 
 }
 
 #[test]
-fn maps_keep_the_last_value_in_byte_order(rt: HostRuntime) -> Result<(), Fail> {
-    let alloc: Global = rt.alloc();
-    let mut outputs = Outputs::new(alloc);
+fn outputs_keep_the_last_body_in_byte_order(rt: HostRuntime) -> Result<(), Fail> {
+    let mut outputs = Outputs::new(rt.alloc());
     for (path, body) in [("p", "a"), ("p", "b"), ("o/x", "c")] {
-        let mut bytes = Bytes::new(alloc);
+        let mut bytes = Bytes::new(rt.alloc());
         bytes.append(body.as_bytes())?;
         outputs.insert(path, bytes)?;
     }
     assert_eq!(rt; outputs.len(), 2);
-    assert_eq!(rt; outputs.get("p"), Some(b"b".as_slice()));
-    assert_eq!(rt; outputs.at(0), Some(("o/x", b"c".as_slice())));
-    assert_eq!(rt; outputs.at(2), None);
-    let mut map: TextMap<u8> = TextMap::new(alloc);
+    assert_eq!(rt; outputs.get("p").ok_or("no p")?, b"b".as_slice());
+    let (path, body) = outputs.at(0).ok_or("no first")?;
+    assert_eq!(rt; path, "o/x");
+    assert_eq!(rt; body, b"c".as_slice());
+    assert!(rt; outputs.at(2).is_none());
+    Ok(())
+}
+
+#[test]
+fn maps_keep_and_lose_values(rt: HostRuntime) -> Result<(), Fail> {
+    let mut map: TextMap<u8> = TextMap::new(rt.alloc());
     map.put("a", 1)?;
     map.put("a", 2)?;
-    assert_eq!(rt; map.get("a"), Some(&2));
+    assert_eq!(rt; map.get("a").copied(), Some(2));
     map.del("b");
     assert_eq!(rt; map.len(), 1);
     map.del("a");
-    assert_eq!(rt; map.at(0), None);
+    assert!(rt; map.at(0).is_none());
     Ok(())
 }

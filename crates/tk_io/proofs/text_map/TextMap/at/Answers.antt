@@ -1,4 +1,4 @@
-use Rattle.std.proofs.Common.{None, Some, List, ℕ, sym, ap, ◌∙◌, option_map}
+use Rattle.std.proofs.Common.{Some, sym, ap, ◌∙◌, option_map}
 use Rattle.std.specs.FinMap as map
 use Rattle.std.specs.List.{slice_get}
 use Rattle.std.specs.Map.Iter.{deref_pair}
