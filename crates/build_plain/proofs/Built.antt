@@ -4,8 +4,8 @@ use Rattle.std.proofs.lemmas.Option.{same_Some}
 use Rattle.std.specs.Prelude.{slice_get}
 use Rattle.std.specs.Str.{bytes_eq}
 use Rattle.std.proofs.lemmas.Slice.Eq.{bytes_eq-Decides}
-use Rattle.json_span.specs.declared.reading.JsonFault.{JsonFault}
-use Rattle.json_span.specs.declared.reading.JsonFault.TheVariants as json
+use Rattle.thin_json.specs.declared.reading.JsonFault.{JsonFault}
+use Rattle.thin_json.specs.declared.reading.JsonFault.TheVariants as json
 use Rattle.token_tree.specs.Grammar.{Thin, file_parts}
 use Rattle.build_plain.specs.declared.building.BuildStop.TheVariants.{NotYet}
 use Rattle.build_plain.specs.Causes.{of_json}

@@ -6,9 +6,9 @@ ghost use Rattle.build_plain.specs.Out.{AreThin, out_of};
 
 use crate::files::Files;
 use crate::sheet::css;
-use json_span::{JsonFault, read};
 use std::alloc::Global;
 use std::sync::ledger::Ledger;
+use thin_json::{JsonFault, read};
 use tk_io::{NoMemory, Outputs, Steps};
 use token_tree::{ShapeFault, shape};
 

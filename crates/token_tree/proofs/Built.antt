@@ -2,8 +2,8 @@
 use Rattle.std.proofs.Common.{◌≡◌, ◌<◌, ℕ, ◌+◌, ◌-◌, true, false, eqb, List, [], ◌∷◌, length, codes, Option, Some, None, refl, sym, arith}
 use Rattle.std.proofs.lemmas.Bool.Decides.{nat_tests}
 use Rattle.std.specs.List.{list_all}
-use Rattle.json_span.specs.Tree.{Tree, number, word, object, Members, no_members, member, start_of, end_of}
-use Rattle.json_span.specs.Grammar.{is_number, is_word_byte, IsWord, spelling, quoted, first, Fits, FitAll, IsReading}
+use Rattle.thin_json.specs.Tree.{Tree, number, word, object, Members, no_members, member, start_of, end_of}
+use Rattle.thin_json.specs.Grammar.{is_number, is_word_byte, IsWord, spelling, quoted, first, Fits, FitAll, IsReading}
 use Rattle.token_tree.specs.Grammar.{Token, Thin, is_name_byte, IsName, token_object, group_text, file_text, TokenFits, FileFits}
 use Rattle.token_tree.specs.Reading.{is_name, Placed, Seen, group_in, file_in}
 use Rattle.token_tree.proofs.Found.{both, token_spelled, full_group_spelled, file_spelled}

@@ -5,8 +5,8 @@ use Rattle.std.proofs.lemmas.Option.{none-some, same_Some, cond_some, option_and
 use Rattle.std.proofs.lemmas.Slice.Eq.{bytes_eq-Decides}
 use Rattle.std.specs.List.{list_all}
 use Rattle.std.specs.Str.{bytes_eq}
-use Rattle.json_span.specs.Tree.{Tree, number, word, object, Members, no_members, member, count_members, start_of, end_of}
-use Rattle.json_span.specs.Grammar.{is_number, spelling, quoted, Fits, FitAll}
+use Rattle.thin_json.specs.Tree.{Tree, number, word, object, Members, no_members, member, count_members, start_of, end_of}
+use Rattle.thin_json.specs.Grammar.{is_number, spelling, quoted, Fits, FitAll}
 use Rattle.token_tree.specs.Grammar.{Token, is_name_byte, IsName, token_object, group_text, file_text, TokenFits, FileFits}
 use Rattle.token_tree.specs.Reading.{is_name, Placed, Seen, token_seen, thin_seen, number_in, token_in, named_token, tokens_in, group_in, named_group, file_in}
 

@@ -1,7 +1,7 @@
 -- Thin token files, spelled from their groups and tokens. So far there is at most one group, and in it at most one token.
 use Rattle.std.specs.Prelude.{◌≡◌, ◌<◌, ℕ, ◌+◌, Bool, true, ◌&&◌, ◌||◌, nat_le, List, ◌++◌, length, codes, Option, Some, None}
 use Rattle.std.specs.List.{list_all}
-use Rattle.json_span.specs.Grammar.{is_number}
+use Rattle.thin_json.specs.Grammar.{is_number}
 use Rattle.token_tree.specs.Parts.{DefData, token, group, Parts, no_parts, part}
 
 -- a name and a number

@@ -2,7 +2,7 @@
 use Rattle.std.specs.Prelude.{ℕ, Bool, ◌==◌, ◌&&◌, not, if◌then◌else◌, List, length, codes, Option, Some, None, option_map, option_and_then}
 use Rattle.std.specs.List.{list_all}
 use Rattle.std.specs.Str.{bytes_eq}
-use Rattle.json_span.specs.Tree.{Tree, Members, Named, nth_member, count_members, object_of, word_of, number_of, start_of, end_of}
+use Rattle.thin_json.specs.Tree.{Tree, Members, Named, nth_member, count_members, object_of, word_of, number_of, start_of, end_of}
 use Rattle.token_tree.specs.Grammar.{is_name_byte, Token, Thin}
 use Rattle.token_tree.specs.Parts.{DefData, token, group, Parts, no_parts, part}
 

@@ -1,18 +1,18 @@
 // Reading the shape of a file.
 ghost use Rattle.std.specs.Prelude.{◌≡◌, Some, None, Err, IfOk, option_map};
-ghost use Rattle.json_span.specs.View.{node_view, named};
+ghost use Rattle.thin_json.specs.View.{node_view, named};
 ghost use Rattle.std.specs.List.{list_all};
-ghost use Rattle.json_span.specs.View.{fields_of};
-ghost use Rattle.json_span.specs.Grammar.{IsReading};
+ghost use Rattle.thin_json.specs.View.{fields_of};
+ghost use Rattle.thin_json.specs.Grammar.{IsReading};
 ghost use Rattle.token_tree.specs.Grammar.{is_name_byte, Thin, IsThin, file_parts};
 ghost use Rattle.token_tree.specs.View.{group_view, members_view};
 ghost use Rattle.token_tree.specs.Reading.{is_name, number_in, token_in, tokens_in, group_in, file_in, placed_parts, seen_parts};
 ghost use Rattle.token_tree.specs.declared.shaping.ShapeFault.TheVariants.{NoMemory as OutOfMemory};
 
 use crate::tree::{Child, Group, Members, TokenDef};
-use json_span::{Fields, Node, one_reading};
 use std::alloc::{AllocFailed, Global};
 use std::rc::Rc;
+use thin_json::{Fields, Node, one_reading};
 use tk_io::{NoMemory, Text};
 
 /// Why a file has no shape: it is no thin file, or memory ran out.

@@ -1,7 +1,7 @@
 use Rattle.std.proofs.Common.{◌≡◌, sym, ap, ◌∙◌}
 use Rattle.std.proofs.lemmas.Result.{IfOk-weaker}
 use Rattle.std.proofs.lemmas.Option.{none-some}
-use Rattle.json_span.specs.View.{node_view}
+use Rattle.thin_json.specs.View.{node_view}
 use Rattle.token_tree.specs.Reading.{file_in, seen_parts, thin_seen}
 use Rattle.token_tree.specs.View.{group_view}
 use Rattle.token_tree.proofs.Found.{file_in-ok, option_map_some}
