@@ -1,8 +1,12 @@
 -- Pieces written one after another.
-use Rattle.std.proofs.Common.{◌≡◌, ℕ, List, ◌++◌, Option, Result, Ok, Err, OnErr, ap, ◌∙◌, append_assoc}
+use Rattle.std.proofs.Common.{◌≡◌, ℕ, zero, suc, List, [], ◌∷◌, ◌++◌, map, Option, Some, Result, Ok, Err, OnErr, refl, ap, subst, ◌∙◌, append_assoc}
+use Rattle.std.proofs.lemmas.Option.{none-some, same_Some}
 use Rattle.std.specs.Io.KnownBytes.{Appends}
+use Rattle.std.specs.List.{slice_get}
 use Rattle.std.proofs.KnownBytes.{Appends-trans}
 use Rattle.tk_io.specs.Writing.{AppendsFront}
+use Rattle.edit_script.specs.Delta.{ChangeData}
+use Rattle.edit_script.specs.Shown.{Lined, with_line}
 
 pub on_err : {T E P : Type 0} (r : Result T E) → P → OnErr r P
 on_err (Ok x) p = tt
@@ -30,3 +34,9 @@ front_after a b c all done piece rest p q e =
       e ∙ (ap (λ l. done ++ (l ++ rest)) split ∙ regroup done front back rest),
       Appends-trans a b c done front p appended,
     )
+
+-- a change in a list of changes with their lines carries its line
+pub line_carried : (cs : List ChangeData) (i : ℕ) (change : Lined) → slice_get (map with_line cs) i ≡ Some change → change ≡ with_line change.0
+line_carried [] i change e = absurd (none-some change e)
+line_carried (x ∷ cs) zero change e = subst (λ z. z ≡ with_line z.0) (same_Some (with_line x) change e) refl
+line_carried (x ∷ cs) (suc i) change e = line_carried cs i change e

@@ -1,12 +1,13 @@
 // Laws of the definitions, for the crates above: functions that do nothing and are called for what they ensure.
-ghost use Rattle.std.specs.Prelude.{◌≡◌, ℕ, suc, ◌+◌, ◌≤◌, List, [], ◌∷◌, ◌++◌, length, take};
+ghost use Rattle.std.specs.Prelude.{◌≡◌, ℕ, suc, ◌+◌, ◌≤◌, List, [], ◌∷◌, ◌++◌, length, take, Some, map as map_list};
 ghost use Rattle.std.specs.FinMap as map;
-ghost use Rattle.std.specs.List.{concat, flat_map};
+ghost use Rattle.std.specs.List.{concat, flat_map, slice_get};
 ghost use Rattle.std.specs.Str.{IsUtf8};
 ghost use Rattle.edit_script.specs.Delta.{Held, ChangeData, Delta, IsDelta, AreDeltas, applied, replayed, held_at};
 ghost use Rattle.edit_script.specs.Files.{FilesData, AreFilesAfter, AreFilesAt, up_to, commit_count, whole};
 ghost use Rattle.edit_script.specs.Script.{EventData, put, del, commit, IsScript, IsScriptStop};
 ghost use Rattle.edit_script.specs.declared.line.Line.TheVariants.{StreamHead, Commit as CommitLine, Done};
+ghost use Rattle.edit_script.specs.Shown.{Lined, with_line};
 ghost use Rattle.edit_script.specs.Stream.{commits_text, line_text, pieces_of, record_of, stream_of, stream_pieces};
 
 /// A script has at most one reading.
@@ -66,6 +67,11 @@ pub fn delta_applies()
 /// The first k deltas make the k-th outputs of what was held before the first of them.
 pub fn deltas_apply()
     ensures { (before : Held) → (held : List Held) → (ds : List Delta) → (k : ℕ) → AreDeltas before held ds → k ≤ length held → replayed (take k ds) before ≡ held_at before held k }
+{}
+
+/// Each change that `delta` lists carries its record's first line.
+pub fn carried_lines()
+    ensures { (cs : List ChangeData) → (i : ℕ) → (change : Lined) → slice_get (map_list with_line cs) i ≡ Some change → change ≡ with_line change.0 }
 {}
 
 /// One more delta.

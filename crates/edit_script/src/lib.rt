@@ -17,9 +17,9 @@ mod tests;
 pub use change::{Change, Changes};
 pub use event::{Event, Events};
 pub use laws::{
-    counted_commits, delta_applies, deltas_apply, one_delta, one_map, one_more_delta,
-    one_more_event, one_reading, one_stop, pieces_are_whole, script_is_text, stream_parts,
-    up_to_commit, whole_events,
+    carried_lines, counted_commits, delta_applies, deltas_apply, one_delta, one_map,
+    one_more_delta, one_more_event, one_reading, one_stop, pieces_are_whole, script_is_text,
+    stream_parts, up_to_commit, whole_events,
 };
 pub use line::{Line, write_line};
 pub use merging::delta;

@@ -1,4 +1,5 @@
 // Scripts with what is read of them, and changes with the records that are written.
+use crate::record_line::{file_line, gone_line};
 use crate::{
     Change, Changes, Event, Events, Line, ScriptStop, delta, read_script, write_change, write_line,
 };
@@ -141,13 +142,18 @@ fn check_records(
     let old_outputs = outputs_of(alloc, old)?;
     let new_outputs = outputs_of(alloc, new)?;
     let changes = delta(alloc, &old_outputs, &new_outputs)?;
-    let mut room = [0u8; 200];
-    let mut out = MemSink::new(&[], 7, &mut room);
+    let mut records = Bytes::new(alloc);
     for i in 0..changes.len() {
-        let change = changes.at(i).ok_or("no such change")?;
-        assert!(rt; write_change(&mut out, change).is_ok());
+        match changes.at(i).ok_or("no such change")? {
+            Change::Gone(_, line) => records.append(line.as_slice())?,
+            Change::Written(_, bytes, line) => {
+                records.append(line.as_slice())?;
+                records.append(bytes)?;
+                records.append(b"\n")?;
+            }
+        }
     }
-    assert_eq!(rt; out.written(), expected);
+    assert_eq!(rt; records.as_slice(), expected);
     Ok(())
 }
 
@@ -176,20 +182,21 @@ fn tells_changes_by_records(rt: HostRuntime) -> Result<(), Fail> {
 }
 
 #[test]
-fn writes_the_lines_of_a_stream(rt: HostRuntime) {
+fn writes_lines_and_records(rt: HostRuntime) -> Result<(), Fail> {
     let mut room = [0u8; 100];
-    let mut out = MemSink::new(&[], 100, &mut room);
-    for line in [
-        Line::StreamHead,
-        Line::Commit(1),
-        Line::Done(18446744073709551615),
-    ] {
-        assert!(rt; write_line(&mut out, &line).is_ok());
-    }
+    let mut out = MemSink::new(&[], 7, &mut room);
+    assert!(rt; write_line(&mut out, &Line::StreamHead).is_ok());
+    assert!(rt; write_line(&mut out, &Line::Commit(1)).is_ok());
+    let gone = Change::Gone("a.css", gone_line(rt.alloc(), "a.css")?);
+    assert!(rt; write_change(&mut out, &gone).is_ok());
+    let written = Change::Written("b", b"xy", file_line(rt.alloc(), "b", b"xy")?);
+    assert!(rt; write_change(&mut out, &written).is_ok());
+    assert!(rt; write_line(&mut out, &Line::Done(18446744073709551615)).is_ok());
     assert_eq!(rt;
         out.written(),
-        b"tokc-stream 1\ncommit 1\ndone 18446744073709551615\n".as_slice()
+        b"tokc-stream 1\ncommit 1\ngone a.css\nfile b 2\nxy\ndone 18446744073709551615\n".as_slice()
     );
+    Ok(())
 }
 
 #[test]
