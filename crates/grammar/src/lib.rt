@@ -1,0 +1,22 @@
+//! Grammars over bytes: what their rules derive, the fronts of what they derive, and reading with one byte ahead.
+//!
+//! The crate has no code. A grammar is data of `specs/Grammar`, over a type that names its rules,
+//! and each law below is a function with an empty body that holds for every such type.
+#![tactic(auto)]
+
+ghost use Rattle.grammar.specs.Laws.{FrontsArePrefixes, SteeredReadsOnce, StopsAreExact};
+
+/// A text is a front of what a rule derives exactly where some text goes on from it to a derived one.
+pub fn fronts_are_prefixes<Name>()
+    ensures { FrontsArePrefixes Name }
+{}
+
+/// A rule that one byte ahead steers reads a text in one way.
+pub fn steered_reads_once<Name>()
+    ensures { SteeredReadsOnce Name }
+{}
+
+/// Where the steered reading stops, no text of the rule is read, and the longest front ends.
+pub fn stops_are_exact<Name>()
+    ensures { StopsAreExact Name }
+{}
