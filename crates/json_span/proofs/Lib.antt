@@ -1,0 +1,5 @@
+pub mod Steered
+pub mod Scans
+pub mod Classes
+pub mod Runs
+pub mod CharacterScans

@@ -1,0 +1,32 @@
+-- The grammar is steered by the next byte, and each of its rules derives some text.
+use Rattle.std.proofs.Common.{◌≡◌, ℕ, List, [], ◌∷◌, refl, true}
+use Rattle.grammar.specs.Grammar.{Derives, EachPasses, no_byte, one_byte, both, left, right, no_more, by_name, named}
+use Rattle.grammar.specs.Predict.{IsHonest, IsSteered}
+use Rattle.grammar.specs.Ranges.{is_honest_at}
+use Rattle.grammar.proofs.Tables.{honest, steered_from, passes_from}
+use Rattle.json_span.specs.Grammar.{Name, value, number, string}
+use Rattle.json_span.specs.Steered.{rules, table, ahead, json}
+
+tests : (n : Name) → is_honest_at rules table n ≡ true
+tests value = refl
+tests number = refl
+tests string = refl
+
+pub honest_json : IsHonest rules ahead
+honest_json = honest table rules tests
+
+pub steered_json : IsSteered ahead json
+steered_json = steered_from table json refl
+
+zero_text : Derives rules (named number) (48 ∷ [])
+zero_text = by_name (both (right no_byte) (both (left (one_byte refl)) (both (right no_byte) (right no_byte))))
+
+pub spelled : (n : Name) → (w : List ℕ) × Derives rules (named n) w
+spelled value = (48 ∷ [], by_name (right (right (right (right (right (left zero_text)))))))
+spelled number = (48 ∷ [], zero_text)
+spelled string = (34 ∷ 34 ∷ [], by_name (both (one_byte refl) (both no_more (one_byte refl))))
+
+pub passes : (n : Name) → EachPasses (rules n)
+passes value = passes_from (rules value) refl
+passes number = passes_from (rules number) refl
+passes string = passes_from (rules string) refl

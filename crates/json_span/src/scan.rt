@@ -1,0 +1,108 @@
+//! The ends of blanks, numbers and words.
+
+ghost use Rattle.std.specs.Prelude.{◌≡◌, ◌≤◌, length};
+ghost use Rattle.grammar.specs.Grammar.{many, named};
+ghost use Rattle.json_span.specs.Grammar.{ws, digit, digits, int, frac, exp, optional, one, either, number};
+ghost use Rattle.json_span.specs.Scan.{Reaches, Scans};
+
+use crate::bytes::{Class, has};
+use lane_scan::skip_blank;
+
+/// The end of the blanks.
+pub(crate) fn blanks_end(text: &[u8], at: usize) -> usize
+    requires { at ≤ length text.now }
+    ensures { Reaches ws text.now at result }
+{
+    skip_blank(text, at)
+}
+
+/// The end of a number (RFC 8259 section 6).
+pub(crate) fn number_end(text: &[u8], at: usize) -> Result<usize, usize>
+    requires { at ≤ length text.now }
+    ensures { Scans (named number) text.now at result }
+{
+    let whole = minus_end(text, at);
+    let fraction = whole_end(text, whole)?;
+    let exponent = fraction_end(text, fraction)?;
+    exponent_end(text, exponent)
+}
+
+fn minus_end(text: &[u8], at: usize) -> usize
+    requires { at ≤ length text.now }
+    ensures { Reaches (optional (one 45)) text.now at result }
+{
+    if has(text, at, Class::One(b'-')) {
+        at + 1
+    } else {
+        at
+    }
+}
+
+// 0, or digits without a zero in front.
+fn whole_end(text: &[u8], at: usize) -> Result<usize, usize>
+    requires { at ≤ length text.now }
+    ensures { Scans int text.now at result }
+{
+    if has(text, at, Class::One(b'0')) {
+        Ok(at + 1)
+    } else if has(text, at, Class::FirstDigit) {
+        Ok(digits_end(text, at + 1))
+    } else {
+        Err(at)
+    }
+}
+
+fn fraction_end(text: &[u8], at: usize) -> Result<usize, usize>
+    requires { at ≤ length text.now }
+    ensures { Scans (optional frac) text.now at result }
+{
+    if has(text, at, Class::One(b'.')) {
+        some_digits_end(text, at + 1)
+    } else {
+        Ok(at)
+    }
+}
+
+fn exponent_end(text: &[u8], at: usize) -> Result<usize, usize>
+    requires { at ≤ length text.now }
+    ensures { Scans (optional exp) text.now at result }
+{
+    if has(text, at, Class::Exponent) {
+        some_digits_end(text, sign_end(text, at + 1))
+    } else {
+        Ok(at)
+    }
+}
+
+fn sign_end(text: &[u8], at: usize) -> usize
+    requires { at ≤ length text.now }
+    ensures { Reaches (optional (either 43 45)) text.now at result }
+{
+    if has(text, at, Class::Sign) {
+        at + 1
+    } else {
+        at
+    }
+}
+
+fn some_digits_end(text: &[u8], at: usize) -> Result<usize, usize>
+    requires { at ≤ length text.now }
+    ensures { Scans digits text.now at result }
+{
+    if has(text, at, Class::Digit) {
+        Ok(digits_end(text, at + 1))
+    } else {
+        Err(at)
+    }
+}
+
+fn digits_end(text: &[u8], at: usize) -> usize
+    requires { at ≤ length text.now }
+    ensures { Reaches (many digit) text.now at result }
+{
+    let mut end = at;
+    while has(text, end, Class::Digit) {
+        end += 1;
+    }
+    end
+}
