@@ -3,3 +3,5 @@ pub mod Scans
 pub mod Classes
 pub mod Runs
 pub mod CharacterScans
+pub mod KindFacts
+pub mod Skips

@@ -112,3 +112,19 @@ or_none false b e = e
 pub padded : (p : ℕ → Bool) (t : List ℕ) (b : Bool) → begins p t ≡ b → begins (λ c. p c || false) t ≡ b
 padded p [] b e = e
 padded p (c ∷ t) b e = or_none (p c) b e
+
+or_left : (a b : Bool) → (a || b) ≡ false → a ≡ false
+or_left true b e = e
+or_left false b e = refl
+
+or_right : (a b : Bool) → (a || b) ≡ false → b ≡ false
+or_right true b e = cc
+or_right false b e = e
+
+pub miss_left : (p q : ℕ → Bool) (t : List ℕ) → begins (λ c. p c || q c) t ≡ false → begins p t ≡ false
+miss_left p q [] h = refl
+miss_left p q (c ∷ t) h = or_left (p c) (q c) h
+
+pub miss_right : (p q : ℕ → Bool) (t : List ℕ) → begins (λ c. p c || q c) t ≡ false → begins q t ≡ false
+miss_right p q [] h = refl
+miss_right p q (c ∷ t) h = or_right (p c) (q c) h

@@ -2,5 +2,8 @@
 #![tactic(auto)]
 
 mod bytes;
+mod kind;
 mod scan;
+mod skip;
+mod stop;
 mod string;

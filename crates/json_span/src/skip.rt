@@ -1,0 +1,219 @@
+//! Reading the syntax alone, with a list of open brackets: one byte for each, so depth has no bound.
+
+ghost use Rattle.std.specs.Prelude.{◌≡◌, ◌≤◌, ◌<◌, ◌++◌, [], ◌∷◌, length, drop, IfOk, IfErr, true, false};
+ghost use Rattle.grammar.specs.Grammar.{named, seq};
+ghost use Rattle.grammar.specs.Predict.{begins, first};
+ghost use Rattle.json_span.specs.Grammar.{value, ws, one};
+ghost use Rattle.json_span.specs.Steered.{ahead, token, before_of, more_of, close_of, list_of};
+ghost use Rattle.json_span.specs.Scan.{Reaches, Scans, rule_of};
+ghost use Rattle.json_span.specs.Kinds.{bracket_of, rule_of_scalar};
+ghost use Rattle.json_span.specs.Skipping.{left_of, Leads, StopsAt};
+
+use crate::bytes::{Class, has, row_end};
+use crate::kind::{Bracket, Kind, Scalar, kind_at};
+use crate::scan::{blanks_end, number_end};
+use crate::stop::Stop;
+use crate::string::string_end;
+use std::alloc::Global;
+
+/// Where reading goes on, and whether a value is to come there.
+#[derive(Clone, Copy, Debug)]
+struct Place {
+    at: usize,
+    wants: bool,
+}
+
+impl Bracket {
+    /// The byte that closes the list.
+    pub(crate) fn close(self) -> Class
+        ensures { rule_of result ≡ one (close_of (bracket_of self)) }
+    {
+        match self {
+            Bracket::Square => Class::One(b']'),
+            Bracket::Curly => Class::One(b'}'),
+        }
+    }
+}
+
+/// The end of what stands before a value of a list: in an object a name, a colon and blanks.
+pub(crate) fn before_end(text: &[u8], at: usize, bracket: Bracket) -> Result<usize, usize>
+    requires { at ≤ length text.now }
+    ensures { Scans (before_of (bracket_of bracket)) text.now at result }
+{
+    match bracket {
+        Bracket::Square => Ok(at),
+        Bracket::Curly => {
+            let name = string_end(text, at)?;
+            colon_end(text, name)
+        }
+    }
+}
+
+/// The end of the colon behind a name, and of the blanks around it.
+pub(crate) fn colon_end(text: &[u8], at: usize) -> Result<usize, usize>
+    requires { at ≤ length text.now }
+    ensures { Scans (seq ws (token 58)) text.now at result }
+{
+    let colon = blanks_end(text, at);
+    let end = row_end(text, colon, &[Class::One(b':')])?;
+    Ok(blanks_end(text, end))
+}
+
+/// The end of a value that holds no others.
+pub(crate) fn scalar_end(text: &[u8], at: usize, scalar: Scalar) -> Result<usize, usize>
+    requires { at ≤ length text.now }
+    ensures { Scans (rule_of_scalar scalar) text.now at result }
+{
+    match scalar {
+        Scalar::False => row_end(text, at, &[
+            Class::One(b'f'),
+            Class::One(b'a'),
+            Class::One(b'l'),
+            Class::One(b's'),
+            Class::One(b'e'),
+        ]),
+        Scalar::Null => row_end(text, at, &[
+            Class::One(b'n'),
+            Class::One(b'u'),
+            Class::One(b'l'),
+            Class::One(b'l'),
+        ]),
+        Scalar::True => row_end(text, at, &[
+            Class::One(b't'),
+            Class::One(b'r'),
+            Class::One(b'u'),
+            Class::One(b'e'),
+        ]),
+        Scalar::Number => number_end(text, at),
+        Scalar::String => string_end(text, at),
+    }
+}
+
+// Reads on where a value is to come.
+fn begin(text: &[u8], at: usize, brackets: &mut Vec<Bracket>) -> Result<Place, Stop>
+    requires { at ≤ length text.now }
+    ensures leads { IfOk result (λ p. Leads text.now (left_of true brackets.old.items) at (left_of p.wants brackets.new.items) p.at) }
+    ensures forward { IfOk result (λ p. at < p.at) }
+    ensures within { IfOk result (λ p. p.at ≤ length text.now) }
+    ensures stop { IfErr result (λ e. StopsAt (left_of true brackets.old.items) text.now at e) }
+{
+    match kind_at(text, at) {
+        Some(Kind::Scalar(scalar)) => {
+            let end = scalar_end(text, at, scalar)?;
+            Ok(Place { at: end, wants: false })
+        }
+        Some(Kind::List(bracket)) => open(text, at, bracket, brackets),
+        None => Err(Stop::Syntax(at)),
+    }
+}
+
+// Reads on where a list begins.
+fn open(
+    text: &[u8],
+    at: usize,
+    bracket: Bracket,
+    brackets: &mut Vec<Bracket>,
+) -> Result<Place, Stop>
+    requires within { at < length text.now }
+    requires opens { begins (first ahead (list_of (bracket_of bracket))) (drop at text.now) ≡ true }
+    ensures leads { IfOk result (λ p. Leads text.now (left_of true brackets.old.items) at (left_of p.wants brackets.new.items) p.at) }
+    ensures forward { IfOk result (λ p. at < p.at) }
+    ensures within { IfOk result (λ p. p.at ≤ length text.now) }
+    ensures stop { IfErr result (λ e. StopsAt (left_of true brackets.old.items) text.now at e) }
+{
+    let inner = blanks_end(text, at + 1);
+    if has(text, inner, bracket.close()) {
+        return Ok(Place {
+            at: inner + 1,
+            wants: false,
+        });
+    }
+    let next = before_end(text, inner, bracket)?;
+    brackets.push(bracket)?;
+    Ok(Place {
+        at: next,
+        wants: true,
+    })
+}
+
+// Reads on behind a value of a list, whose bracket was taken off the open ones.
+fn go_on(
+    text: &[u8],
+    at: usize,
+    bracket: Bracket,
+    brackets: &mut Vec<Bracket>,
+) -> Result<Place, Stop>
+    requires { at ≤ length text.now }
+    ensures leads { IfOk result (λ p. Leads text.now (left_of false (brackets.old.items ++ bracket ∷ [])) at (left_of p.wants brackets.new.items) p.at) }
+    ensures forward { IfOk result (λ p. at < p.at) }
+    ensures within { IfOk result (λ p. p.at ≤ length text.now) }
+    ensures stop { IfErr result (λ e. StopsAt (left_of false (brackets.old.items ++ bracket ∷ [])) text.now at e) }
+{
+    let behind = blanks_end(text, at);
+    if !has(text, behind, Class::One(b',')) {
+        let end = row_end(text, behind, &[bracket.close()])?;
+        return Ok(Place {
+            at: end,
+            wants: false,
+        });
+    }
+    let item = blanks_end(text, behind + 1);
+    let next = before_end(text, item, bracket)?;
+    brackets.push(bracket)?;
+    Ok(Place {
+        at: next,
+        wants: true,
+    })
+}
+
+// Reads on to where the last of the open brackets is closed.
+fn skip(
+    text: &[u8],
+    from: usize,
+    wants_first: bool,
+    mut brackets: Vec<Bracket>,
+) -> Result<usize, Stop>
+    requires { from ≤ length text.now }
+    ensures end { IfOk result (λ e. Reaches (left_of wants_first brackets.items) text.now from e) }
+    ensures stop { IfErr result (λ e. StopsAt (left_of wants_first brackets.items) text.now from e) }
+{
+    let mut at = from;
+    let mut wants = wants_first;
+    loop {
+        let place = if wants {
+            begin(text, at, &mut brackets)?
+        } else {
+            match brackets.pop() {
+                None => return Ok(at),
+                Some(bracket) => go_on(text, at, bracket, &mut brackets)?,
+            }
+        };
+        at = place.at;
+        wants = place.wants;
+    }
+}
+
+/// The end of a value.
+pub(crate) fn value_end(alloc: Global, text: &[u8], at: usize) -> Result<usize, Stop>
+    requires { at ≤ length text.now }
+    ensures end { IfOk result (λ e. Reaches (named value) text.now at e) }
+    ensures stop { IfErr result (λ e. StopsAt (named value) text.now at e) }
+{
+    skip(text, at, true, Vec::new(alloc))
+}
+
+/// The end of the list whose bracket is open, behind one of its values.
+pub(crate) fn list_end(
+    alloc: Global,
+    text: &[u8],
+    at: usize,
+    bracket: Bracket,
+) -> Result<usize, Stop>
+    requires { at ≤ length text.now }
+    ensures end { IfOk result (λ e. Reaches (seq ws (more_of (bracket_of bracket))) text.now at e) }
+    ensures stop { IfErr result (λ e. StopsAt (seq ws (more_of (bracket_of bracket))) text.now at e) }
+{
+    let mut brackets = Vec::new(alloc);
+    brackets.push(bracket)?;
+    skip(text, at, false, brackets)
+}
