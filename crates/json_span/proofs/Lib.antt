@@ -5,3 +5,4 @@ pub mod Runs
 pub mod CharacterScans
 pub mod KindFacts
 pub mod Skips
+pub mod Views

@@ -7,3 +7,6 @@ mod scan;
 mod skip;
 mod stop;
 mod string;
+mod tree;
+
+pub use tree::{Field, Fields, Items, Json, Node};
