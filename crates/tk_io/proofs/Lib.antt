@@ -1,0 +1,2 @@
+pub mod MapViews
+pub mod TextMaps

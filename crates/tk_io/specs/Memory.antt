@@ -1,0 +1,26 @@
+-- What the source and the sink in memory are seen as, and how their calls are numbered.
+use Rattle.std.specs.Prelude.{◌≡◌, ◌<◌, ◌⊎◌, ℕ, ◌+◌, ◌-◌, ◌^◌, List, Contains, min}
+
+-- a source: what it has left, which calls fail, and how many calls and faults there were
+pub record Feed : Type 0 where
+  pub left : List ℕ
+  pub fails : List ℕ
+  pub calls : ℕ
+  pub faults : ℕ
+
+-- a sink: what was written, how many bytes fit in all and how many in a call, which calls fail, and how many there were
+pub record Tray : Type 0 where
+  pub written : List ℕ
+  pub room : ℕ
+  pub most : ℕ
+  pub fails : List ℕ
+  pub calls : ℕ
+  pub faults : ℕ
+
+-- the number of the next call, which stands still at the last one of its type
+abbrev pub following : ℕ → ℕ
+following calls = min (calls + 1) (2 ^ 64 - 1)
+
+-- a write fails where its number is listed, or where the piece is not empty and nothing is free
+abbrev pub MustFail : List ℕ → ℕ → ℕ → ℕ → Type 0
+MustFail fails number piece free = Contains fails number ⊎ ((0 < piece) × (free ≡ 0))

@@ -1,0 +1,6 @@
+-- The entries of a map by what its keys and its values are seen as.
+use Rattle.std.specs.Prelude.{List, map}
+
+-- each entry, with its key by one function and its value by another
+abbrev pub shown_by : {K L X Y : Type 0} → (K → L) → (X → Y) → List (K × X) → List (L × Y)
+shown_by key value entries = map (λ e. (key e.0, value e.1)) entries

@@ -1,0 +1,31 @@
+//! What every crate of tokc stands on: sources and sinks that count their faults, texts and bytes, lists and maps that
+//! contracts see as lists and finite maps, and counted steps.
+#![tactic(auto)]
+
+mod bytes;
+mod clean;
+mod faults;
+mod memory;
+mod outputs;
+mod sequence;
+mod sink;
+mod source;
+mod steps;
+mod streams;
+#[cfg(test)]
+mod tests;
+mod text;
+mod text_map;
+
+pub use bytes::Bytes;
+pub use clean::{CleanSource, NullSink};
+pub use faults::{Failed, NoMemory};
+pub use memory::{MemSink, MemSource};
+pub use outputs::Outputs;
+pub use sequence::Sequence;
+pub use sink::{Sink, write_all};
+pub use source::{ReadStop, Source, read_all};
+pub use steps::Steps;
+pub use streams::{StdSink, StdSource};
+pub use text::Text;
+pub use text_map::TextMap;

@@ -1,0 +1,145 @@
+// A text that is a slice of a source, or shared.
+ghost use Rattle.std.specs.Prelude.{◌≡◌, [], Some, IfOk, refl};
+ghost use Rattle.std.specs.Cmp as Cmp;
+ghost use Rattle.std.specs.Cmp.Lexicographic.{nat_list_eq_equiv, nat_list_cmp_total, texts_po, texts_ties};
+ghost use Rattle.std.specs.Cmp.Rules.{comparing, hashing};
+ghost use Rattle.std.specs.Hash as fed;
+ghost use Rattle.std.specs.Str.{bytes_eq};
+ghost use Rattle.std.proofs.Common.{rules};
+ghost use Rattle.tk_io.specs.Order.{text_cmp};
+
+use crate::NoMemory;
+use std::alloc::Global;
+use std::cmp::Ordering;
+use std::hash::{Hash, Hasher};
+use std::marker::Model;
+use std::rc::RcStr;
+
+/// A text, seen as the bytes of its UTF-8. It borrows from a source, or shares an owned text where the source spells
+/// it by escapes.
+#[derive(Drop)]
+pub struct Text<'s> {
+    kept: Kept<'s>,
+}
+
+#[derive(Drop)]
+enum Kept<'s> {
+    Slice(&'s str),
+    Shared(RcStr),
+}
+
+impl<'s> Model for Text<'s> {
+    ghost use Rattle.std.specs.Prelude.{List, ℕ};
+    ghost use Rattle.tk_io.specs.Text.{text_bytes};
+
+    ghost Value = { List ℕ };
+
+    ghost view = { λ t. text_bytes t.kept };
+}
+
+impl<'s> Text<'s> {
+    /// The slice itself.
+    pub fn of(text: &'s str) -> Text<'s>
+        ensures { result ≡ text.entry.now }
+    {
+        Text {
+            kept: Kept::Slice(text),
+        }
+    }
+
+    /// A shared text of these characters.
+    pub fn owned(alloc: Global, text: &str) -> Result<Text<'s>, NoMemory>
+        ensures { IfOk result (λ t. t ≡ text.now) }
+    {
+        let shared = RcStr::from_str(alloc, text)?;
+        Ok(Text {
+            kept: Kept::Shared(shared),
+        })
+    }
+
+    /// The characters.
+    pub fn as_str(&self) -> &str
+        ensures { result.now ≡ self.now }
+    {
+        match &self.kept {
+            Kept::Slice(text) => text,
+            Kept::Shared(text) => text.as_str(),
+        }
+    }
+
+    /// A text of the same characters, which shares them.
+    pub fn copy(&self) -> Result<Text<'s>, NoMemory>
+        ensures { IfOk result (λ t. t ≡ self.now) }
+    {
+        match &self.kept {
+            Kept::Slice(text) => Ok(Text {
+                kept: Kept::Slice(text),
+            }),
+            Kept::Shared(text) => {
+                let shared = text.clone()?;
+                Ok(Text {
+                    kept: Kept::Shared(shared),
+                })
+            }
+        }
+    }
+}
+
+/// Texts are equal where their bytes are.
+impl<'s> PartialEq for Text<'s> {
+    ghost eq = { λ x y. bytes_eq x y };
+
+    ghost laws = { Cmp.partial_equiv_from_equiv nat_list_eq_equiv };
+
+    fn eq(&self, other: &Self) -> bool {
+        self.as_str() == other.as_str()
+    }
+}
+
+impl<'s> Eq for Text<'s> {
+    ghost laws = { nat_list_eq_equiv };
+}
+
+/// Texts are ordered by their bytes.
+impl<'s> PartialOrd for Text<'s> {
+    ghost partial_cmp = { λ x y. Some (text_cmp x y) };
+
+    ghost laws = { texts_po };
+
+    fn partial_cmp(&self, other: &Self) -> Option<Ordering> {
+        Some(self.cmp(other))
+    }
+}
+
+impl<'s> Ord for Text<'s> {
+    ghost cmp = { λ x y. text_cmp x y };
+
+    ghost total = { nat_list_cmp_total };
+
+    ghost matches_partial_cmp = { λ x y. refl };
+
+    ghost matches_eq = { λ x y. texts_ties x y };
+
+    fn cmp(&self, other: &Self) -> Ordering {
+        self.as_str().cmp(other.as_str())
+    }
+}
+
+/// The empty text.
+impl<'s> Default for Text<'s> {
+    ghost is_default = { λ t. t ≡ [] };
+
+    fn default() -> Text<'s> {
+        Text::of("")
+    }
+}
+
+impl<'s> Hash for Text<'s> {
+    ghost hash_input = { λ s. fed.str s };
+
+    ghost respects_eq = { Prim.search (hashing, rules) };
+
+    fn hash<H: Hasher>(&self, state: &mut H) {
+        self.as_str().hash(state);
+    }
+}
