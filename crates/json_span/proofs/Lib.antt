@@ -6,3 +6,9 @@ pub mod CharacterScans
 pub mod KindFacts
 pub mod Skips
 pub mod Views
+pub mod EscapeFacts
+pub mod Shorts
+pub mod Contents
+pub mod SameContents
+pub mod Boundaries
+pub mod Strings

@@ -2,11 +2,13 @@
 #![tactic(auto)]
 
 mod bytes;
+mod escape;
 mod kind;
 mod scan;
 mod skip;
 mod stop;
 mod string;
+mod text;
 mod tree;
 
 pub use tree::{Field, Fields, Items, Json, Node};

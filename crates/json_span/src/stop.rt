@@ -1,6 +1,7 @@
 //! Why a scan that allocates stops.
 
 use std::alloc::AllocFailed;
+use tk_io::NoMemory;
 
 /// Why a scan did not come to its end.
 #[derive(Clone, Copy, Debug)]
@@ -29,5 +30,16 @@ impl From<usize> for Stop {
 
     fn from(at: usize) -> Stop {
         Stop::Syntax(at)
+    }
+}
+
+impl From<NoMemory> for Stop {
+    ghost use Rattle.std.specs.Prelude.{◌≡◌};
+    ghost use Rattle.json_span.specs.declared.stop.Stop.TheVariants.{NoMemory as OutOfMemory};
+
+    ghost from_gives = { λ _ e. e ≡ OutOfMemory };
+
+    fn from(_: NoMemory) -> Stop {
+        Stop::NoMemory
     }
 }

@@ -17,8 +17,8 @@ pub(crate) fn string_end(text: &[u8], at: usize) -> Result<usize, usize>
     characters_end(text, inner)
 }
 
-// The characters of a string, and its closing quote.
-fn characters_end(text: &[u8], at: usize) -> Result<usize, usize>
+/// The end of the characters of a string and of its closing quote.
+pub(crate) fn characters_end(text: &[u8], at: usize) -> Result<usize, usize>
     requires { at ≤ length text.now }
     ensures { Scans (seq (many char) (one 34)) text.now at result }
 {
