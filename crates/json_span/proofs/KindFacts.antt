@@ -12,6 +12,9 @@ use Rattle.json_span.specs.declared.kind.Bracket.TheVariants.{Square, Curly}
 use Rattle.json_span.specs.declared.kind.Scalar.TheVariants.{False, Null, True, Number, String}
 use Rattle.json_span.specs.declared.kind.Kind.{Kind}
 use Rattle.json_span.specs.declared.kind.Kind.TheVariants.{Scalar, List as Listed}
+use Rattle.json_span.specs.Skipping.{StopsAt}
+use Rattle.json_span.specs.declared.stop.Stop.{Stop}
+use Rattle.json_span.specs.declared.stop.Stop.TheVariants.{Syntax, NoMemory}
 use Rattle.json_span.proofs.Scans as scan
 
 -- a steered reading to its end, or to where it gets stuck
@@ -92,3 +95,7 @@ module _ (text : List ℕ) (at : ℕ) where
   -- nothing begins there
   pub no_value : at ≤ length text → scan.Sees text (first ahead (rules value)) at false → Halts (named value) text at at
   no_value h e = record { within_text = h; stuck = at_named (at_neither (scan.miss_left (first ahead false_word) (first ahead behind_false) (drop at text) e) (scan.miss_right (first ahead false_word) (first ahead behind_false) (drop at text) e) refl refl) }
+
+  pub value_stops : (k : Kind) (e : Stop) → scan.Sees text (first ahead (rule_of_kind k)) at true → StopsAt (rule_of_kind k) text at e → StopsAt (named value) text at e
+  value_stops k (Syntax stop) h x = value_scan k (Err stop) h x
+  value_stops k NoMemory h x = tt

@@ -12,3 +12,10 @@ pub mod Contents
 pub mod SameContents
 pub mod Boundaries
 pub mod Strings
+pub mod Exists
+pub mod Scalars
+pub mod Begins
+pub mod Lists
+pub mod MemberLists
+pub mod Gives
+

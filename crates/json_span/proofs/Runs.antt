@@ -46,3 +46,10 @@ plain_test c h = grind (arith, nat_tests)
 
 pub reach_plain : (text : List ℕ) (at end : ℕ) → ((i : ℕ) → get_or text i 0 < 256) → end ≡ at + prefix_len (λ x. not (is_special x)) (drop at text) → end ≤ length text → Reaches (many unescaped) text at end
 reach_plain text at end bytes e le = reach_run unescaped (tt, (tt, tt)) refl (λ x. not (is_special x)) text at end (λ i lt. plain_test (get_or (drop at text) i 0) (subst (λ z. z < 256) (sym (get_or-drop at text i 0)) (bytes (at + i)))) e le
+
+-- the same over the bytes of a text
+pub blanks_in : (text bytes : List ℕ) (at end : ℕ) → bytes ≡ text → end ≡ at + prefix_len is_blank (drop at bytes) → end ≤ length bytes → Reaches ws text at end
+blanks_in text bytes at end e h le = subst (λ z. Reaches ws z at end) e (reach_blanks bytes at end h le)
+
+pub plain_in : (text bytes : List ℕ) (at end : ℕ) → bytes ≡ text → ((i : ℕ) → get_or text i 0 < 256) → end ≡ at + prefix_len (λ x. not (is_special x)) (drop at bytes) → end ≤ length bytes → Reaches (many unescaped) text at end
+plain_in text bytes at end e small h le = reach_plain text at end small (h ∙ ap (λ z. at + prefix_len (λ x. not (is_special x)) (drop at z)) e) (subst (λ z. end ≤ length z) e le)

@@ -38,7 +38,7 @@ begins_comma : (b : Bracket) (t : List ℕ) → begins (within 44 44) t ≡ true
 begins_comma b t f = padded_2 (within 44 44) t true f
 
 -- an open bracket with a value behind it
-opened : (k : declared.Bracket) (rest : Rule Name) (t1 t2 t3 : List ℕ) (res : Result (List ℕ) (List ℕ)) → begins (first ahead (list_of (bracket_of k))) t1 ≡ true →
+pub opened : (k : declared.Bracket) (rest : Rule Name) (t1 t2 t3 : List ℕ) (res : Result (List ℕ) (List ℕ)) → begins (first ahead (list_of (bracket_of k))) t1 ≡ true →
     Steers rules ahead (token (open_of (bracket_of k))) t1 t2 → begins (first ahead (one (close_of (bracket_of k)))) t2 ≡ false → Steers rules ahead (before_of (bracket_of k)) t2 t3 →
     Walks (seq (named value) (seq ws (seq (more_of (bracket_of k)) rest))) t3 res → Walks (seq (named value) rest) t1 res
 opened k rest t1 t2 t3 (Ok u) e x f p (on_both v (on_both w (on_both {u = c} m z))) = on_both (value_walk t1 (Listed k) (Ok c) e (on_both x (on_right f (on_both (on_both p (on_both v w)) m)))) z
@@ -48,12 +48,12 @@ opened k rest t1 t2 t3 (Err u) e x f p (at_second v (at_second w (at_first a))) 
 opened k rest t1 t2 t3 (Err u) e x f p (at_second v (at_second w (at_second {u = c} m a))) = at_second (value_walk t1 (Listed k) (Ok c) e (on_both x (on_right f (on_both (on_both p (on_both v w)) m)))) a
 
 -- what stands before the first value is no name with a colon
-bad_name : (k : declared.Bracket) (t1 t2 u : List ℕ) → begins (first ahead (list_of (bracket_of k))) t1 ≡ true →
+pub bad_name : (k : declared.Bracket) (t1 t2 u : List ℕ) → begins (first ahead (list_of (bracket_of k))) t1 ≡ true →
     Steers rules ahead (token (open_of (bracket_of k))) t1 t2 → begins (first ahead (one (close_of (bracket_of k)))) t2 ≡ false → Stuck rules ahead (before_of (bracket_of k)) t2 u → Stuck rules ahead (named value) t1 u
 bad_name k t1 t2 u e x f a = value_walk t1 (Listed k) (Err u) e (at_second x (only_right f refl (at_first (at_first a))))
 
 -- a comma and one more value
-comma : (b : Bracket) (rest : Rule Name) (t1 t2 t3 : List ℕ) (res : Result (List ℕ) (List ℕ)) → begins (within 44 44) t1 ≡ true → Steers rules ahead (token 44) t1 t2 → Steers rules ahead (before_of b) t2 t3 →
+pub comma : (b : Bracket) (rest : Rule Name) (t1 t2 t3 : List ℕ) (res : Result (List ℕ) (List ℕ)) → begins (within 44 44) t1 ≡ true → Steers rules ahead (token 44) t1 t2 → Steers rules ahead (before_of b) t2 t3 →
     Walks (seq (named value) (seq ws (seq (more_of b) rest))) t3 res → Walks (seq (more_of b) rest) t1 res
 comma b rest t1 t2 t3 (Ok u) e x p (on_both v (on_both w (on_both (on_both ys y) z))) = on_both (on_both (on_more (on_both x (on_both p (on_both v w))) ys) y) z
 comma b rest t1 t2 t3 (Err u) e x p (at_first a) = at_first (at_first (at_round (begins_comma b t1 e) (at_second x (at_second p (at_first a)))))
@@ -62,8 +62,12 @@ comma b rest t1 t2 t3 (Err u) e x p (at_second v (at_second w (at_first (at_firs
 comma b rest t1 t2 t3 (Err u) e x p (at_second v (at_second w (at_first (at_second ys a)))) = at_first (at_second (on_more (on_both x (on_both p (on_both v w))) ys) a)
 comma b rest t1 t2 t3 (Err u) e x p (at_second v (at_second w (at_second (on_both ys y) a))) = at_second (on_both (on_more (on_both x (on_both p (on_both v w))) ys) y) a
 
+-- what stands behind a comma is no name with a colon
+pub bad_name_behind : (b : Bracket) (t1 t2 u : List ℕ) → begins (within 44 44) t1 ≡ true → Steers rules ahead (token 44) t1 t2 → Stuck rules ahead (before_of b) t2 u → Stuck rules ahead (more_of b) t1 u
+bad_name_behind b t1 t2 u e x a = at_first (at_round (begins_comma b t1 e) (at_second x (at_first a)))
+
 module _ (text : List ℕ) where
-  leads : (r s : Rule Name) (from at : ℕ) → from ≤ at → ((res : Result (List ℕ) (List ℕ)) → Walks s (drop at text) res → Walks r (drop from text) res) → Leads text r from s at
+  pub leads : (r s : Rule Name) (from at : ℕ) → from ≤ at → ((res : Result (List ℕ) (List ℕ)) → Walks s (drop at text) res → Walks r (drop from text) res) → Leads text r from s at
   leads r s from at h w (Ok e) x = record { forward = omega (arith, x.forward); within_text = x.within_text; steers = w (Ok (drop e text)) x.steers }
   leads r s from at h w (Err e) x = record { within_text = x.within_text; stuck = w (Err (drop e text)) x.stuck }
 
@@ -209,3 +213,6 @@ lead_ends text r from at h l = l (Ok at) (record { forward = omega arith; within
 pub none_left : {A : Type 0} (xs : List A) → length xs ≡ 0 → xs ≡ []
 none_left [] e = refl
 none_left (x ∷ xs) e = absurd (omega arith)
+
+pub reach_nothing : (text : List ℕ) (at : ℕ) → at ≤ length text → Reaches empty text at at
+reach_nothing text at h = record { forward = omega arith; within_text = h; steers = on_empty }

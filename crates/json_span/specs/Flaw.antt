@@ -19,7 +19,7 @@ or_else None b = b
 or_else (Some x) b = Some x
 
 abbrev pub is_seen : List (List ℕ) → List ℕ → Bool
-is_seen names name = list_any (bytes_eq name) names
+is_seen names name = list_any (λ n. bytes_eq n name) names
 
 -- The parts of a value stand in the order of the text. `room` says how many brackets may open here.
 abbrev mutual

@@ -54,19 +54,19 @@ impl Class {
 }
 
 /// Whether a byte of the class stands there.
-pub(crate) fn has(text: &[u8], at: usize, class: Class) -> bool
+pub(crate) fn has(text: &str, at: usize, class: Class) -> bool
     requires { at ≤ length text.now }
     ensures test { result ≡ begins (first ahead (rule_of class)) (drop at text.now) }
     ensures bound { OnTrue result (at < length text.now) }
 {
-    match text.get(at) {
+    match text.as_bytes().get(at) {
         Some(byte) => class.has(*byte),
         None => false,
     }
 }
 
 /// The end of a row of bytes, one of each class.
-pub(crate) fn row_end(text: &[u8], at: usize, classes: &[Class]) -> Result<usize, usize>
+pub(crate) fn row_end(text: &str, at: usize, classes: &[Class]) -> Result<usize, usize>
     requires { at ≤ length text.now }
     ensures { Scans (row_of classes.now) text.now at result }
 {

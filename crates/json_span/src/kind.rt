@@ -47,13 +47,13 @@ fn kind_of(byte: u8) -> Option<Kind>
 }
 
 /// What begins there.
-pub(crate) fn kind_at(text: &[u8], at: usize) -> Option<Kind>
+pub(crate) fn kind_at(text: &str, at: usize) -> Option<Kind>
     requires { at ≤ length text.now }
     ensures found { IfSome result (λ k. begins (first ahead (rule_of_kind k)) (drop at text.now) ≡ true) }
     ensures bound { IfSome result (λ k. at < length text.now) }
     ensures none { IfNone result (begins (first ahead (rules value)) (drop at text.now) ≡ false) }
 {
-    match text.get(at) {
+    match text.as_bytes().get(at) {
         Some(byte) => kind_of(*byte),
         None => None,
     }

@@ -1,6 +1,7 @@
 //! JSON texts as trees with spans (RFC 8259).
 #![tactic(auto)]
 
+mod build;
 mod bytes;
 mod escape;
 mod kind;

@@ -1,23 +1,33 @@
 //! The ends of blanks, numbers and words.
 
 ghost use Rattle.std.specs.Prelude.{◌≡◌, ◌≤◌, length};
+ghost use Rattle.std.specs.Str.{IsCharBoundary};
 ghost use Rattle.grammar.specs.Grammar.{many, named};
-ghost use Rattle.json_span.specs.Grammar.{ws, digit, digits, int, frac, exp, optional, one, either, number};
+ghost use Rattle.json_span.specs.Grammar.{ws, digit, digits, int, frac, exp, optional, one, either, number, unescaped};
 ghost use Rattle.json_span.specs.Scan.{Reaches, Scans};
 
 use crate::bytes::{Class, has};
-use lane_scan::skip_blank;
+use lane_scan::{first_special, skip_blank};
 
 /// The end of the blanks.
-pub(crate) fn blanks_end(text: &[u8], at: usize) -> usize
+pub(crate) fn blanks_end(text: &str, at: usize) -> usize
     requires { at ≤ length text.now }
     ensures { Reaches ws text.now at result }
 {
-    skip_blank(text, at)
+    skip_blank(text.as_bytes(), at)
+}
+
+/// The end of the characters of a string that stand for themselves.
+pub(crate) fn plain_end(text: &str, at: usize) -> usize
+    requires { at ≤ length text.now }
+    ensures plain { Reaches (many unescaped) text.now at result }
+    ensures boundary { IsCharBoundary text.now result }
+{
+    first_special(text.as_bytes(), at)
 }
 
 /// The end of a number (RFC 8259 section 6).
-pub(crate) fn number_end(text: &[u8], at: usize) -> Result<usize, usize>
+pub(crate) fn number_end(text: &str, at: usize) -> Result<usize, usize>
     requires { at ≤ length text.now }
     ensures { Scans (named number) text.now at result }
 {
@@ -27,7 +37,7 @@ pub(crate) fn number_end(text: &[u8], at: usize) -> Result<usize, usize>
     exponent_end(text, exponent)
 }
 
-fn minus_end(text: &[u8], at: usize) -> usize
+fn minus_end(text: &str, at: usize) -> usize
     requires { at ≤ length text.now }
     ensures { Reaches (optional (one 45)) text.now at result }
 {
@@ -39,7 +49,7 @@ fn minus_end(text: &[u8], at: usize) -> usize
 }
 
 // 0, or digits without a zero in front.
-fn whole_end(text: &[u8], at: usize) -> Result<usize, usize>
+fn whole_end(text: &str, at: usize) -> Result<usize, usize>
     requires { at ≤ length text.now }
     ensures { Scans int text.now at result }
 {
@@ -52,7 +62,7 @@ fn whole_end(text: &[u8], at: usize) -> Result<usize, usize>
     }
 }
 
-fn fraction_end(text: &[u8], at: usize) -> Result<usize, usize>
+fn fraction_end(text: &str, at: usize) -> Result<usize, usize>
     requires { at ≤ length text.now }
     ensures { Scans (optional frac) text.now at result }
 {
@@ -63,7 +73,7 @@ fn fraction_end(text: &[u8], at: usize) -> Result<usize, usize>
     }
 }
 
-fn exponent_end(text: &[u8], at: usize) -> Result<usize, usize>
+fn exponent_end(text: &str, at: usize) -> Result<usize, usize>
     requires { at ≤ length text.now }
     ensures { Scans (optional exp) text.now at result }
 {
@@ -74,7 +84,7 @@ fn exponent_end(text: &[u8], at: usize) -> Result<usize, usize>
     }
 }
 
-fn sign_end(text: &[u8], at: usize) -> usize
+fn sign_end(text: &str, at: usize) -> usize
     requires { at ≤ length text.now }
     ensures { Reaches (optional (either 43 45)) text.now at result }
 {
@@ -85,7 +95,7 @@ fn sign_end(text: &[u8], at: usize) -> usize
     }
 }
 
-fn some_digits_end(text: &[u8], at: usize) -> Result<usize, usize>
+fn some_digits_end(text: &str, at: usize) -> Result<usize, usize>
     requires { at ≤ length text.now }
     ensures { Scans digits text.now at result }
 {
@@ -96,7 +106,7 @@ fn some_digits_end(text: &[u8], at: usize) -> Result<usize, usize>
     }
 }
 
-fn digits_end(text: &[u8], at: usize) -> usize
+fn digits_end(text: &str, at: usize) -> usize
     requires { at ≤ length text.now }
     ensures { Reaches (many digit) text.now at result }
 {

@@ -36,7 +36,7 @@ impl Bracket {
 }
 
 /// The end of what stands before a value of a list: in an object a name, a colon and blanks.
-pub(crate) fn before_end(text: &[u8], at: usize, bracket: Bracket) -> Result<usize, usize>
+pub(crate) fn before_end(text: &str, at: usize, bracket: Bracket) -> Result<usize, usize>
     requires { at ≤ length text.now }
     ensures { Scans (before_of (bracket_of bracket)) text.now at result }
 {
@@ -50,7 +50,7 @@ pub(crate) fn before_end(text: &[u8], at: usize, bracket: Bracket) -> Result<usi
 }
 
 /// The end of the colon behind a name, and of the blanks around it.
-pub(crate) fn colon_end(text: &[u8], at: usize) -> Result<usize, usize>
+pub(crate) fn colon_end(text: &str, at: usize) -> Result<usize, usize>
     requires { at ≤ length text.now }
     ensures { Scans (seq ws (token 58)) text.now at result }
 {
@@ -60,7 +60,7 @@ pub(crate) fn colon_end(text: &[u8], at: usize) -> Result<usize, usize>
 }
 
 /// The end of a value that holds no others.
-pub(crate) fn scalar_end(text: &[u8], at: usize, scalar: Scalar) -> Result<usize, usize>
+pub(crate) fn scalar_end(text: &str, at: usize, scalar: Scalar) -> Result<usize, usize>
     requires { at ≤ length text.now }
     ensures { Scans (rule_of_scalar scalar) text.now at result }
 {
@@ -90,7 +90,7 @@ pub(crate) fn scalar_end(text: &[u8], at: usize, scalar: Scalar) -> Result<usize
 }
 
 // Reads on where a value is to come.
-fn begin(text: &[u8], at: usize, brackets: &mut Vec<Bracket>) -> Result<Place, Stop>
+fn begin(text: &str, at: usize, brackets: &mut Vec<Bracket>) -> Result<Place, Stop>
     requires { at ≤ length text.now }
     ensures leads { IfOk result (λ p. Leads text.now (left_of true brackets.old.items) at (left_of p.wants brackets.new.items) p.at) }
     ensures forward { IfOk result (λ p. at < p.at) }
@@ -109,7 +109,7 @@ fn begin(text: &[u8], at: usize, brackets: &mut Vec<Bracket>) -> Result<Place, S
 
 // Reads on where a list begins.
 fn open(
-    text: &[u8],
+    text: &str,
     at: usize,
     bracket: Bracket,
     brackets: &mut Vec<Bracket>,
@@ -138,7 +138,7 @@ fn open(
 
 // Reads on behind a value of a list, whose bracket was taken off the open ones.
 fn go_on(
-    text: &[u8],
+    text: &str,
     at: usize,
     bracket: Bracket,
     brackets: &mut Vec<Bracket>,
@@ -168,7 +168,7 @@ fn go_on(
 
 // Reads on to where the last of the open brackets is closed.
 fn skip(
-    text: &[u8],
+    text: &str,
     from: usize,
     wants_first: bool,
     mut brackets: Vec<Bracket>,
@@ -194,7 +194,7 @@ fn skip(
 }
 
 /// The end of a value.
-pub(crate) fn value_end(alloc: Global, text: &[u8], at: usize) -> Result<usize, Stop>
+pub(crate) fn value_end(alloc: Global, text: &str, at: usize) -> Result<usize, Stop>
     requires { at ≤ length text.now }
     ensures end { IfOk result (λ e. Reaches (named value) text.now at e) }
     ensures stop { IfErr result (λ e. StopsAt (named value) text.now at e) }
@@ -205,7 +205,7 @@ pub(crate) fn value_end(alloc: Global, text: &[u8], at: usize) -> Result<usize, 
 /// The end of the list whose bracket is open, behind one of its values.
 pub(crate) fn list_end(
     alloc: Global,
-    text: &[u8],
+    text: &str,
     at: usize,
     bracket: Bracket,
 ) -> Result<usize, Stop>

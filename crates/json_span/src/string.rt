@@ -6,10 +6,10 @@ ghost use Rattle.json_span.specs.Grammar.{behind_d, unicode, escape, char, one, 
 ghost use Rattle.json_span.specs.Scan.{Scans};
 
 use crate::bytes::{Class, has, row_end};
-use lane_scan::first_special;
+use crate::scan::plain_end;
 
 /// The end of a string, behind its closing quote.
-pub(crate) fn string_end(text: &[u8], at: usize) -> Result<usize, usize>
+pub(crate) fn string_end(text: &str, at: usize) -> Result<usize, usize>
     requires { at ≤ length text.now }
     ensures { Scans (named string) text.now at result }
 {
@@ -18,20 +18,20 @@ pub(crate) fn string_end(text: &[u8], at: usize) -> Result<usize, usize>
 }
 
 /// The end of the characters of a string and of its closing quote.
-pub(crate) fn characters_end(text: &[u8], at: usize) -> Result<usize, usize>
+pub(crate) fn characters_end(text: &str, at: usize) -> Result<usize, usize>
     requires { at ≤ length text.now }
     ensures { Scans (seq (many char) (one 34)) text.now at result }
 {
-    let mut end = first_special(text, at);
+    let mut end = plain_end(text, at);
     while has(text, end, Class::One(b'\\')) {
         let behind = escape_end(text, end + 1)?;
-        end = first_special(text, behind);
+        end = plain_end(text, behind);
     }
     row_end(text, end, &[Class::One(b'"')])
 }
 
 // The end of an escape whose backslash stands before.
-fn escape_end(text: &[u8], at: usize) -> Result<usize, usize>
+fn escape_end(text: &str, at: usize) -> Result<usize, usize>
     requires { at ≤ length text.now }
     ensures { Scans escape text.now at result }
 {
@@ -43,7 +43,7 @@ fn escape_end(text: &[u8], at: usize) -> Result<usize, usize>
 }
 
 // Four digits of no surrogate, or a high surrogate and the escape of a low one.
-fn unicode_end(text: &[u8], at: usize) -> Result<usize, usize>
+fn unicode_end(text: &str, at: usize) -> Result<usize, usize>
     requires { at ≤ length text.now }
     ensures { Scans unicode text.now at result }
 {
@@ -55,7 +55,7 @@ fn unicode_end(text: &[u8], at: usize) -> Result<usize, usize>
 }
 
 // The rest of an escape's digits behind a first digit `d`.
-fn behind_d_end(text: &[u8], at: usize) -> Result<usize, usize>
+fn behind_d_end(text: &str, at: usize) -> Result<usize, usize>
     requires { at ≤ length text.now }
     ensures { Scans behind_d text.now at result }
 {

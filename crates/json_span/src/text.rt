@@ -12,9 +12,9 @@ ghost use Rattle.json_span.specs.Skipping.{StopsAt};
 
 use crate::bytes::{Class, has};
 use crate::escape::read_escape;
+use crate::scan::plain_end;
 use crate::stop::Stop;
 use crate::string::characters_end;
-use lane_scan::first_special;
 use std::alloc::Global;
 use tk_io::{NoMemory, Text};
 
@@ -36,18 +36,17 @@ pub(crate) fn read_string<'s>(
     ensures characters { IfOk result (λ q. StringAt (drop at text.entry.now) q.text (drop q.end text.entry.now)) }
     ensures stop { IfErr result (λ e. StopsAt (named string) text.entry.now at e) }
 {
-    let bytes = text.as_bytes();
-    if !has(bytes, at, Class::One(b'"')) {
+    if !has(text, at, Class::One(b'"')) {
         return Err(Stop::Syntax(at));
     }
-    let plain = first_special(bytes, at + 1);
-    if has(bytes, plain, Class::One(b'"')) {
+    let plain = plain_end(text, at + 1);
+    if has(text, plain, Class::One(b'"')) {
         return Ok(Quoted {
             text: Text::of(&text[at + 1..plain]),
             end: plain + 1,
         });
     }
-    let end = characters_end(bytes, at + 1)?;
+    let end = characters_end(text, at + 1)?;
     let characters = decode(alloc, text, at + 1)?;
     Ok(Quoted {
         text: Text::owned(alloc, characters.as_str())?,
@@ -62,16 +61,15 @@ fn decode(alloc: Global, text: &str, from: usize) -> Result<String, NoMemory>
     requires content { (s : List ℕ) × (u : List ℕ) × Content (drop from text.now) s u }
     ensures { IfOk result (λ t. (s u : List ℕ) → Content (drop from text.now) s u → string_bytes t ≡ s) }
 {
-    let bytes = text.as_bytes();
     let mut characters = String::new(alloc);
     let mut at = from;
     loop {
-        let plain = first_special(bytes, at);
+        let plain = plain_end(text, at);
         characters.push_str(&text[at..plain])?;
-        if !has(bytes, plain, Class::One(b'\\')) {
+        if !has(text, plain, Class::One(b'\\')) {
             return Ok(characters);
         }
-        let escaped = read_escape(&bytes[plain..]);
+        let escaped = read_escape(&text.as_bytes()[plain..]);
         characters.push(escaped.character)?;
         at = plain + escaped.len;
     }

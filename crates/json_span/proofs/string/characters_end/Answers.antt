@@ -1,13 +1,12 @@
 use Rattle.std.proofs.Common.{◌+◌, ◌≤◌, ℕ, ◌<◌, length, get_or, sym, arith, Err}
 use Rattle.std.proofs.lemmas.Result.{err_from_is_err_and}
-use Rattle.json_span.proofs.Runs.{reach_plain}
 use Rattle.json_span.proofs.CharacterScans as characters
 use Rattle.json_span.proofs.string.characters_end.Goals as goal
 
 pub loop-end-init : goal.loop-end-init
 loop-end-init c =
-    let x = reach_plain c.args.text.now c.args.at c.first_special-end.result (λ (i : ℕ). omega (arith, c.type_inv.text i)) c.first_special-end.ensures.first c.first_special-end.ensures.within in
-    (x.within_text, characters.run_ends c.args.text.now c.args.at c.first_special-end.result x, characters.run_leads c.args.text.now c.args.at c.first_special-end.result x)
+    let x = c.plain_end-end.ensures.plain in
+    (x.within_text, characters.run_ends c.args.text.now c.args.at c.plain_end-end.result x, characters.run_leads c.args.text.now c.args.at c.plain_end-end.result x)
 
 pub returns-in_err-behind : goal.returns-in_err-behind
 returns-in_err-behind c = let p = err_from_is_err_and c.from_residual.result c.from_residual.ensures.1 in rw (p.1, p.2)
@@ -16,8 +15,8 @@ returns-in_err-behind c = let p = err_from_is_err_and c.from_residual.result c.f
 
 pub loop-end-preserved : goal.loop-end-preserved
 loop-end-preserved c =
-    let end = c.first_special-end-in-loop-end.result in
-    let x = reach_plain c.args.text.now c.in_ok-behind.behind end (λ (i : ℕ). omega (arith, c.type_inv.text i)) c.first_special-end-in-loop-end.ensures.first c.first_special-end-in-loop-end.ensures.within in (
+    let end = c.plain_end-end-in-loop-end.result in
+    let x = c.plain_end-end-in-loop-end.ensures.plain in (
       x.within_text,
       characters.run_ends c.args.text.now c.in_ok-behind.behind end x,
       λ r y. c.loop-end.invariant.2 r

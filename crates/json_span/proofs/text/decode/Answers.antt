@@ -2,7 +2,6 @@ use Rattle.std.proofs.Common.{◌≡◌, ℕ, ◌+◌, ◌-◌, ◌<◌, ◌≤�
 use Rattle.std.specs.Prelude.{slice_range}
 use Rattle.std.specs.String.{string_bytes}
 use Rattle.std.specs.Char.{encode_utf8}
-use Rattle.grammar.specs.Grammar.{within}
 use Rattle.json_span.proofs.CharacterScans as characters
 use Rattle.json_span.proofs.Strings as string
 use Rattle.json_span.proofs.text.decode.Goals as goal
@@ -10,40 +9,39 @@ use Rattle.json_span.proofs.text.decode.Goals as goal
 pub returns-then-not-has : goal.returns-then-not-has
 returns-then-not-has c = λ s u k.
     let T = c.args.text.now in
-    let B = c.as_bytes-bytes.result.now in
-    let plain = c.first_special-plain.result in
+    let plain = c.plain_end-plain.result in
     let at = c.loop-characters.at in
-    let x = string.bytes_reach T B at plain c.as_bytes-bytes.ensures.value (λ i. omega (arith, c.type_inv.text i)) c.first_special-plain.ensures.first c.first_special-plain.ensures.within in
+    let x = c.plain_end-plain.ensures.plain in
     let (rest, k1, e1) = c.loop-characters.invariant.2 s u k in
     let (rest2, k2, e2) = string.plain_takes T at plain x rest u k1 in
-    let none = string.ends_here (drop plain T) rest2 u k2 (characters.run_ends T at plain x) (string.bytes_see T B (within 92 92) plain false c.as_bytes-bytes.ensures.value c.if-not-has.ensures.test) in
+    let none = string.ends_here (drop plain T) rest2 u k2 (characters.run_ends T at plain x) (sym c.if-not-has.ensures.test) in
     let bytes : string_bytes c.push_str.new.self ≡ string_bytes c.loop-characters.characters ++ slice_range T at plain = c.in_ok-push_str.ensures.bytes ∙ ap (λ z. string_bytes c.loop-characters.characters ++ z) c.range.ensures.value in
     bytes ∙ string.whole_run s (string_bytes c.loop-characters.characters) (slice_range T at plain) rest rest2 e1 e2 none
 
 pub read_escape-escaped-requires : goal.read_escape-escaped-requires
 read_escape-escaped-requires c =
     let T = c.args.text.now in
-    let B = c.as_bytes-bytes.result.now in
-    let plain = c.first_special-plain.result in
+    let B = c.as_bytes.result.now in
+    let plain = c.plain_end-plain.result in
     let at = c.loop-characters.at in
-    let x = string.bytes_reach T B at plain c.as_bytes-bytes.ensures.value (λ i. omega (arith, c.type_inv.text i)) c.first_special-plain.ensures.first c.first_special-plain.ensures.within in
+    let x = c.plain_end-plain.ensures.plain in
     let (s, u, k) = c.requires.content in
     let (rest, k1, e1) = c.loop-characters.invariant.2 s u k in
     let (rest2, k2, e2) = string.plain_takes T at plain x rest u k1 in
     let lt : plain < length T = string.content_within T rest2 u plain k2 in
-    let first : get_or (drop plain T) 0 0 ≡ 92 = ap (λ z. get_or z 0 0) (string.byte_at T 92 plain lt (string.bytes_see T B (within 92 92) plain true c.as_bytes-bytes.ensures.value c.if-not-has.ensures.test)) in
-    rw (string.rest_slice T B plain c.as_bytes-bytes.ensures.value) (rest2, u, k2, first)
+    let first : get_or (drop plain T) 0 0 ≡ 92 = ap (λ z. get_or z 0 0) (string.byte_at T 92 plain lt (sym c.if-not-has.ensures.test)) in
+    rw (string.rest_slice T B plain c.as_bytes.ensures.value) (rest2, u, k2, first)
 
 pub loop-characters-preserved : goal.loop-characters-preserved
 loop-characters-preserved c =
     let T = c.args.text.now in
-    let B = c.as_bytes-bytes.result.now in
-    let plain = c.first_special-plain.result in
+    let B = c.as_bytes.result.now in
+    let plain = c.plain_end-plain.result in
     let at = c.loop-characters.at in
     let len = c.read_escape-escaped.result.len in
-    let x = string.bytes_reach T B at plain c.as_bytes-bytes.ensures.value (λ i. omega (arith, c.type_inv.text i)) c.first_special-plain.ensures.first c.first_special-plain.ensures.within in
+    let x = c.plain_end-plain.ensures.plain in
     let E : List ℕ = take (length B - plain) (drop plain B) in
-    let e : E ≡ drop plain T = string.rest_slice T B plain c.as_bytes-bytes.ensures.value in
+    let e : E ≡ drop plain T = string.rest_slice T B plain c.as_bytes.ensures.value in
     let boundary = string.escape_boundary T E plain len c.utf8.text e x.within_text c.read_escape-escaped.ensures.some c.read_escape-escaped.ensures.within c.read_escape-escaped.ensures.ascii in
     let bytes : string_bytes c.push.new.self ≡ (string_bytes c.loop-characters.characters ++ slice_range T at plain) ++ encode_utf8 c.read_escape-escaped.result.character =
       c.in_ok-push.ensures.bytes ∙ ap (λ z. z ++ encode_utf8 c.read_escape-escaped.result.character) (c.in_ok-push_str.ensures.bytes ∙ ap (λ z. string_bytes c.loop-characters.characters ++ z) c.range.ensures.value) in (

@@ -1,0 +1,40 @@
+use Rattle.std.proofs.Common.{◌≤◌, ◌+◌, ◌-◌, ◌*◌, [], length, true}
+use Rattle.json_span.specs.Steered.{square, curly}
+use Rattle.json_span.specs.Skipping.{left_of, Leads}
+use Rattle.json_span.specs.ListsLeft.{list_left, ElementsLeft, MembersLeft, HasNames}
+use Rattle.json_span.specs.View.{items_view, fields_view}
+use Rattle.json_span.proofs.build.+value.Given as goal
+
+abbrev pub decreases-build_value : goal.decreases-build_value
+decreases-build_value l = 3 * l.room + 2
+
+abbrev pub decreases-build_list : goal.decreases-build_list
+decreases-build_list l = 3 * l.room + 1
+
+abbrev pub decreases-build_array : goal.decreases-build_array
+decreases-build_array l = 3 * l.room + 3
+
+abbrev pub decreases-build_object : goal.decreases-build_object
+decreases-build_object l = 3 * l.room + 3
+
+-- what is left makes the whole list
+abbrev pub invariant-build_array-loop-items : goal.invariant-build_array-loop-items
+invariant-build_array-loop-items l = record {
+  within : l.next ≤ length l.text;
+  leads : Leads l.text (left_of true []) l.at (list_left square) l.next;
+  elements : ElementsLeft l.text l.room l.inner l.next (items_view l.items);
+}
+
+abbrev pub decreases-build_array-loop-items : goal.decreases-build_array-loop-items
+decreases-build_array-loop-items l = length l.text - l.next
+
+abbrev pub invariant-build_object-loop-names : goal.invariant-build_object-loop-names
+invariant-build_object-loop-names l = record {
+  within : l.next ≤ length l.text;
+  leads : Leads l.text (left_of true []) l.at (list_left curly) l.next;
+  members : MembersLeft l.text l.room l.inner l.next (fields_view l.fields);
+  names : HasNames l.names (fields_view l.fields);
+}
+
+abbrev pub decreases-build_object-loop-names : goal.decreases-build_object-loop-names
+decreases-build_object-loop-names l = length l.text - l.next
