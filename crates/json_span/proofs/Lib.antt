@@ -19,3 +19,5 @@ pub mod Lists
 pub mod MemberLists
 pub mod Gives
 
+pub mod Rfc
+pub mod Refusal

@@ -9,7 +9,7 @@ ghost use Rattle.json_span.specs.Kinds.{bracket_of, rule_of_scalar};
 ghost use Rattle.json_span.specs.Scan.{Reaches};
 ghost use Rattle.json_span.specs.Skipping.{StopsAt};
 ghost use Rattle.json_span.specs.View.{json_view};
-ghost use Rattle.json_span.specs.Building.{IsScalarValue, GoesOn, Gives, Opens, HaltsBehind, empty_tree};
+ghost use Rattle.json_span.specs.Building.{IsScalarValue, GoesOn, Gives, Opens, HaltsBehind, empty_tree, end_of_built};
 
 use crate::bytes::{Class, has, row_end};
 use crate::kind::{Bracket, Kind, Scalar, kind_at};
@@ -37,6 +37,18 @@ pub(crate) enum Built<'s> {
     Whole(Node<'s>),
     /// The first flaw in it, and its end.
     Flawed(Flaw, usize),
+}
+
+impl<'s> Built<'s> {
+    /// The offset behind the value.
+    pub(crate) fn end(&self) -> usize
+        ensures { result ≡ end_of_built self.now }
+    {
+        match self {
+            Built::Whole(node) => node.end,
+            Built::Flawed(_, end) => *end,
+        }
+    }
 }
 
 /// Where a list goes on behind a value.

@@ -5,6 +5,8 @@ mod build;
 mod bytes;
 mod escape;
 mod kind;
+mod laws;
+mod reader;
 mod scan;
 mod skip;
 mod stop;
@@ -12,4 +14,6 @@ mod string;
 mod text;
 mod tree;
 
+pub use laws::json_laws;
+pub use reader::{JsonFault, read};
 pub use tree::{Field, Fields, Items, Json, Node};

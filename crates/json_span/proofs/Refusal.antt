@@ -1,0 +1,65 @@
+-- Where the reader stops, the text has no reading, and its longest front ends.
+use Rattle.std.proofs.Common.{◌≡◌, ℕ, ◌<◌, ◌≤◌, List, [], length, drop, refl, sym, ap, ◌∙◌, subst, inl, inr, arith, Some, None}
+use Rattle.std.proofs.lemmas.List.{drop_all}
+use Rattle.std.specs.Prelude.{◌⊎◌}
+use Rattle.grammar.specs.Grammar.{seq, named, Reads}
+use Rattle.grammar.specs.Predict.{Steers, on_both, at_first, at_second}
+use Rattle.grammar.specs.Stop.{Stops, Refuses}
+use Rattle.grammar.proofs.Tables.{passes_from}
+use Rattle.grammar.proofs.Refusals.{refuses}
+use Rattle.grammar.proofs.Predicts.{reads}
+use Rattle.json_span.specs.Grammar.{value, ws, grammar, json_text}
+use Rattle.json_span.specs.Steered.{rules, ahead, json}
+use Rattle.json_span.specs.Tree.{Placed}
+use Rattle.json_span.specs.Reading.{Value, Shows}
+use Rattle.json_span.specs.Scan.{Reaches, Halts}
+use Rattle.json_span.specs.Flaw.{first_flaw}
+use Rattle.json_span.specs.View.{node_view}
+use Rattle.json_span.specs.Building.{Gives, end_of_built, flaw_view}
+use Rattle.json_span.specs.Answer.{IsAnswer, IsRefusal, fault_of, shows, flawed, stops}
+use Rattle.json_span.specs.declared.tree.Node.{Node}
+use Rattle.json_span.specs.declared.build.Built.{Built}
+use Rattle.json_span.specs.declared.build.Built.TheVariants.{Whole, Flawed}
+use Rattle.json_span.specs.declared.build.Flaw as declared
+use Rattle.json_span.specs.declared.build.Flaw.TheVariants.{Dup, Deep}
+use Rattle.json_span.proofs.Steered.{honest_json, steered_json, spelled, passes}
+use Rattle.json_span.proofs.Rfc.{refuses_to}
+
+refusal : (text : List ℕ) (at : ℕ) → Stops rules ahead json text at → Refuses grammar json_text text at
+refusal text at h = refuses_to text at (refuses rules ahead honest_json spelled passes json text at (passes_from json refl) steered_json h)
+
+refused : (text : List ℕ) (f : declared.Flaw) → IsAnswer text (flawed (flaw_view f)) → IsRefusal text (fault_of f)
+refused text (Dup start end) h = h
+refused text (Deep start end) h = h
+
+module _ (text : List ℕ) (start : ℕ) (b : Reaches ws text 0 start) where
+  pub bad_value : (stop : ℕ) → Halts (named value) text start stop → Refuses grammar json_text text stop
+  bad_value stop x = refusal text stop (x.within_text, inl (at_second b.steers (at_first x.stuck)))
+
+  pub more_behind : (end last : ℕ) → Reaches (named value) text start end → Reaches ws text end last → last < length text → Refuses grammar json_text text last
+  more_behind end last v c lt = refusal text last (c.within_text, inr (on_both b.steers (on_both v.steers c.steers), lt))
+
+  pub shown : (end last : ℕ) (n : Placed) → Value (length text) (drop start text) n (drop end text) → Reaches ws text end last → length text ≤ last → Shows text n
+  shown end last n v c le = (
+    drop start text,
+    drop end text,
+    reads rules ahead honest_json b.steers,
+    v,
+    subst (Reads rules ws (drop end text)) (drop_all last text le) (reads rules ahead honest_json c.steers),
+  )
+
+  pub whole_answer : (built : Built) (n : Node) (end last : ℕ) → built ≡ Whole n → Gives text start 64 built → end ≡ end_of_built built → Reaches ws text end last → length text ≤ last → IsAnswer text (shows (node_view n))
+  whole_answer built n end last e g h c le =
+      let w = subst (Gives text start 64) e g in
+      let c2 = subst (λ z. Reaches ws text z last) (h ∙ ap end_of_built e) c in
+      let v = subst (λ z. Value (length text) (drop start text) z (drop n.end text)) (sym w.kept) w.value in
+      (shown n.end last (node_view n) v c2 le, ap first_flaw w.kept ∙ w.flaw)
+
+  pub flawed_answer : (built : Built) (f : declared.Flaw) (last_of end last : ℕ) → built ≡ Flawed f last_of → Gives text start 64 built → end ≡ end_of_built built → Reaches ws text end last → length text ≤ last → IsRefusal text (fault_of f)
+  flawed_answer built f last_of end last e g h c le =
+      let w = subst (Gives text start 64) e g in
+      let c2 = subst (λ z. Reaches ws text z last) (h ∙ ap end_of_built e) c in
+      refused text f (w.tree, shown last_of last w.tree w.value c2 le, w.flaw)
+
+  pub more_answer : (built : Built) (end last : ℕ) → Gives text start 64 built → end ≡ end_of_built built → Reaches ws text end last → last < length text → IsAnswer text (stops last)
+  more_answer built end last g h c lt = more_behind (end_of_built built) last g.reads (subst (λ z. Reaches ws text z last) h c) lt

@@ -1,0 +1,35 @@
+-- What reading a text answers, over the grammar of RFC 8259.
+use Rattle.std.specs.Prelude.{◌≡◌, ℕ, List, Some, None}
+use Rattle.grammar.specs.Stop.{Refuses}
+use Rattle.json_span.specs.Grammar.{grammar, json_text}
+use Rattle.json_span.specs.Tree.{Placed}
+use Rattle.json_span.specs.Reading.{Shows}
+use Rattle.json_span.specs.Flaw.{Flaw, equal_names, too_deep, first_flaw}
+use Rattle.json_span.specs.declared.build.Flaw as declared
+use Rattle.json_span.specs.declared.build.Flaw.TheVariants as found
+use Rattle.json_span.specs.declared.reader.JsonFault.{JsonFault}
+use Rattle.json_span.specs.declared.reader.JsonFault.TheVariants.{Syntax, Dup, Deep, NoMemory}
+
+pub data Answer : Type 0 where
+  -- the value that the text shows
+  shows : Placed → Answer
+  -- the first flaw of the value that the text shows
+  flawed : Flaw → Answer
+  -- the end of the longest front of a text that shows no value
+  stops : ℕ → Answer
+
+abbrev pub IsAnswer : List ℕ → Answer → Type 0
+IsAnswer text (shows n) = Shows text n × (first_flaw n ≡ None)
+IsAnswer text (flawed f) = (n : Placed) × Shows text n × (first_flaw n ≡ Some f)
+IsAnswer text (stops at) = Refuses grammar json_text text at
+
+-- each refusal with its cause; memory may always run out
+abbrev pub IsRefusal : List ℕ → JsonFault → Type 0
+IsRefusal text (Syntax at) = IsAnswer text (stops at)
+IsRefusal text (Dup start end) = IsAnswer text (flawed (equal_names start end))
+IsRefusal text (Deep start end) = IsAnswer text (flawed (too_deep start end))
+IsRefusal text NoMemory = Unit {0}
+
+abbrev pub fault_of : declared.Flaw → JsonFault
+fault_of (found.Dup start end) = Dup start end
+fault_of (found.Deep start end) = Deep start end

@@ -1,0 +1,23 @@
+-- Laws over the definitions alone.
+use Rattle.std.specs.Prelude.{◌≡◌, ℕ, List, ◌++◌, ◌↔◌}
+use Rattle.grammar.specs.Grammar.{Derives, IsFront}
+use Rattle.json_span.specs.Grammar.{grammar, json_text}
+use Rattle.json_span.specs.Tree.{Placed}
+use Rattle.json_span.specs.Reading.{Shows}
+use Rattle.json_span.specs.Answer.{Answer, IsAnswer}
+
+-- a text is a JSON text of RFC 8259 exactly where it shows a value
+abbrev pub TextsShow : Type 0
+TextsShow = (text : List ℕ) → Derives grammar json_text text ↔ ((n : Placed) × Shows text n)
+
+-- a text is a front of a JSON text exactly where some text goes on from it to a JSON text
+abbrev pub FrontsArePrefixes : Type 0
+FrontsArePrefixes = (text : List ℕ) → IsFront grammar json_text text ↔ ((rest : List ℕ) × Derives grammar json_text (text ++ rest))
+
+-- a text shows at most one value
+abbrev pub ShowsOne : Type 0
+ShowsOne = (text : List ℕ) (n m : Placed) → Shows text n → Shows text m → n ≡ m
+
+-- a text has at most one answer
+abbrev pub OneAnswer : Type 0
+OneAnswer = (text : List ℕ) (a b : Answer) → IsAnswer text a → IsAnswer text b → a ≡ b

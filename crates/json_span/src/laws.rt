@@ -1,0 +1,11 @@
+//! Laws over the definitions alone, for the layers above.
+
+ghost use Rattle.json_span.specs.Laws.{TextsShow, FrontsArePrefixes, ShowsOne, OneAnswer};
+
+/// The texts that show a value are those of RFC 8259, each shows one, and each text has one answer.
+pub fn json_laws()
+    ensures texts { TextsShow }
+    ensures fronts { FrontsArePrefixes }
+    ensures one { ShowsOne }
+    ensures answer { OneAnswer }
+{}

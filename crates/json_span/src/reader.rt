@@ -1,0 +1,83 @@
+//! Reading a JSON text.
+
+ghost use Rattle.std.specs.Prelude.{◌≡◌, ◌+◌, IfOk, IfErr};
+ghost use Rattle.json_span.specs.Tree.{Placed};
+ghost use Rattle.json_span.specs.Reading.{Shows};
+ghost use Rattle.json_span.specs.View.{node_view};
+ghost use Rattle.json_span.specs.Answer.{IsAnswer, IsRefusal, fault_of, shows};
+
+use crate::build::{Built, Flaw, build_value};
+use crate::scan::blanks_end;
+use crate::stop::Stop;
+use crate::tree::Node;
+use std::alloc::Global;
+use std::sync::ledger::Ledger;
+use tk_io::Steps;
+
+/// Why a text was not read. Offsets are bytes.
+#[derive(Clone, Copy, Debug, PartialEq, Eq)]
+pub enum JsonFault {
+    /// The text is no JSON text of RFC 8259; up to this offset it is the front of one, and no further.
+    Syntax(usize),
+    /// A name that repeats an earlier one of its object, by the offsets of its string.
+    Dup(usize, usize),
+    /// A bracket that opens a 65th level, by its offsets.
+    Deep(usize, usize),
+    NoMemory,
+}
+
+/// How many brackets may be open at once.
+const MOST_OPEN: u32 = 64;
+
+fn fault_of(flaw: Flaw) -> JsonFault
+    ensures { result ≡ fault_of flaw }
+{
+    match flaw {
+        Flaw::Dup(start, end) => JsonFault::Dup(start, end),
+        Flaw::Deep(start, end) => JsonFault::Deep(start, end),
+    }
+}
+
+fn read_text<'s>(alloc: Global, text: &'s str) -> Result<Node<'s>, JsonFault>
+    ensures found { IfOk result (λ n. IsAnswer text.entry.now (shows (node_view n))) }
+    ensures refused { IfErr result (λ e. IsRefusal text.entry.now e) }
+{
+    let start = blanks_end(text, 0);
+    let built = match build_value(alloc, text, start, MOST_OPEN) {
+        Ok(built) => built,
+        Err(Stop::Syntax(at)) => return Err(JsonFault::Syntax(at)),
+        Err(Stop::NoMemory) => return Err(JsonFault::NoMemory),
+    };
+    let last = blanks_end(text, built.end());
+    if last < text.len() {
+        return Err(JsonFault::Syntax(last));
+    }
+    match built {
+        Built::Whole(node) => Ok(node),
+        Built::Flawed(flaw, _) => Err(fault_of(flaw)),
+    }
+}
+
+/// The one value that the text shows (RFC 8259), each part at the slice from its first to its last byte. It is one
+/// step of `parses`, whatever it answers.
+///
+/// # Errors
+///
+/// [`JsonFault::Syntax`] exactly where the grammar does not read the text. Of a text that it reads, [`JsonFault::Dup`]
+/// or [`JsonFault::Deep`], whichever stands first: names of one object must differ once their escapes are read, and at
+/// most 64 brackets may be open at once.
+pub fn read<'s, L: Ledger>(
+    alloc: Global,
+    text: &'s str,
+    parses: &mut Steps<L>,
+) -> Result<Node<'s>, JsonFault>
+    ensures step { parses.new ≡ parses.old + 1 }
+    // The node is the value that the text shows, without a flaw.
+    ensures found { IfOk result (λ n. IsAnswer text.entry.now (shows (node_view n))) }
+    // No other node is.
+    ensures only { IfOk result (λ n. (m : Placed) → Shows text.entry.now m → m ≡ node_view n) }
+    ensures refused { IfErr result (λ e. IsRefusal text.entry.now e) }
+{
+    parses.tick();
+    read_text(alloc, text)
+}
