@@ -21,3 +21,4 @@ pub mod Gives
 
 pub mod Rfc
 pub mod Refusal
+pub mod Unique
