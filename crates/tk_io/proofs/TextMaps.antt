@@ -40,3 +40,6 @@ module _ {Z X : Type 0} where
 
   pub text_del : (es fs : List (String Z × X)) (k : List ℕ) → fs ≡ remove_entry (λ x. is_eq (text_cmp k (string_bytes x))) es → lookup (λ x. is_eq (text_cmp k (string_bytes x))) fs ≡ None → by_text fs ≡ map.remove (by_text es) k
   text_del es fs k h gone = views.remove_shown nat_list_cmp_total text_cmp-IsAntisymmetric string_bytes (λ v. v) es fs k h gone
+
+  pub text_entries : (es : List (String Z × X)) → IsStrictlySortedBy string_cmp (keys_of es) → shown_by string_bytes (λ v. v) es ≡ map.entries (by_text es)
+  text_entries es h = sym (views.entries_shown nat_list_cmp_total text_cmp-IsAntisymmetric string_bytes (λ v. v) es h)

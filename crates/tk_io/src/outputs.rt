@@ -1,5 +1,5 @@
 // The outputs of a build.
-ghost use Rattle.std.specs.Prelude.{◌≡◌, OnOk, OnErr};
+ghost use Rattle.std.specs.Prelude.{◌≡◌, List, ℕ, IfOk, OnOk, OnErr, map as map_list};
 ghost use Rattle.std.specs.FinMap as map;
 ghost use Rattle.std.specs.List.{slice_get};
 ghost use Rattle.std.specs.Option.{option_map};
@@ -62,6 +62,17 @@ impl Outputs {
             Some((path, body)) => Some((path, body.as_slice())),
             None => None,
         }
+    }
+
+    /// All outputs in byte order of paths.
+    pub fn entries(&self, alloc: Global) -> Result<Vec<(&str, &[u8])>, NoMemory>
+        ensures { IfOk result (λ es. map_list {B = List ℕ × List ℕ} (λ e. (e.0.now, e.1.now)) es.items ≡ map.entries self.now) }
+    {
+        let mut list = Vec::new(alloc);
+        for (path, body) in self.bodies.entries(alloc)?.as_slice() {
+            list.push((*path, body.as_slice()))?;
+        }
+        Ok(list)
     }
 
     /// Adds the output, or replaces the bytes of its path. Where memory runs out the body is dropped and the outputs stay.

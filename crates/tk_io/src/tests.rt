@@ -110,6 +110,7 @@ fn outputs_keep_the_last_body_in_byte_order(rt: HostRuntime) -> Result<(), Fail>
     assert_eq!(rt; path, "o/x");
     assert_eq!(rt; body, b"c".as_slice());
     assert!(rt; outputs.at(2).is_none());
+    assert_eq!(rt; outputs.entries(rt.alloc())?.len(), 2);
     Ok(())
 }
 

@@ -1,5 +1,5 @@
 // A finite map under owned texts, the pattern of every map whose values contracts see whole.
-ghost use Rattle.std.specs.Prelude.{◌≡◌, List, ℕ, Some, None, OnOk, OnErr, cond};
+ghost use Rattle.std.specs.Prelude.{◌≡◌, List, ℕ, Some, None, IfOk, OnOk, OnErr, cond, map as map_list};
 ghost use Rattle.std.specs.BTreeMap.{is_at};
 ghost use Rattle.std.specs.FinMap as map;
 ghost use Rattle.std.specs.List.{slice_get};
@@ -65,6 +65,19 @@ impl<V> TextMap<V> {
             Some((key, value)) => Some((key.as_str(), value)),
             None => None,
         }
+    }
+}
+
+impl<V> TextMap<V> {
+    /// All entries in byte order of keys.
+    pub fn entries(&self, alloc: Global) -> Result<Vec<(&str, &V)>, NoMemory>
+        ensures { IfOk result (λ es. map_list {B = List ℕ × V} (λ e. (e.0.now, e.1.now)) es.items ≡ map.entries self.now) }
+    {
+        let mut list = Vec::new(alloc);
+        for (key, value) in self.entries.iter() {
+            list.push((key.as_str(), value))?;
+        }
+        Ok(list)
     }
 }
 
