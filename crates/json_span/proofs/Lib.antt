@@ -22,3 +22,6 @@ pub mod Gives
 pub mod Rfc
 pub mod Refusal
 pub mod Unique
+pub mod OneAnswer
+pub mod Utf8
+pub mod Spelled

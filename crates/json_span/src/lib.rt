@@ -13,7 +13,9 @@ mod stop;
 mod string;
 mod text;
 mod tree;
+mod written;
 
 pub use laws::json_laws;
 pub use reader::{JsonFault, read};
 pub use tree::{Field, Fields, Items, Json, Node};
+pub use written::write_string;
