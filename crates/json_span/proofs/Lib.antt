@@ -18,7 +18,6 @@ pub mod Begins
 pub mod Lists
 pub mod MemberLists
 pub mod Gives
-
 pub mod Rfc
 pub mod Refusal
 pub mod Unique

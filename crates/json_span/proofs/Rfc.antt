@@ -131,13 +131,13 @@ mutual
   value_from (by_name (right (left x))) = alone (by_name (right (left (from x refl))))
   value_from (by_name (right (right (left x)))) = alone (by_name (right (right (left (from x refl)))))
   value_from (by_name (right (right (right (left (both (both a (both x b)) (both (right no_byte) (both c (both y d))))))))) =
-      listed (ws_from a) (by_name (right (right (right (left (both (both (one_from x) (rounds (ws_from b) (ws_from c))) (left (one_from y))))))) ) (ws_from d)
+      listed (ws_from a) (by_name (right (right (right (left (both (both (one_from x) (rounds (ws_from b) (ws_from c))) (left (one_from y)))))))) (ws_from d)
   value_from (by_name (right (right (right (left (both (both a (both x b)) (both (left (both w ms)) (both c (both y d))))))))) =
       let i = member_from w in
       let r = members_from ms (ws_from c) i.trail in
       listed (ws_from a) (by_name (right (right (right (left (both (both (one_from x) (ws_from b)) (right (both (both i.before (both i.value_ r.lead)) (both r.items (one_from y)))))))))) (ws_from d)
   value_from (by_name (right (right (right (right (left (both (both a (both x b)) (both (right no_byte) (both c (both y d)))))))))) =
-      listed (ws_from a) (by_name (right (right (right (right (left (both (both (one_from x) (rounds (ws_from b) (ws_from c))) (left (one_from y)))))))) ) (ws_from d)
+      listed (ws_from a) (by_name (right (right (right (right (left (both (both (one_from x) (rounds (ws_from b) (ws_from c))) (left (one_from y))))))))) (ws_from d)
   value_from (by_name (right (right (right (right (left (both (both a (both x b)) (both (left (both w ms)) (both c (both y d)))))))))) =
       let i = value_from w in
       let r = elements_from ms (ws_from c) i.trail in

@@ -1,7 +1,5 @@
 -- Scans put together.
 use Rattle.std.proofs.Common.{◌≡◌, ℕ, ◌+◌, ◌<◌, ◌≤◌, List, [], ◌∷◌, length, drop, get_or, Bool, true, false, ◌||◌, refl, sym, subst, arith, Result, Ok, Err}
-
-
 use Rattle.std.proofs.lemmas.List.{drop_more}
 use Rattle.grammar.specs.Grammar.{Rule, empty, byte, seq, alt, many, named, within}
 use Rattle.grammar.specs.Predict.{begins, first, nullable, Apart, Steers, on_empty, on_both, on_left, on_right, on_end, on_more, on_name, at_byte, at_first, at_second, at_left, at_right, only_right, at_neither, at_named}

@@ -93,7 +93,7 @@ module _ (text : List ℕ) where
         scan.Sees text (first ahead (one (close_of (bracket_of k)))) inner true → Reaches (one (close_of (bracket_of k))) text inner end → Reaches (named value) text at end
     empty_list at inner end e x f y =
         let g : begins (first ahead (seq (item_of (bracket_of k)) (more_of (bracket_of k)))) (drop inner text) ≡ false =
-          scan.not_other (first ahead (one (close_of (bracket_of k)))) (first ahead (seq (item_of (bracket_of k)) (more_of (bracket_of k)))) (close_apart (bracket_of k)) (drop inner text) f in
+        scan.not_other (first ahead (one (close_of (bracket_of k)))) (first ahead (seq (item_of (bracket_of k)) (more_of (bracket_of k)))) (close_apart (bracket_of k)) (drop inner text) f in
         record { forward = omega (arith, x.forward, y.forward); within_text = y.within_text; steers = value_walk (drop at text) (Listed k) (Ok (drop end text)) e (on_both x.steers (on_left g y.steers)) }
 
   module _ (b : Bracket) where

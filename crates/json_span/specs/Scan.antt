@@ -22,7 +22,6 @@ abbrev pub Scans : Rule Name → List ℕ → ℕ → Result ℕ ℕ → Type 0
 Scans r text at (Ok end) = Reaches r text at end
 Scans r text at (Err stop) = Halts r text at stop
 
-
 -- the rule of a class of bytes
 abbrev pub rule_of : Class → Rule Name
 rule_of (One c) = one c

@@ -65,25 +65,37 @@ pub(crate) fn scalar_end(text: &str, at: usize, scalar: Scalar) -> Result<usize,
     ensures { Scans (rule_of_scalar scalar) text.now at result }
 {
     match scalar {
-        Scalar::False => row_end(text, at, &[
-            Class::One(b'f'),
-            Class::One(b'a'),
-            Class::One(b'l'),
-            Class::One(b's'),
-            Class::One(b'e'),
-        ]),
-        Scalar::Null => row_end(text, at, &[
-            Class::One(b'n'),
-            Class::One(b'u'),
-            Class::One(b'l'),
-            Class::One(b'l'),
-        ]),
-        Scalar::True => row_end(text, at, &[
-            Class::One(b't'),
-            Class::One(b'r'),
-            Class::One(b'u'),
-            Class::One(b'e'),
-        ]),
+        Scalar::False => row_end(
+            text,
+            at,
+            &[
+                Class::One(b'f'),
+                Class::One(b'a'),
+                Class::One(b'l'),
+                Class::One(b's'),
+                Class::One(b'e'),
+            ],
+        ),
+        Scalar::Null => row_end(
+            text,
+            at,
+            &[
+                Class::One(b'n'),
+                Class::One(b'u'),
+                Class::One(b'l'),
+                Class::One(b'l'),
+            ],
+        ),
+        Scalar::True => row_end(
+            text,
+            at,
+            &[
+                Class::One(b't'),
+                Class::One(b'r'),
+                Class::One(b'u'),
+                Class::One(b'e'),
+            ],
+        ),
         Scalar::Number => number_end(text, at),
         Scalar::String => string_end(text, at),
     }
@@ -100,7 +112,10 @@ fn begin(text: &str, at: usize, brackets: &mut Vec<Bracket>) -> Result<Place, St
     match kind_at(text, at) {
         Some(Kind::Scalar(scalar)) => {
             let end = scalar_end(text, at, scalar)?;
-            Ok(Place { at: end, wants: false })
+            Ok(Place {
+                at: end,
+                wants: false,
+            })
         }
         Some(Kind::List(bracket)) => open(text, at, bracket, brackets),
         None => Err(Stop::Syntax(at)),
@@ -108,12 +123,7 @@ fn begin(text: &str, at: usize, brackets: &mut Vec<Bracket>) -> Result<Place, St
 }
 
 // Reads on where a list begins.
-fn open(
-    text: &str,
-    at: usize,
-    bracket: Bracket,
-    brackets: &mut Vec<Bracket>,
-) -> Result<Place, Stop>
+fn open(text: &str, at: usize, bracket: Bracket, brackets: &mut Vec<Bracket>) -> Result<Place, Stop>
     requires within { at < length text.now }
     requires opens { begins (first ahead (list_of (bracket_of bracket))) (drop at text.now) ≡ true }
     ensures leads { IfOk result (λ p. Leads text.now (left_of true brackets.old.items) at (left_of p.wants brackets.new.items) p.at) }

@@ -62,16 +62,20 @@ fn behind_d_end(text: &str, at: usize) -> Result<usize, usize>
     if has(text, at, Class::BelowHigh) {
         row_end(text, at, &[Class::BelowHigh, Class::Hex, Class::Hex])
     } else {
-        row_end(text, at, &[
-            Class::High,
-            Class::Hex,
-            Class::Hex,
-            Class::One(b'\\'),
-            Class::One(b'u'),
-            Class::D,
-            Class::Low,
-            Class::Hex,
-            Class::Hex,
-        ])
+        row_end(
+            text,
+            at,
+            &[
+                Class::High,
+                Class::Hex,
+                Class::Hex,
+                Class::One(b'\\'),
+                Class::One(b'u'),
+                Class::D,
+                Class::Low,
+                Class::Hex,
+                Class::Hex,
+            ],
+        )
     }
 }

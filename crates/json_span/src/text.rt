@@ -26,11 +26,7 @@ pub(crate) struct Quoted<'s> {
 }
 
 /// The string that stands there.
-pub(crate) fn read_string<'s>(
-    alloc: Global,
-    text: &'s str,
-    at: usize,
-) -> Result<Quoted<'s>, Stop>
+pub(crate) fn read_string<'s>(alloc: Global, text: &'s str, at: usize) -> Result<Quoted<'s>, Stop>
     requires { at ≤ length text.now }
     ensures reads { IfOk result (λ q. Reaches (named string) text.entry.now at q.end) }
     ensures characters { IfOk result (λ q. StringAt (drop at text.entry.now) q.text (drop q.end text.entry.now)) }

@@ -52,8 +52,8 @@ pub struct Field<'s> {
     pub node: Node<'s>,
 }
 
-// The i-th of some items.
-fn item_at<T>(items: &[T], i: usize) -> Option<&T>
+/// The i-th of some items.
+pub(crate) fn item_at<T>(items: &[T], i: usize) -> Option<&T>
     ensures { option_map (λ x. x.now) result ≡ slice_get items.now i }
 {
     items.get(i)

@@ -34,7 +34,7 @@ build_array-loop-items-init t c = record {
 }
 
 pub build_array-returns-in_err-node-clause-stop : goal.build_array-returns-in_err-node-clause-stop
-build_array-returns-in_err-node-clause-stop t c = 
+build_array-returns-in_err-node-clause-stop t c =
     let T = c.args.text.now in
     let l = c.loop-items in
     let nothing = skip.reach_nothing T l.next l.invariant.within in
@@ -42,7 +42,7 @@ build_array-returns-in_err-node-clause-stop t c =
     rw (p.1, p.2) (list.bad_value T square c.args.at l.next l.invariant.leads l.next c.in_err-node.field-0.0 nothing c.in_err-node.ensures.stop)
 
 pub build_array-returns-in_err-end-in-Flawed-clause-stop : goal.build_array-returns-in_err-end-in-Flawed-clause-stop
-build_array-returns-in_err-end-in-Flawed-clause-stop t c = 
+build_array-returns-in_err-end-in-Flawed-clause-stop t c =
     let T = c.args.text.now in
     let l = c.loop-items in
     let nothing = skip.reach_nothing T l.next l.invariant.within in
@@ -51,7 +51,7 @@ build_array-returns-in_err-end-in-Flawed-clause-stop t c =
     rw (p.1, p.2) (list.bad_rest T square c.args.at l.next l.invariant.leads l.next c.in-Flawed.end c.in_err-end-in-Flawed.field-0.0 nothing b.reads c.in_err-end-in-Flawed.ensures.stop)
 
 pub build_array-returns-in-Flawed-clause-ok : goal.build_array-returns-in-Flawed-clause-ok
-build_array-returns-in-Flawed-clause-ok t c = 
+build_array-returns-in-Flawed-clause-ok t c =
     let T = c.args.text.now in
     let l = c.loop-items in
     let nothing = skip.reach_nothing T l.next l.invariant.within in
@@ -59,7 +59,7 @@ build_array-returns-in-Flawed-clause-ok t c =
     gives.array_flawed T c.args.at c.args.inner c.args.room c.requires.1.1 l.next l.invariant.leads (items_view l.items) l.invariant.elements l.invariant.within c.in-Flawed.flaw c.in-Flawed.end c.in_ok-end-in-Flawed.end b c.in_ok-end-in-Flawed.ensures.end
 
 pub build_array-returns-in_err-item-clause-stop : goal.build_array-returns-in_err-item-clause-stop
-build_array-returns-in_err-item-clause-stop t c = 
+build_array-returns-in_err-item-clause-stop t c =
     let T = c.args.text.now in
     let l = c.loop-items in
     let nothing = skip.reach_nothing T l.next l.invariant.within in
@@ -68,7 +68,7 @@ build_array-returns-in_err-item-clause-stop t c =
     rw (p.1, p.2) (list.bad_rest T square c.args.at l.next l.invariant.leads l.next c.in-Whole.node.end (Syntax c.in_err-item.field-0.0) nothing b.reads c.in_err-item.ensures.stop)
 
 pub build_array-loop-items-preserved : goal.build_array-loop-items-preserved
-build_array-loop-items-preserved t c = 
+build_array-loop-items-preserved t c =
     let T = c.args.text.now in
     let l = c.loop-items in
     let nothing = skip.reach_nothing T l.next l.invariant.within in
@@ -78,7 +78,7 @@ build_array-loop-items-preserved t c =
     record { within = h; leads = leads; elements = left }
 
 pub build_array-loop-items-smaller : goal.build_array-loop-items-smaller
-build_array-loop-items-smaller t c = 
+build_array-loop-items-smaller t c =
     let T = c.args.text.now in
     let l = c.loop-items in
     let nothing = skip.reach_nothing T l.next l.invariant.within in
@@ -88,7 +88,7 @@ build_array-loop-items-smaller t c =
     omega arith
 
 pub build_array-returns-in-Closed-clause-ok : goal.build_array-returns-in-Closed-clause-ok
-build_array-returns-in-Closed-clause-ok t c = 
+build_array-returns-in-Closed-clause-ok t c =
     let T = c.args.text.now in
     let l = c.loop-items in
     let nothing = skip.reach_nothing T l.next l.invariant.within in
@@ -100,13 +100,13 @@ pub build_list-returns-then-room-eq0-clause-ok : goal.build_list-returns-then-ro
 build_list-returns-then-room-eq0-clause-ok t c = gives.gives_deep (bracket_of c.args.bracket) c.args.text.now c.args.at c.args.room c.in_ok-end.end c.if-room-eq0.true (omega (arith, c.requires.1.1.0)) c.requires.1.1.1 c.in_ok-end.ensures.end
 
 pub build_list-returns-then-has-clause-ok : goal.build_list-returns-then-has-clause-ok
-build_list-returns-then-has-clause-ok t c = 
+build_list-returns-then-has-clause-ok t c =
     let T = c.args.text.now in
     gives.gives_empty c.args.bracket T c.args.at c.blanks_end-inner.result c.args.room c.empty_list.result c.if-room-eq0.false c.requires.1.1.0 c.requires.1.1.1 c.blanks_end-inner.ensures c.if-has.ensures.bound
     (skip.close_sees T [] c.args.bracket (rule_of c.close.result) c.blanks_end-inner.result true c.close.ensures (sym c.if-has.ensures.test)) c.empty_list.ensures
 
 pub build_list-build_array-requires : goal.build_list-build_array-requires
-build_list-build_array-requires t c = 
+build_list-build_array-requires t c =
     let T = c.args.text.now in
     let o : Opens (bracket_of c.args.bracket) T c.args.at c.blanks_end-inner.result = record {
       bound = c.requires.1.1.0;
@@ -117,7 +117,7 @@ build_list-build_array-requires t c =
     (search rules, subst (λ z. Opens (bracket_of z) T c.args.at c.blanks_end-inner.result) c.in-Square.is o)
 
 pub build_list-build_object-requires : goal.build_list-build_object-requires
-build_list-build_object-requires t c = 
+build_list-build_object-requires t c =
     let T = c.args.text.now in
     let o : Opens (bracket_of c.args.bracket) T c.args.at c.blanks_end-inner.result = record {
       bound = c.requires.1.1.0;
@@ -136,14 +136,14 @@ build_object-loop-names-init t c = record {
 }
 
 pub build_object-returns-in_err-name-clause-stop : goal.build_object-returns-in_err-name-clause-stop
-build_object-returns-in_err-name-clause-stop t c = 
+build_object-returns-in_err-name-clause-stop t c =
     let T = c.args.text.now in
     let l = c.loop-names in
     let p = err_from_is_err_and c.from_residual.result c.from_residual.ensures.1 in
     rw (p.1, p.2) (list.bad_name T c.args.at l.next l.invariant.leads c.in_err-name.field-0.0 c.in_err-name.ensures.stop)
 
 pub build_object-returns-in_err-value-clause-stop : goal.build_object-returns-in_err-value-clause-stop
-build_object-returns-in_err-value-clause-stop t c = 
+build_object-returns-in_err-value-clause-stop t c =
     let T = c.args.text.now in
     let l = c.loop-names in
     let name = c.in_ok-name.name in
@@ -151,7 +151,7 @@ build_object-returns-in_err-value-clause-stop t c =
     rw (p.1, p.2) (list.bad_colon T c.args.at l.next name.end l.invariant.leads c.in_err-value.field-0.0 c.in_ok-name.ensures.reads c.in_err-value.ensures)
 
 pub build_object-returns-in_err-end-clause-stop : goal.build_object-returns-in_err-end-clause-stop
-build_object-returns-in_err-end-clause-stop t c = 
+build_object-returns-in_err-end-clause-stop t c =
     let T = c.args.text.now in
     let l = c.loop-names in
     let name = c.in_ok-name.name in
@@ -160,7 +160,7 @@ build_object-returns-in_err-end-clause-stop t c =
     rw (p.1, p.2) (list.bad_value T curly c.args.at l.next l.invariant.leads c.in_ok-value.value c.in_err-end.field-0.0 before c.in_err-end.ensures.stop)
 
 pub build_object-returns-in_err-end-2-clause-stop : goal.build_object-returns-in_err-end-2-clause-stop
-build_object-returns-in_err-end-2-clause-stop t c = 
+build_object-returns-in_err-end-2-clause-stop t c =
     let T = c.args.text.now in
     let l = c.loop-names in
     let name = c.in_ok-name.name in
@@ -169,7 +169,7 @@ build_object-returns-in_err-end-2-clause-stop t c =
     rw (p.1, p.2) (list.bad_rest T curly c.args.at l.next l.invariant.leads c.in_ok-value.value c.in_ok-end.end c.in_err-end-2.field-0.0 before c.in_ok-end.ensures.end c.in_err-end-2.ensures.stop)
 
 pub build_object-returns-then-not-branch-clause-ok : goal.build_object-returns-then-not-branch-clause-ok
-build_object-returns-then-not-branch-clause-ok t c = 
+build_object-returns-then-not-branch-clause-ok t c =
     let T = c.args.text.now in
     let l = c.loop-names in
     let name = c.in_ok-name.name in
@@ -178,7 +178,7 @@ build_object-returns-then-not-branch-clause-ok t c =
     gives.object_again T c.args.at c.args.inner c.args.room c.requires.1.1 l.next l.invariant.leads (fields_view l.fields) l.invariant.members l.invariant.within name.text name.end c.in_ok-value.value c.in_ok-name.ensures.reads c.in_ok-name.ensures.characters c.in_ok-value.ensures c.in_ok-end.end c.in_ok-end-2.end again c.in_ok-end.ensures.end c.in_ok-end-2.ensures.end
 
 pub build_object-returns-in_err-node-clause-stop : goal.build_object-returns-in_err-node-clause-stop
-build_object-returns-in_err-node-clause-stop t c = 
+build_object-returns-in_err-node-clause-stop t c =
     let T = c.args.text.now in
     let l = c.loop-names in
     let name = c.in_ok-name.name in
@@ -187,7 +187,7 @@ build_object-returns-in_err-node-clause-stop t c =
     rw (p.1, p.2) (list.bad_value T curly c.args.at l.next l.invariant.leads c.in_ok-value.value c.in_err-node.field-0.0 before c.in_err-node.ensures.stop)
 
 pub build_object-returns-in_err-end-in-Flawed-clause-stop : goal.build_object-returns-in_err-end-in-Flawed-clause-stop
-build_object-returns-in_err-end-in-Flawed-clause-stop t c = 
+build_object-returns-in_err-end-in-Flawed-clause-stop t c =
     let T = c.args.text.now in
     let l = c.loop-names in
     let name = c.in_ok-name.name in
@@ -197,7 +197,7 @@ build_object-returns-in_err-end-in-Flawed-clause-stop t c =
     rw (p.1, p.2) (list.bad_rest T curly c.args.at l.next l.invariant.leads c.in_ok-value.value c.in-Flawed.end c.in_err-end-in-Flawed.field-0.0 before b.reads c.in_err-end-in-Flawed.ensures.stop)
 
 pub build_object-returns-in-Flawed-clause-ok : goal.build_object-returns-in-Flawed-clause-ok
-build_object-returns-in-Flawed-clause-ok t c = 
+build_object-returns-in-Flawed-clause-ok t c =
     let T = c.args.text.now in
     let l = c.loop-names in
     let name = c.in_ok-name.name in
@@ -207,7 +207,7 @@ build_object-returns-in-Flawed-clause-ok t c =
     gives.object_flawed T c.args.at c.args.inner c.args.room c.requires.1.1 l.next l.invariant.leads (fields_view l.fields) l.invariant.members l.invariant.within name.text name.end c.in_ok-value.value c.in_ok-name.ensures.reads c.in_ok-name.ensures.characters c.in_ok-value.ensures c.in-Flawed.flaw c.in-Flawed.end c.in_ok-end-in-Flawed.end new b c.in_ok-end-in-Flawed.ensures.end
 
 pub build_object-returns-in_err-item-clause-stop : goal.build_object-returns-in_err-item-clause-stop
-build_object-returns-in_err-item-clause-stop t c = 
+build_object-returns-in_err-item-clause-stop t c =
     let T = c.args.text.now in
     let l = c.loop-names in
     let name = c.in_ok-name.name in
@@ -217,7 +217,7 @@ build_object-returns-in_err-item-clause-stop t c =
     rw (p.1, p.2) (list.bad_rest T curly c.args.at l.next l.invariant.leads c.in_ok-value.value c.in-Whole.node.end (Syntax c.in_err-item.field-0.0) before b.reads c.in_err-item.ensures.stop)
 
 pub build_object-loop-names-preserved : goal.build_object-loop-names-preserved
-build_object-loop-names-preserved t c = 
+build_object-loop-names-preserved t c =
     let T = c.args.text.now in
     let l = c.loop-names in
     let name = c.in_ok-name.name in
@@ -235,7 +235,7 @@ build_object-loop-names-preserved t c =
     }
 
 pub build_object-loop-names-smaller : goal.build_object-loop-names-smaller
-build_object-loop-names-smaller t c = 
+build_object-loop-names-smaller t c =
     let T = c.args.text.now in
     let l = c.loop-names in
     let name = c.in_ok-name.name in
@@ -247,7 +247,7 @@ build_object-loop-names-smaller t c =
     omega arith
 
 pub build_object-returns-in-Closed-clause-ok : goal.build_object-returns-in-Closed-clause-ok
-build_object-returns-in-Closed-clause-ok t c = 
+build_object-returns-in-Closed-clause-ok t c =
     let T = c.args.text.now in
     let l = c.loop-names in
     let name = c.in_ok-name.name in
@@ -258,13 +258,13 @@ build_object-returns-in-Closed-clause-ok t c =
     gives.object_whole T c.args.at c.args.inner c.args.room c.requires.1.1 l.next l.invariant.leads (fields_view l.fields) l.invariant.members l.invariant.within name.text name.end c.in_ok-value.value c.in_ok-name.ensures.reads c.in_ok-name.ensures.characters c.in_ok-value.ensures c.in-Whole.node c.object.result (fields_view c.push.new.self) c.in-Closed.end new b close c.in_ok-push.ensures.ok c.object.ensures
 
 pub build_value-returns-in_err-plain-in-Some-Scalar-clause-stop : goal.build_value-returns-in_err-plain-in-Some-Scalar-clause-stop
-build_value-returns-in_err-plain-in-Some-Scalar-clause-stop t c = 
+build_value-returns-in_err-plain-in-Some-Scalar-clause-stop t c =
     let T = c.args.text.now in
     let p = err_from_is_err_and c.from_residual.result c.from_residual.ensures.1 in
     rw (p.1, p.2) (value_stops T c.args.at (Scalar c.in-Some-Scalar.scalar) c.in_err-plain-in-Some-Scalar.field-0.0 (rw c.in-Some-Scalar.field-0-is at c.in-Some-Scalar.ensures.found) c.in_err-plain-in-Some-Scalar.ensures.stop)
 
 pub build_value-returns-in_ok-plain-in-Some-Scalar-clause-ok : goal.build_value-returns-in_ok-plain-in-Some-Scalar-clause-ok
-build_value-returns-in_ok-plain-in-Some-Scalar-clause-ok t c = 
+build_value-returns-in_ok-plain-in-Some-Scalar-clause-ok t c =
     let T = c.args.text.now in
     let r = c.in_ok-plain-in-Some-Scalar.plain in
     gives.gives_scalar c.in-Some-Scalar.scalar T c.args.at c.args.room r.value r.end c.requires.1.1 c.in_ok-plain-in-Some-Scalar.ensures.ok

@@ -44,7 +44,7 @@ loop-characters-preserved c =
     let e : E ≡ drop plain T = string.rest_slice T B plain c.as_bytes.ensures.value in
     let boundary = string.escape_boundary T E plain len c.utf8.text e x.within_text c.read_escape-escaped.ensures.some c.read_escape-escaped.ensures.within c.read_escape-escaped.ensures.ascii in
     let bytes : string_bytes c.push.new.self ≡ (string_bytes c.loop-characters.characters ++ slice_range T at plain) ++ encode_utf8 c.read_escape-escaped.result.character =
-      c.in_ok-push.ensures.bytes ∙ ap (λ z. z ++ encode_utf8 c.read_escape-escaped.result.character) (c.in_ok-push_str.ensures.bytes ∙ ap (λ z. string_bytes c.loop-characters.characters ++ z) c.range.ensures.value) in (
+    c.in_ok-push.ensures.bytes ∙ ap (λ z. z ++ encode_utf8 c.read_escape-escaped.result.character) (c.in_ok-push_str.ensures.bytes ∙ ap (λ z. string_bytes c.loop-characters.characters ++ z) c.range.ensures.value) in (
       boundary.0,
       boundary,
       λ s u k.

@@ -1,0 +1,51 @@
+-- The data that a plain value of the code stands for. A number is kept as its spelling.
+use Rattle.std.specs.Prelude.{ℕ, List, map}
+use Rattle.json_span.specs.Plain as data_
+use Rattle.json_span.specs.Plain.{plain_null, plain_boolean, plain_number, plain_string, plain_array, plain_object, PlainEntry, plains_of, plain_members_of}
+use Rattle.json_span.specs.declared.plain.Plain.{Plain}
+use Rattle.json_span.specs.declared.plain.PlainField.{PlainField}
+use Rattle.json_span.specs.declared.plain.PlainItems.{PlainItems}
+use Rattle.json_span.specs.declared.plain.PlainFields.{PlainFields}
+use Rattle.json_span.specs.declared.plain.Plain.TheOpen.{Plain-F, PlainField-F, PlainItems-F, PlainFields-F}
+use Rattle.json_span.specs.declared.plain.Plain.TheFolds.{fold-Plain}
+use Rattle.json_span.specs.declared.plain.Plain.TheViews.{out-PlainFields}
+
+abbrev pub Value : Type 0
+Value = data_.Plain (List ℕ)
+
+abbrev pub Entry : Type 0
+Entry = PlainEntry (List ℕ)
+
+-- one level of each type: the enum, then the structs by name
+abbrev pub plain_step : Plain-F Value Entry (List Entry) (List Value) → Value
+plain_step Plain-F.Null = plain_null
+plain_step (Plain-F.Bool b) = plain_boolean b
+plain_step (Plain-F.Num s) = plain_number s.now
+plain_step (Plain-F.Str t) = plain_string t
+plain_step (Plain-F.Arr items) = plain_array (plains_of items)
+plain_step (Plain-F.Obj fields) = plain_object (plain_members_of fields)
+
+abbrev pub field_step : PlainField-F Value Entry (List Entry) (List Value) → Entry
+field_step f = record { name = f.name; value = f.value }
+
+abbrev pub fields_step : PlainFields-F Value Entry (List Entry) (List Value) → List Entry
+fields_step f = f.list.items
+
+abbrev pub items_step : PlainItems-F Value Entry (List Entry) (List Value) → List Value
+items_step i = i.list.items
+
+-- a value
+abbrev pub plain_view : Plain → Value
+plain_view = fold-Plain Value Entry (List Entry) (List Value) plain_step field_step fields_step items_step
+
+-- a member
+abbrev pub plain_field_view : PlainField → Entry
+plain_field_view f = record { name = f.name; value = plain_view f.value }
+
+-- the elements of an array
+abbrev pub plain_items_view : PlainItems → List Value
+plain_items_view i = map plain_view i.list.items
+
+-- the members of an object
+abbrev pub plain_fields_view : PlainFields → List Entry
+plain_fields_view f = map plain_field_view (out-PlainFields f).list.items

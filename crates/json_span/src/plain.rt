@@ -1,0 +1,110 @@
+//! JSON values without the places where they stand.
+
+ghost use Rattle.std.specs.Prelude.{◌≡◌, [], ◌∷◌, ◌++◌, length, slice_get, option_map, OnOk, OnErr};
+ghost use Rattle.json_span.specs.PlainView.{plain_view, plain_field_view, plain_items_view, plain_fields_view};
+
+use crate::tree::item_at;
+use std::alloc::Global;
+use tk_io::{NoMemory, Text};
+
+/// A value of RFC 8259. Numbers are kept as they are spelled.
+#[derive(Drop)]
+#[cycle(plain)]
+pub enum Plain<'s> {
+    Null,
+    Bool(bool),
+    Num(&'s str),
+    Str(Text<'s>),
+    Arr(PlainItems<'s>),
+    Obj(PlainFields<'s>),
+}
+
+/// The elements of an array, in written order.
+#[derive(Drop)]
+#[cycle(plain)]
+pub struct PlainItems<'s> {
+    list: Vec<Plain<'s>>,
+}
+
+/// The members of an object, in written order.
+#[derive(Drop)]
+#[cycle(plain)]
+pub struct PlainFields<'s> {
+    list: Vec<PlainField<'s>>,
+}
+
+/// A member: its name and its value.
+#[derive(Drop)]
+#[cycle(plain)]
+pub struct PlainField<'s> {
+    pub name: Text<'s>,
+    pub value: Plain<'s>,
+}
+
+impl<'s> PlainItems<'s> {
+    /// No elements.
+    pub fn new(alloc: Global) -> PlainItems<'s>
+        ensures { plain_items_view result ≡ [] }
+    {
+        PlainItems {
+            list: Vec::new(alloc),
+        }
+    }
+
+    /// How many elements there are.
+    pub fn len(&self) -> usize
+        ensures { result ≡ length (plain_items_view self.now) }
+    {
+        self.list.as_slice().len()
+    }
+
+    /// The i-th element, counted from 0; none where i is not below the length.
+    pub fn at(&self, i: usize) -> Option<&Plain<'s>>
+        ensures { option_map (λ v. plain_view v.now) result ≡ slice_get (plain_items_view self.now) i }
+    {
+        item_at(self.list.as_slice(), i)
+    }
+
+    /// Adds an element at the end. Where memory runs out it is dropped, and the list stays.
+    pub fn push(&mut self, item: Plain<'s>) -> Result<(), NoMemory>
+        ensures ok { OnOk result (plain_items_view self.new ≡ plain_items_view self.old ++ plain_view item.entry ∷ []) }
+        ensures err { OnErr result (plain_items_view self.new ≡ plain_items_view self.old) }
+    {
+        self.list.push(item)?;
+        Ok(())
+    }
+}
+
+impl<'s> PlainFields<'s> {
+    /// No members.
+    pub fn new(alloc: Global) -> PlainFields<'s>
+        ensures { plain_fields_view result ≡ [] }
+    {
+        PlainFields {
+            list: Vec::new(alloc),
+        }
+    }
+
+    /// How many members there are.
+    pub fn len(&self) -> usize
+        ensures { result ≡ length (plain_fields_view self.now) }
+    {
+        self.list.as_slice().len()
+    }
+
+    /// The i-th member, counted from 0; none where i is not below the length.
+    pub fn at(&self, i: usize) -> Option<&PlainField<'s>>
+        ensures { option_map (λ f. plain_field_view f.now) result ≡ slice_get (plain_fields_view self.now) i }
+    {
+        item_at(self.list.as_slice(), i)
+    }
+
+    /// Adds a member at the end. Where memory runs out it is dropped, and the list stays.
+    pub fn push(&mut self, item: PlainField<'s>) -> Result<(), NoMemory>
+        ensures ok { OnOk result (plain_fields_view self.new ≡ plain_fields_view self.old ++ plain_field_view item.entry ∷ []) }
+        ensures err { OnErr result (plain_fields_view self.new ≡ plain_fields_view self.old) }
+    {
+        self.list.push(item)?;
+        Ok(())
+    }
+}
