@@ -1,9 +1,8 @@
 -- Where the reader stops, the text has no reading, and its longest front ends.
-use Rattle.std.proofs.Common.{◌≡◌, ℕ, ◌<◌, ◌≤◌, List, [], length, drop, refl, sym, ap, ◌∙◌, subst, inl, inr, arith, Some, None}
+use Rattle.std.proofs.Common.{◌≡◌, ℕ, ◌<◌, ◌≤◌, List, length, drop, refl, sym, ap, ◌∙◌, subst, inl, inr}
 use Rattle.std.proofs.lemmas.List.{drop_all}
-use Rattle.std.specs.Prelude.{◌⊎◌}
-use Rattle.grammar.specs.Grammar.{seq, named, Reads}
-use Rattle.grammar.specs.Predict.{Steers, on_both, at_first, at_second}
+use Rattle.grammar.specs.Grammar.{named, Reads}
+use Rattle.grammar.specs.Predict.{on_both, at_first, at_second}
 use Rattle.grammar.specs.Stop.{Stops, Refuses}
 use Rattle.grammar.proofs.Tables.{passes_from}
 use Rattle.grammar.proofs.Refusals.{refuses}

@@ -1,15 +1,15 @@
 -- A text shows one value.
-use Rattle.std.proofs.Common.{◌≡◌, ℕ, List, [], ◌∷◌, ◌++◌, length, Bool, true, false, ◌||◌, refl, sym, ap, ◌∙◌, subst, inl, inr, arith, Option, Some, None}
+use Rattle.std.proofs.Common.{◌≡◌, ℕ, List, [], ◌∷◌, ◌++◌, length, Bool, true, false, ◌||◌, refl, sym, ap, ◌∙◌, subst, arith, Option, Some, None}
 use Rattle.std.proofs.lemmas.List.{append_cancel_right}
 use Rattle.std.proofs.lemmas.Bool.Decides.{nat_tests}
-use Rattle.grammar.specs.Grammar.{Rule, seq, alt, many, named, within, Reads, Derives, no_byte, one_byte, both, left, right, no_more, more, by_name}
+use Rattle.grammar.specs.Grammar.{Rule, seq, alt, named, within, Reads, Derives, no_byte, one_byte, both, left, right, no_more, more, by_name}
 use Rattle.grammar.specs.Ranges.{is_steered}
-use Rattle.grammar.specs.Predict.{begins, first, more_in, Apart, IsSteered, nullable}
+use Rattle.grammar.specs.Predict.{begins, first, more_in, Apart, IsSteered}
 use Rattle.grammar.proofs.Predicts.{same_end, parted}
 use Rattle.grammar.proofs.Tables.{steered_from}
 use Rattle.json_span.specs.Grammar.{Name, value, number, string, ws, one}
 use Rattle.json_span.specs.Steered.{Bracket, square, curly, rules, table, ahead, token, open_of, before_of, item_of, more_of, inside_of, list_of, json}
-use Rattle.json_span.specs.Tree.{Tree, a_null, a_boolean, a_number, a_string, an_array, an_object, Placed, placed, Elements, no_elements, element, Members, no_members, member}
+use Rattle.json_span.specs.Tree.{Tree, a_null, a_boolean, a_number, a_string, an_array, an_object, Placed, placed, Elements, element, Members, member}
 use Rattle.json_span.specs.Reading.{StringAt, BeginsAt, Value, value_at, Shape, null_shape, false_shape, true_shape, number_shape, string_shape, array_shape, object_shape, ElementsAt, no_element, first_element, MoreElements, last_element, next_element, MemberAt, member_at, MembersAt, no_member, first_member, MoreMembers, last_member, next_member, Shows}
 use Rattle.json_span.specs.Characters.{Content}
 use Rattle.json_span.specs.Kinds.{kind_of}
