@@ -24,3 +24,4 @@ pub mod Unique
 pub mod OneAnswer
 pub mod Utf8
 pub mod Spelled
+pub mod Answered

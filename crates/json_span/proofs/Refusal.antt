@@ -24,7 +24,7 @@ use Rattle.json_span.specs.declared.build.Flaw.TheVariants.{Dup, Deep}
 use Rattle.json_span.proofs.Steered.{honest_json, steered_json, spelled, passes}
 use Rattle.json_span.proofs.Rfc.{refuses_to}
 
-refusal : (text : List ℕ) (at : ℕ) → Stops rules ahead json text at → Refuses grammar json_text text at
+pub refusal : (text : List ℕ) (at : ℕ) → Stops rules ahead json text at → Refuses grammar json_text text at
 refusal text at h = refuses_to text at (refuses rules ahead honest_json spelled passes json text at (passes_from json refl) steered_json h)
 
 refused : (text : List ℕ) (f : declared.Flaw) → IsAnswer text (flawed (flaw_view f)) → IsRefusal text (fault_of f)

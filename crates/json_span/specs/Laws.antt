@@ -21,3 +21,7 @@ ShowsOne = (text : List ℕ) (n m : Placed) → Shows text n → Shows text m �
 -- a text has at most one answer
 abbrev pub OneAnswer : Type 0
 OneAnswer = (text : List ℕ) (a b : Answer) → IsAnswer text a → IsAnswer text b → a ≡ b
+
+-- each text has an answer
+abbrev pub EachHasAnswer : Type 0
+EachHasAnswer = (text : List ℕ) → (a : Answer) × IsAnswer text a
