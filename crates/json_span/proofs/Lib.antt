@@ -25,3 +25,5 @@ pub mod OneAnswer
 pub mod Utf8
 pub mod Spelled
 pub mod Answered
+pub mod Cut
+pub mod Slices

@@ -1,12 +1,15 @@
 //! Laws over the definitions alone, for the layers above.
 
 ghost use Rattle.json_span.specs.Laws.{TextsShow, FrontsArePrefixes, ShowsOne, OneAnswer, EachHasAnswer};
+ghost use Rattle.json_span.specs.Parts.{SlicesShow};
 
 /// The texts that show a value are those of RFC 8259, each shows one, and each text has one answer, neither more nor less.
+/// The slice of a part, read by itself, shows the part with its start taken off its offsets.
 pub fn json_laws()
     ensures texts { TextsShow }
     ensures fronts { FrontsArePrefixes }
     ensures one { ShowsOne }
     ensures answer { OneAnswer }
     ensures answered { EachHasAnswer }
+    ensures slices { SlicesShow }
 {}

@@ -3,6 +3,7 @@ use Rattle.json_span.specs.Grammar.{grammar}
 use Rattle.json_span.proofs.Rfc.{rfc_goes_on}
 use Rattle.json_span.proofs.Unique.{shows_one}
 use Rattle.json_span.proofs.Answered.{answered}
+use Rattle.json_span.proofs.Slices.{slices_show}
 use Rattle.json_span.proofs.OneAnswer.{text_shows, shows_text, one_answer}
 use Rattle.json_span.proofs.laws.json_laws.Goals as goal
 
@@ -13,4 +14,5 @@ returns c = record {
   one = shows_one;
   answer = one_answer;
   answered = answered;
+  slices = slices_show;
 }
