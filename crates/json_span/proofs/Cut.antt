@@ -28,4 +28,3 @@ reads_cut {t = t} {u = u} (right x) = cut_map t u (λ a b p. right p) (reads_cut
 reads_cut no_more = record { front = []; joined = refl; reads = λ s. no_more }
 reads_cut {t = t} {u = u} (more {u = m} x y) = cut_both t m u (λ a b c p q. more p q) (reads_cut x) (reads_cut y)
 reads_cut {t = t} {u = u} (by_name x) = cut_map t u (λ a b p. by_name p) (reads_cut x)
-

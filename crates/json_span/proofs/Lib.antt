@@ -27,3 +27,4 @@ pub mod Spelled
 pub mod Answered
 pub mod Cut
 pub mod Slices
+pub mod Saying

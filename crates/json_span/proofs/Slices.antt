@@ -17,17 +17,17 @@ use Rattle.json_span.proofs.Exists.{front_of, value_of}
 use Rattle.json_span.proofs.Strings.{cut_at}
 use Rattle.json_span.proofs.Unique.{value_reads, more_elements_read, more_members_read, value_unique, after_value, behind_element, behind_member}
 
-frame : {r : Rule Name} {t u : List ℕ} → Reads rules r t u → (x : List ℕ) → Reads rules r (t ++ x) (u ++ x)
+pub frame : {r : Rule Name} {t u : List ℕ} → Reads rules r t u → (x : List ℕ) → Reads rules r (t ++ x) (u ++ x)
 frame y x = widen rules y x
 
-content_frame : {t q u : List ℕ} → Content t q u → (s : List ℕ) → Content (t ++ s) q (u ++ s)
+pub content_frame : {t q u : List ℕ} → Content t q u → (s : List ℕ) → Content (t ++ s) q (u ++ s)
 content_frame (closes e) s = closes e
 content_frame (plain e x) s = plain e (content_frame x s)
 content_frame (short e f x) s = short e f (content_frame x s)
 content_frame (scalar a b c d x) s = scalar a b c d (content_frame x s)
 content_frame (pair a b c d e f g h x) s = pair a b c d e f g h (content_frame x s)
 
-string_frame : {t q u : List ℕ} → StringAt t q u → (s : List ℕ) → StringAt (t ++ s) q (u ++ s)
+pub string_frame : {t q u : List ℕ} → StringAt t q u → (s : List ℕ) → StringAt (t ++ s) q (u ++ s)
 string_frame x s = record { reads = frame x.reads s; inner = x.inner ++ s; quoted = ap (λ z. z ++ s) x.quoted; content = content_frame x.content s }
 
 place : (d total start : ℕ) (t x : List ℕ) → BeginsAt total t start → BeginsAt (d + total + length x) (t ++ x) (d + start)
@@ -144,5 +144,5 @@ slices_show text root n (t0, m0, b, v, c) i =
     let behind : drop (end_of n) text ≡ p.rest = drop_front text (p.front ++ k) p.rest (end_of n) (p.joined ∙ ap (λ z. p.front ++ z) x.joined ∙ sym (append_assoc p.front k p.rest)) (ends_at p.value_) in
     let forward : d ≤ end_of n = omega (arith, lengths, starts_at p.value_, ends_at p.value_) in
     let slice : slice_range text d (end_of n) ≡ k = append_cancel_right (slice_range text d (end_of n)) k p.rest
-        (ap (λ z. slice_range text d (end_of n) ++ z) (sym behind) ∙ sym (cut_at text d (end_of n) forward) ∙ before ∙ x.joined) in
+    (ap (λ z. slice_range text d (end_of n) ++ z) (sym behind) ∙ sym (cut_at text d (end_of n) forward) ∙ before ∙ x.joined) in
     (m, subst (λ z. Shows z m) (sym slice) (k, [], no_more, w, no_more), sym same)

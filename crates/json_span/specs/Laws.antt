@@ -5,6 +5,8 @@ use Rattle.json_span.specs.Grammar.{grammar, json_text}
 use Rattle.json_span.specs.Tree.{Placed}
 use Rattle.json_span.specs.Reading.{Shows}
 use Rattle.json_span.specs.Answer.{Answer, IsAnswer}
+use Rattle.json_span.specs.Plain.{Plain}
+use Rattle.json_span.specs.Says.{Says, SaysText, plain_of}
 
 -- a text is a JSON text of RFC 8259 exactly where it shows a value
 abbrev pub TextsShow : Type 0
@@ -25,3 +27,10 @@ OneAnswer = (text : List ℕ) (a b : Answer) → IsAnswer text a → IsAnswer te
 -- each text has an answer
 abbrev pub EachHasAnswer : Type 0
 EachHasAnswer = (text : List ℕ) → (a : Answer) × IsAnswer text a
+
+-- What a text shows it says, for any reading of numbers; and what a value's text says, it says whatever follows.
+abbrev pub ShowsSay : Type 0 → Type 0
+ShowsSay K = (num : List ℕ → K) (text : List ℕ) (n : Placed) → Shows text n → SaysText num text (plain_of num n)
+
+abbrev pub SaysBefore : Type 0 → Type 0
+SaysBefore K = (num : List ℕ → K) (t u : List ℕ) (v : Plain K) → Says num t v u → (rest : List ℕ) → Says num (t ++ rest) v (u ++ rest)
