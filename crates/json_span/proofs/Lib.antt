@@ -28,3 +28,4 @@ pub mod Answered
 pub mod Cut
 pub mod Slices
 pub mod Saying
+pub mod SaidShown

@@ -34,3 +34,10 @@ ShowsSay K = (num : List ℕ → K) (text : List ℕ) (n : Placed) → Shows tex
 
 abbrev pub SaysBefore : Type 0 → Type 0
 SaysBefore K = (num : List ℕ → K) (t u : List ℕ) (v : Plain K) → Says num t v u → (rest : List ℕ) → Says num (t ++ rest) v (u ++ rest)
+
+-- what a text says it shows, and it says one value
+abbrev pub SaysShow : Type 0 → Type 0
+SaysShow K = (num : List ℕ → K) (text : List ℕ) (v : Plain K) → SaysText num text v → (n : Placed) × Shows text n × (plain_of num n ≡ v)
+
+abbrev pub SaysOne : Type 0 → Type 0
+SaysOne K = (num : List ℕ → K) (text : List ℕ) (v w : Plain K) → SaysText num text v → SaysText num text w → v ≡ w
