@@ -1,0 +1,14 @@
+pub mod Scaling
+pub mod Digits
+pub mod Short
+pub mod Laws
+pub mod SameNumber
+pub mod Placed
+pub mod LastDigits
+pub mod Numeral
+pub mod Again
+pub mod Pointed
+pub mod Grammar
+pub mod Exactness
+pub mod Exact
+pub mod Range

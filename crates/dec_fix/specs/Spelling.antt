@@ -1,0 +1,97 @@
+-- JSON numbers as RFC 8259 section 6 spells them, and which number each is.
+use Rattle.std.specs.Prelude.{◌≡◌, ℕ, ◌+◌, ◌-◌, ◌*◌, ◌^◌, ◌<◌, ◌⊎◌, Bool, List, [], ◌∷◌, ◌++◌, length, slice_index, IsTrue, ⊤, if◌then◌else◌}
+use Rattle.std.specs.Str.{all_ascii_digits}
+use Rattle.dec_fix.specs.Decimal.{Decimal, IsSameNumber, signed}
+
+pub data Sign : Type 0 where
+  unsigned : Sign
+  plus : Sign
+  minus : Sign
+
+-- none, or a letter, a sign and digits
+pub data Exponent : Type 0 where
+  none : Exponent
+  power : ℕ → Sign → List ℕ → Exponent
+
+-- the parts of a spelling; a fraction without digits is one that is not there
+pub record Parts : Type 0 where
+  pub negative : Bool
+  pub whole : List ℕ
+  pub fraction : List ℕ
+  pub exponent : Exponent
+
+-- the text of these parts
+abbrev pub minus_text : Bool → List ℕ
+minus_text negative = if negative then 45 ∷ [] else []
+
+abbrev pub fraction_text : List ℕ → List ℕ
+fraction_text [] = []
+fraction_text (d ∷ ds) = 46 ∷ (d ∷ ds)
+
+abbrev pub sign_text : Sign → List ℕ
+sign_text unsigned = []
+sign_text plus = 43 ∷ []
+sign_text minus = 45 ∷ []
+
+abbrev pub exponent_text : Exponent → List ℕ
+exponent_text none = []
+exponent_text (power letter sign ds) = letter ∷ (sign_text sign ++ ds)
+
+abbrev pub text_of : Parts → List ℕ
+text_of p = minus_text p.negative ++ (p.whole ++ (fraction_text p.fraction ++ exponent_text p.exponent))
+
+-- one digit or more
+pub record IsDigits (ds : List ℕ) : Type 0 where
+  pub digits : IsTrue (all_ascii_digits ds)
+  pub some : 0 < length ds
+
+-- digits, where a leading zero stands alone
+pub record IsInt (ds : List ℕ) : Type 0 where
+  pub digits : IsDigits ds
+  pub zero_alone : slice_index ds 0 ≡ 48 → length ds ≡ 1
+
+abbrev pub IsExponent : Exponent → Type 0
+IsExponent none = ⊤
+IsExponent (power letter sign ds) = ((letter ≡ 101) ⊎ (letter ≡ 69)) × IsDigits ds
+
+-- the parts are those of a JSON number
+pub record IsNumber (p : Parts) : Type 0 where
+  pub whole : IsInt p.whole
+  pub fraction : IsTrue (all_ascii_digits p.fraction)
+  pub exponent : IsExponent p.exponent
+
+-- the whole number that digits write behind those of n
+abbrev pub value_after : ℕ → List ℕ → ℕ
+value_after n [] = n
+value_after n (c ∷ t) = value_after (n * 10 + (c - 48)) t
+
+-- the whole number that digits write
+abbrev pub value : List ℕ → ℕ
+value ds = value_after 0 ds
+
+-- the powers of ten by which an exponent multiplies and divides
+abbrev pub power_up : Exponent → ℕ
+power_up none = 0
+power_up (power letter unsigned ds) = value ds
+power_up (power letter plus ds) = value ds
+power_up (power letter minus ds) = 0
+
+abbrev pub power_down : Exponent → ℕ
+power_down none = 0
+power_down (power letter unsigned ds) = 0
+power_down (power letter plus ds) = 0
+power_down (power letter minus ds) = value ds
+
+-- the number that the parts are, of any length
+abbrev pub number_of_parts : Parts → Decimal
+number_of_parts p = record {
+  c = signed p.negative (value (p.whole ++ p.fraction) * 10 ^ power_up p.exponent);
+  s = length p.fraction + power_down p.exponent;
+}
+
+-- the text is a JSON number, and this is the number
+pub record Spells (text : List ℕ) (d : Decimal) : Type 0 where
+  pub parts : Parts
+  pub is_number : IsNumber parts
+  pub spelled : text ≡ text_of parts
+  pub same : IsSameNumber d (number_of_parts parts)

@@ -1,0 +1,94 @@
+//! The type of decimals, and how one is made.
+
+ghost use Rattle.std.specs.Prelude.{◌≡◌, ◌^◌, ◌≤◌, ◌<◌};
+ghost use Rattle.std.specs.Result.{result_ok};
+ghost use Rattle.dec_fix.specs.Decimal.{signed, shortest, decimal_of, IsShort, IsDec};
+ghost use Rattle.dec_fix.specs.Reading.{within};
+
+use std::marker::Model;
+
+/// No number of a JSON number's form is within the bounds and equal to the text.
+#[derive(Clone, Copy, Debug, PartialEq, Eq)]
+pub struct NotDec;
+
+/// A decimal number `c / 10^s`, with as few places `s` as it can have: `s` is 0, or `c` is no multiple of ten. Always
+/// `|c| < 10^33` and `s <= 33`.
+#[derive(Clone, Copy, Debug, PartialEq, Eq)]
+pub struct Dec {
+    c: i128,
+    s: u8,
+}
+
+impl Model for Dec {
+    ghost use Rattle.dec_fix.specs.Decimal.{Decimal, IsDec};
+
+    ghost Value = { Decimal };
+
+    ghost view = { λ d. record { c = d.c; s = d.s } };
+
+    ghost invariant = { λ d. IsDec (record { c = d.c; s = d.s }) };
+
+    ghost inverse = { λ d. record { c = d.c; s = d.s } };
+}
+
+/// No number that is read has this size or more: ten to the power 30.
+pub(crate) const LIMIT: u128 = 1_000_000_000_000_000_000_000_000_000_000;
+
+fn with_sign(negative: bool, size: u128) -> i128
+    requires { size < 2 ^ 127 }
+    ensures { result ≡ signed negative size }
+{
+    let n = size as i128;
+    if negative { -n } else { n }
+}
+
+impl Dec {
+    /// The number of this sign and size, where it is within the bounds of a number that is read.
+    pub(crate) fn within(negative: bool, size: u128, places: u128) -> Result<Dec, NotDec>
+        requires short { IsShort size places }
+        ensures { result_ok result ≡ within negative (size, places) }
+    {
+        if size < LIMIT && places <= 30 {
+            let c = with_sign(negative, size);
+            let s = places as u8;
+            Ok(Dec { c, s })
+        } else {
+            Err(NotDec)
+        }
+    }
+
+    /// The number of this sign and size, where the places are as few as they can be.
+    fn made(negative: bool, size: u128, s: u8) -> Dec
+        requires size { size < 10 ^ 33 }
+        requires places { s ≤ 33 }
+        requires short { IsShort size s }
+        ensures { result ≡ record { c = signed negative size; s = s } }
+    {
+        let c = with_sign(negative, size);
+        Dec { c, s }
+    }
+
+    /// The number of this sign and size.
+    pub(crate) fn shortened(negative: bool, size: u128, places: u8) -> Dec
+        requires size { size < 10 ^ 33 }
+        requires places { places ≤ 33 }
+        ensures { result ≡ decimal_of negative size places }
+    {
+        let mut left = size;
+        let mut s = places;
+        while s > 0 && left % 10 == 0 {
+            left /= 10;
+            s -= 1;
+        }
+        Dec::made(negative, left, s)
+    }
+
+    /// `c` and `s`.
+    pub(crate) fn parts(&self) -> (i128, u8)
+        ensures c { result.0 ≡ self.now.c }
+        ensures s { result.1 ≡ self.now.s }
+        ensures is { IsDec self.now }
+    {
+        (self.c, self.s)
+    }
+}

@@ -1,0 +1,9 @@
+pub mod Codes
+pub mod Cut
+pub mod Delta
+pub mod Files
+pub mod Line
+pub mod Merge
+pub mod Script
+pub mod Shown
+pub mod Stream

@@ -1,0 +1,74 @@
+// Events, and lists of them.
+ghost use Rattle.std.specs.Prelude.{◌≡◌, [], ◌∷◌, ◌++◌, OnOk, OnErr, length};
+ghost use Rattle.std.specs.List.{slice_get};
+ghost use Rattle.std.specs.Option.{option_map};
+ghost use Rattle.edit_script.specs.Shown.{event_of};
+
+use std::alloc::Global;
+use std::marker::Model;
+use tk_io::NoMemory;
+
+/// One event of a script. Paths and texts are slices of the script.
+#[derive(Clone, Copy, Debug, PartialEq, Eq)]
+pub enum Event<'s> {
+    /// The file at this path gets this text.
+    Put(&'s str, &'s str),
+    /// The file at this path is given up.
+    Del(&'s str),
+    /// What stands is committed.
+    Commit,
+}
+
+/// The events of a script, in order.
+#[derive(Drop)]
+pub struct Events<'s> {
+    items: Vec<Event<'s>>,
+}
+
+impl<'s> Model for Events<'s> {
+    ghost use Rattle.std.specs.Prelude.{List, map};
+    ghost use Rattle.std.specs.Coded.{coded_list};
+    ghost use Rattle.edit_script.specs.Codes.{coded_event};
+    ghost use Rattle.edit_script.specs.Script.{EventData};
+    ghost use Rattle.edit_script.specs.Shown.{event_of};
+
+    ghost Value = { List EventData };
+
+    ghost coded = { coded_list coded_event };
+
+    ghost view = { λ e. map event_of e.items.items };
+}
+
+impl<'s> Events<'s> {
+    /// No event.
+    pub fn new(alloc: Global) -> Events<'s>
+        ensures { result ≡ [] }
+    {
+        Events {
+            items: Vec::new(alloc),
+        }
+    }
+
+    /// How many events there are.
+    pub fn len(&self) -> usize
+        ensures { result ≡ length self.now }
+    {
+        self.items.as_slice().len()
+    }
+
+    /// The i-th event, counted from 0; none where i is not below the length.
+    pub fn at(&self, i: usize) -> Option<&Event<'s>>
+        ensures { option_map (λ e. event_of e.now) result ≡ slice_get self.now i }
+    {
+        self.items.as_slice().get(i)
+    }
+
+    /// Adds the event at the end. Where memory runs out the list stays.
+    pub fn push(&mut self, item: Event<'s>) -> Result<(), NoMemory>
+        ensures ok { OnOk result (self.new ≡ self.old ++ event_of item.entry ∷ []) }
+        ensures err { OnErr result (self.new ≡ self.old) }
+    {
+        self.items.push(item)?;
+        Ok(())
+    }
+}

@@ -1,0 +1,87 @@
+// Laws of the definitions, for the crates above: functions that do nothing and are called for what they ensure.
+ghost use Rattle.std.specs.Prelude.{◌≡◌, ℕ, suc, ◌+◌, ◌≤◌, List, [], ◌∷◌, ◌++◌, length, take};
+ghost use Rattle.std.specs.FinMap as map;
+ghost use Rattle.std.specs.List.{concat, flat_map};
+ghost use Rattle.std.specs.Str.{IsUtf8};
+ghost use Rattle.edit_script.specs.Delta.{Held, ChangeData, Delta, IsDelta, AreDeltas, applied, replayed, held_at};
+ghost use Rattle.edit_script.specs.Files.{FilesData, AreFilesAfter, AreFilesAt, up_to, commit_count, whole};
+ghost use Rattle.edit_script.specs.Script.{EventData, put, del, commit, IsScript, IsScriptStop};
+ghost use Rattle.edit_script.specs.declared.line.Line.TheVariants.{StreamHead, Commit as CommitLine, Done};
+ghost use Rattle.edit_script.specs.Stream.{commits_text, line_text, pieces_of, record_of, stream_of, stream_pieces};
+
+/// A script has at most one reading.
+pub fn one_reading()
+    ensures { (bytes : List ℕ) → (es : List EventData) → (fs : List EventData) → IsScript bytes es → IsScript bytes fs → es ≡ fs }
+{}
+
+/// A script is text.
+pub fn script_is_text()
+    ensures { (bytes : List ℕ) → (es : List EventData) → IsScript bytes es → IsUtf8 bytes }
+{}
+
+/// Bytes that are no script are refused at one place.
+pub fn one_stop()
+    ensures { (bytes : List ℕ) → (m : ℕ) → (n : ℕ) → IsScriptStop bytes m → IsScriptStop bytes n → m ≡ n }
+{}
+
+/// The files after no event, and after one event more.
+pub fn one_more_event()
+    ensures none { AreFilesAfter [] map.empty }
+    ensures put { (es : List EventData) → (files : FilesData) → (path : List ℕ) → (text : List ℕ) → AreFilesAfter es files → AreFilesAfter (es ++ put path text ∷ []) (map.insert files path text) }
+    ensures del { (es : List EventData) → (files : FilesData) → (path : List ℕ) → AreFilesAfter es files → AreFilesAfter (es ++ del path ∷ []) (map.remove files path) }
+    ensures commit { (es : List EventData) → (files : FilesData) → AreFilesAfter es files → AreFilesAfter (es ++ commit ∷ []) files }
+{}
+
+/// The files after events are one map.
+pub fn one_map()
+    ensures { (es : List EventData) → (files : FilesData) → (others : FilesData) → AreFilesAfter es files → AreFilesAfter es others → files ≡ others }
+{}
+
+/// The events up to a commit are those before it, and the commit.
+pub fn up_to_commit()
+    ensures { (before : List EventData) → (after : List EventData) → up_to (suc (commit_count before)) (before ++ commit ∷ after) ≡ before ++ commit ∷ [] }
+{}
+
+/// The events with their commits taken out and one at the end: what stands there, and that it is the only commit.
+pub fn whole_events()
+    ensures files { (es : List EventData) → (files : FilesData) → AreFilesAfter es files → AreFilesAt (whole es) 1 files }
+    ensures count { (es : List EventData) → commit_count (whole es) ≡ 1 }
+{}
+
+/// The commits of two lists of events are counted apart.
+pub fn counted_commits()
+    ensures { (xs : List EventData) → (ys : List EventData) → commit_count (xs ++ ys) ≡ commit_count xs + commit_count ys }
+{}
+
+/// There is one delta from some outputs to others.
+pub fn one_delta()
+    ensures { (old : Held) → (new : Held) → (d : Delta) → (e : Delta) → IsDelta old new d → IsDelta old new e → d ≡ e }
+{}
+
+/// A delta makes the new outputs of the old.
+pub fn delta_applies()
+    ensures { (old : Held) → (new : Held) → (d : Delta) → IsDelta old new d → applied (map.entries d) old ≡ new }
+{}
+
+/// The first k deltas make the k-th outputs of what was held before the first of them.
+pub fn deltas_apply()
+    ensures { (before : Held) → (held : List Held) → (ds : List Delta) → (k : ℕ) → AreDeltas before held ds → k ≤ length held → replayed (take k ds) before ≡ held_at before held k }
+{}
+
+/// One more delta.
+pub fn one_more_delta()
+    ensures { (before : Held) → (held : List Held) → (ds : List Delta) → (new : Held) → (d : Delta) → AreDeltas before held ds → IsDelta (held_at before held (length held)) new d → AreDeltas before (held ++ new ∷ []) (ds ++ d ∷ []) }
+{}
+
+/// A stream before its first commit, after one commit more, and at its end.
+pub fn stream_parts()
+    ensures none { (k : ℕ) → commits_text k [] ≡ [] }
+    ensures more { (k : ℕ) → (ds : List Delta) → (d : Delta) → commits_text k (ds ++ d ∷ []) ≡ commits_text k ds ++ line_text (CommitLine (k + length ds)) ++ flat_map record_of (map.entries d) }
+    ensures end { (ds : List Delta) → stream_of ds ≡ line_text StreamHead ++ commits_text 1 ds ++ line_text (Done (length ds)) }
+{}
+
+/// The pieces of a record, and of a stream, one after another, are that record and that stream.
+pub fn pieces_are_whole()
+    ensures records { (c : ChangeData) → concat (pieces_of c) ≡ record_of c }
+    ensures stream { (ds : List Delta) → concat (stream_pieces ds) ≡ stream_of ds }
+{}

@@ -1,0 +1,106 @@
+// The changes from some outputs to others.
+ghost use Rattle.std.specs.Prelude.{◌≡◌, ◌<◌, ◌^◌, T, List, map, ◌++◌, length, None, IfOk, OnOk, MatchOption};
+ghost use Rattle.std.specs.List.{slice_get};
+ghost use Rattle.std.specs.Option.{option_map};
+ghost use Rattle.std.specs.FinMap.{is_sorted};
+ghost use Rattle.std.specs.FinMap as finite;
+ghost use Rattle.tk_io.specs.Order.{text_cmp};
+ghost use Rattle.edit_script.specs.Delta.{Delta, ChangeData, IsDelta};
+ghost use Rattle.edit_script.specs.Merge.{Entries, AreChanges, IsStep, found_changes, shown, shown_entry};
+ghost use Rattle.edit_script.specs.Shown.{with_line};
+
+use crate::record_line::{file_line, gone_line};
+use crate::{Change, Changes};
+use std::alloc::Global;
+use std::cmp::Ordering;
+use tk_io::{NoMemory, Outputs};
+
+/// The changes from the old outputs to the new ones, in byte order of paths: gone where only the old have the path, and
+/// written where only the new have it or have other bytes there. An output that stays as it was has no change. Each
+/// change carries its record's first line.
+pub fn delta<'a>(alloc: Global, old: &'a Outputs, new: &'a Outputs) -> Result<Changes<'a>, NoMemory>
+    ensures { IfOk result (λ cs. (d : Delta) × IsDelta old.entry.now new.entry.now d × (cs ≡ map with_line (finite.entries d))) }
+{
+    let old_entries = old.entries(alloc)?;
+    let new_entries = new.entries(alloc)?;
+    merge(alloc, old_entries.as_slice(), new_entries.as_slice())
+}
+
+// A path with its bytes.
+type Entry<'a> = (&'a str, &'a [u8]);
+
+// The changes from one list of entries in path order to another.
+fn merge<'a>(alloc: Global, old: &[Entry<'a>], new: &[Entry<'a>]) -> Result<Changes<'a>, NoMemory>
+    requires old { T (is_sorted text_cmp (shown old.now)) × (length old.now < 2 ^ 64) }
+    requires new { T (is_sorted text_cmp (shown new.now)) × (length new.now < 2 ^ 64) }
+    ensures { IfOk result (λ cs. (ds : List ChangeData) × AreChanges (shown old.now) (shown new.now) ds × (cs ≡ map with_line ds)) }
+{
+    let mut changes = Changes::new(alloc);
+    let mut i = 0;
+    let mut j = 0;
+    while let Some((found, olds, news)) = first_found(entry_at(old, i), entry_at(new, j)) {
+        add(alloc, &mut changes, found)?;
+        i += olds;
+        j += news;
+    }
+    Ok(changes)
+}
+
+// The i-th entry, counted from 0.
+fn entry_at<'a>(entries: &[Entry<'a>], i: usize) -> Option<Entry<'a>>
+    ensures { result ≡ slice_get entries.now i }
+{
+    entries.get(i).copied()
+}
+
+// What became of a path.
+enum Found<'a> {
+    Same,
+    Gone(&'a str),
+    Written(&'a str, &'a [u8]),
+}
+
+// What became of the first path of two lists of entries, by their first entries, and how many entries of each list have
+// that path; none where both lists are empty.
+fn first_found<'a>(
+    old: Option<Entry<'a>>,
+    new: Option<Entry<'a>>,
+) -> Option<(Found<'a>, usize, usize)>
+    ensures { MatchOption result ((old.entry ≡ None) × (new.entry ≡ None))
+        (λ s. (os : Entries) → (ns : Entries) → slice_get os 0 ≡ option_map shown_entry old.entry → slice_get ns 0 ≡ option_map shown_entry new.entry → IsStep os ns (found_changes s.0) s.1 s.2) }
+{
+    let Some((old_path, old_bytes)) = old else {
+        let (path, bytes) = new?;
+        return Some((Found::Written(path, bytes), 0, 1));
+    };
+    let Some((new_path, new_bytes)) = new else {
+        return Some((Found::Gone(old_path), 1, 0));
+    };
+    match old_path.cmp(new_path) {
+        Ordering::Less => Some((Found::Gone(old_path), 1, 0)),
+        Ordering::Greater => Some((Found::Written(new_path, new_bytes), 0, 1)),
+        Ordering::Equal => {
+            if old_bytes == new_bytes {
+                return Some((Found::Same, 1, 1));
+            }
+            Some((Found::Written(new_path, new_bytes), 1, 1))
+        }
+    }
+}
+
+// Adds the change that was found, with its line.
+fn add<'a>(alloc: Global, changes: &mut Changes<'a>, found: Found<'a>) -> Result<(), NoMemory>
+    ensures { OnOk result (changes.new ≡ changes.old ++ map with_line (found_changes found.entry)) }
+{
+    match found {
+        Found::Same => Ok(()),
+        Found::Gone(path) => {
+            let line = gone_line(alloc, path)?;
+            changes.push(Change::Gone(path, line))
+        }
+        Found::Written(path, bytes) => {
+            let line = file_line(alloc, path, bytes)?;
+            changes.push(Change::Written(path, bytes, line))
+        }
+    }
+}

@@ -1,0 +1,6 @@
+mod Escaping
+mod Joins
+mod Parts
+mod PathMaps
+mod Spellings
+mod Steps

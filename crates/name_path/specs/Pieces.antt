@@ -1,0 +1,24 @@
+-- Texts cut into pieces.
+use Rattle.std.specs.Prelude.{◌≡◌, ◌≢◌, ℕ, List, [], ◌∷◌, ◌++◌, ◌⊎◌, All, map}
+use Rattle.name_path.specs.Reference.{value_step}
+use Rattle.std.specs.Borrow.{Bor}
+
+-- what references to texts point to
+abbrev pub texts_of : List (Bor (List ℕ)) → List (List ℕ)
+texts_of texts = map (λ text. text.now) texts
+
+-- no text holds the byte
+abbrev pub EachLacks : ℕ → List (List ℕ) → Type 0
+EachLacks byte texts = All (λ text. All (λ b. b ≢ byte) text) texts
+
+-- one or more texts without '.'
+abbrev pub ArePlain : List (List ℕ) → Type 0
+ArePlain texts = (texts ≢ []) × EachLacks 46 texts
+
+-- no text is this one
+abbrev pub LacksStep : List ℕ → List (List ℕ) → Type 0
+LacksStep step texts = All (λ text. text ≢ step) texts
+
+-- the steps before the first `$value` and those behind it
+abbrev pub IsCut : List (List ℕ) → List (List ℕ) → List (List ℕ) → Type 0
+IsCut steps before behind = LacksStep value_step before × ((steps ≡ before ++ value_step ∷ behind) ⊎ ((steps ≡ before) × (behind ≡ [])))

@@ -1,0 +1,185 @@
+// Readers of references.
+ghost use Rattle.std.specs.Prelude.{◌≡◌, ◌≢◌, ◌++◌, ◌∷◌, [], ℕ, ◌==◌, ◌<◌, List, All, IfOk, IfSome, IfNone, IsErrOf, MatchOption, map};
+ghost use Rattle.std.specs.List.{slice_split};
+ghost use Rattle.name_path.specs.Names.{AreNames};
+ghost use Rattle.name_path.specs.Reference.{escaped, pointer_text, curly_text, SpellsPath, SpellsPlace, SpellsGroup};
+ghost use Rattle.name_path.specs.Pieces.{texts_of, ArePlain, EachLacks, IsCut};
+ghost use Rattle.name_path.specs.declared.place.Place.{Place};
+ghost use Rattle.name_path.specs.declared.reading.RefStop.TheVariants.{NoMemory as OutOfMemory};
+
+use crate::escapes::unescaped;
+use crate::pieces::{before, behind, pieces};
+use crate::{Path, Place, Trail};
+use std::alloc::Global;
+use tk_io::{NoMemory, Text};
+
+/// Why a text gives no reference.
+#[derive(Clone, Copy, Debug, PartialEq, Eq)]
+pub enum RefStop {
+    /// The text spells none.
+    BadRef,
+    /// Memory ran out.
+    NoMemory,
+}
+
+impl From<NoMemory> for RefStop {
+    ghost from_gives = { λ _ e. e ≡ OutOfMemory };
+
+    fn from(_: NoMemory) -> RefStop {
+        RefStop::NoMemory
+    }
+}
+
+/// What stands between a brace at the text's beginning and one at its end.
+fn inside_braces<'a>(text: &'a str) -> Option<&'a str>
+    ensures some { IfSome result (λ inside. text.entry.now ≡ 123 ∷ (inside.now ++ 125 ∷ [])) }
+    ensures none { IfNone result ((inside : List ℕ) → text.entry.now ≢ 123 ∷ (inside ++ 125 ∷ [])) }
+{
+    match behind(text, '{') {
+        Some(rest) => before(rest, '}'),
+        None => None,
+    }
+}
+
+/// The path of these names.
+fn path_of<'s>(alloc: Global, names: &[&str]) -> Result<Path<'s>, NoMemory>
+    ensures { IfOk result (λ path. path ≡ texts_of names.now) }
+{
+    let mut path = Path::new(alloc);
+    for name in names {
+        path.push(Text::owned(alloc, name)?)?;
+    }
+    Ok(path)
+}
+
+/// The texts between the points inside the braces, whether they are names or not; none where there are no braces.
+fn curly_names<'s>(alloc: Global, text: &str) -> Result<Option<Path<'s>>, NoMemory>
+    ensures some { IfOk result (λ found. IfSome found (λ path. (path ≢ []) × (text.now ≡ curly_text path))) }
+    ensures one { IfOk result (λ found. IfSome found (λ path. (other : List (List ℕ)) → ArePlain other → text.now ≡ curly_text other → other ≡ path)) }
+    ensures none { IfOk result (λ found. IfNone found ((path : List (List ℕ)) → text.now ≢ curly_text path)) }
+{
+    let Some(inside) = inside_braces(text) else {
+        return Ok(None);
+    };
+    let names = pieces(alloc, inside, '.')?;
+    let path = path_of(alloc, names.as_slice())?;
+    Ok(Some(path))
+}
+
+/// Reads a curly alias, as `{a.b}`. It is `BadRef` exactly where the text spells no path of a token in braces.
+pub fn read_curly<'s>(alloc: Global, text: &Text<'s>) -> Result<Path<'s>, RefStop>
+    ensures path { IfOk result (λ path. SpellsPath text.now path) }
+    ensures bad { IsErrOf result RefStop.BadRef → (path : List (List ℕ)) → ¬ SpellsPath text.now path }
+{
+    let Some(path) = curly_names(alloc, text.as_str())? else {
+        return Err(RefStop::BadRef);
+    };
+    if !path.is_token_path() {
+        return Err(RefStop::BadRef);
+    }
+    Ok(path)
+}
+
+/// The steps that the segments spell.
+fn decoded<'s>(alloc: Global, segments: &[&str]) -> Result<Trail<'s>, RefStop>
+    requires { EachLacks 47 (texts_of segments.now) }
+    ensures steps { IfOk result (λ steps. texts_of segments.now ≡ map escaped steps) }
+    ensures bad { IsErrOf result RefStop.BadRef → (steps : List (List ℕ)) → texts_of segments.now ≢ map escaped steps }
+{
+    let mut steps = Trail::new(alloc);
+    for segment in segments {
+        let step = unescaped(alloc, segment)?;
+        steps.push(Text::owned(alloc, step.as_str())?)?;
+    }
+    Ok(steps)
+}
+
+/// The steps of a pointer after its `#`.
+fn steps_of<'s>(alloc: Global, text: &str) -> Result<Trail<'s>, RefStop>
+    ensures steps { IfOk result (λ steps. text.now ≡ pointer_text steps) }
+    ensures bad { IsErrOf result RefStop.BadRef → (steps : List (List ℕ)) → text.now ≢ pointer_text steps }
+{
+    let Some(rest) = behind(text, '#') else {
+        return Err(RefStop::BadRef);
+    };
+    if rest.is_empty() {
+        return Ok(Trail::new(alloc));
+    }
+    let Some(rest) = behind(rest, '/') else {
+        return Err(RefStop::BadRef);
+    };
+    let segments = pieces(alloc, rest, '/')?;
+    decoded(alloc, segments.as_slice())
+}
+
+/// The steps before the first `$value` and those behind it, of which there are none where there is no `$value`.
+fn cut<'a, 's>(steps: &'a [Text<'s>]) -> (&'a [Text<'s>], &'a [Text<'s>])
+    ensures { IsCut steps.entry.now result.0.now result.1.now }
+{
+    for (at, step) in steps.iter().enumerate() {
+        if step.as_str() == "$value" {
+            return (&steps[..at], &steps[at + 1..]);
+        }
+    }
+    (steps, &steps[..0])
+}
+
+fn path_like<'s>(alloc: Global, names: &[Text<'s>]) -> Result<Path<'s>, NoMemory>
+    ensures { IfOk result (λ path. path ≡ names.now) }
+{
+    let mut path = Path::new(alloc);
+    for name in names {
+        path.push(name.copy()?)?;
+    }
+    Ok(path)
+}
+
+fn trail_like<'s>(alloc: Global, steps: &[Text<'s>]) -> Result<Trail<'s>, NoMemory>
+    ensures { IfOk result (λ trail. trail ≡ steps.now) }
+{
+    let mut trail = Trail::new(alloc);
+    for step in steps {
+        trail.push(step.copy()?)?;
+    }
+    Ok(trail)
+}
+
+/// Reads a pointer to a place, as `#/a/b/$value/0`; `#/a/b` is the token's whole value (RFC 6901 behind `#`, without percent
+/// encoding). It is `BadRef` exactly where the text spells no place. Any text is a step behind `$value`.
+pub fn read_pointer<'s>(alloc: Global, text: &Text<'s>) -> Result<Place<'s>, RefStop>
+    ensures place { IfOk result (λ place. SpellsPlace text.now place) }
+    ensures bad { IsErrOf result RefStop.BadRef → (place : Place) → ¬ SpellsPlace text.now place }
+{
+    let steps: Trail<'s> = steps_of(alloc, text.as_str())?;
+    let (names, rest) = cut(steps.as_slice());
+    let token = path_like(alloc, names)?;
+    if !token.is_token_path() {
+        return Err(RefStop::BadRef);
+    }
+    let trail = trail_like(alloc, rest)?;
+    Ok(Place { token, trail })
+}
+
+/// Reads the target of an extension, as `{a.b}`, `#/a/b` or, for the root, `#`. It is `BadRef` exactly where the text
+/// spells no path of a group.
+pub fn read_group<'s>(alloc: Global, text: &Text<'s>) -> Result<Path<'s>, RefStop>
+    ensures path { IfOk result (λ path. SpellsGroup text.now path) }
+    ensures bad { IsErrOf result RefStop.BadRef → (path : List (List ℕ)) → ¬ SpellsGroup text.now path }
+{
+    if let Some(path) = curly_names(alloc, text.as_str())? {
+        return names_alone(path);
+    }
+    let steps: Trail<'s> = steps_of(alloc, text.as_str())?;
+    let path = path_like(alloc, steps.as_slice())?;
+    names_alone(path)
+}
+
+fn names_alone<'s>(path: Path<'s>) -> Result<Path<'s>, RefStop>
+    ensures path { IfOk result (λ same. (same ≡ path.entry) × AreNames same) }
+    ensures bad { IsErrOf result RefStop.BadRef → ¬ AreNames path.entry }
+{
+    if !path.are_names() {
+        return Err(RefStop::BadRef);
+    }
+    Ok(path)
+}

@@ -1,0 +1,4 @@
+mod Markings
+mod Reaches
+mod Rows
+mod Sets

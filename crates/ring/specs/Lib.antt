@@ -1,0 +1,6 @@
+pub mod Answer
+pub mod Graph
+pub mod Order
+pub mod Routes
+pub mod Stack
+pub mod Values

@@ -1,0 +1,19 @@
+-- Values of nodes that come from the values of what they need.
+use Rattle.std.specs.Prelude.{◌≡◌, ℕ, List, [], ◌∷◌, ◌+◌, sum, min, slice_index}
+
+-- A node's value is a step from the values of its needs, in their order.
+mutual
+  pub data Comes {V : Type 0} (needs : ℕ → List ℕ) (step : ℕ → List V → V) : ℕ → V → Type 0 where
+    comes : {v : ℕ} {xs : List V} → AllCome needs step (needs v) xs → Comes needs step v (step v xs)
+
+  pub data AllCome {V : Type 0} (needs : ℕ → List ℕ) (step : ℕ → List V → V) : List ℕ → List V → Type 0 where
+    none : AllCome needs step [] []
+    more : {w : ℕ} {ws : List ℕ} {x : V} {xs : List V} → Comes needs step w x → AllCome needs step ws xs → AllCome needs step (w ∷ ws) (x ∷ xs)
+
+-- what a node has of its own, and the totals of what it needs
+abbrev pub total_step : List ℕ → ℕ → List ℕ → ℕ
+total_step own v totals = slice_index own v + sum totals
+
+-- the least of the node's total and a million
+abbrev pub IsTotal : (ℕ → List ℕ) → List ℕ → ℕ → ℕ → Type 0
+IsTotal needs own v shown = (n : ℕ) × Comes needs (total_step own) v n × (shown ≡ min n 1000000)
