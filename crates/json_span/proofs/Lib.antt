@@ -29,3 +29,4 @@ pub mod Cut
 pub mod Slices
 pub mod Saying
 pub mod SaidShown
+pub mod SliceSaid

@@ -1,11 +1,12 @@
 -- Laws over the definitions alone.
-use Rattle.std.specs.Prelude.{◌≡◌, ℕ, List, ◌++◌, ◌↔◌}
+use Rattle.std.specs.Prelude.{◌≡◌, ℕ, List, ◌++◌, ◌↔◌, slice_range}
 use Rattle.grammar.specs.Grammar.{Derives, IsFront}
 use Rattle.json_span.specs.Grammar.{grammar, json_text}
-use Rattle.json_span.specs.Tree.{Placed}
+use Rattle.json_span.specs.Tree.{Placed, start_of, end_of}
 use Rattle.json_span.specs.Reading.{Shows}
 use Rattle.json_span.specs.Answer.{Answer, IsAnswer}
 use Rattle.json_span.specs.Plain.{Plain}
+use Rattle.json_span.specs.Parts.{IsPart}
 use Rattle.json_span.specs.Says.{Says, SaysText, plain_of}
 
 -- a text is a JSON text of RFC 8259 exactly where it shows a value
@@ -41,3 +42,7 @@ SaysShow K = (num : List ℕ → K) (text : List ℕ) (v : Plain K) → SaysText
 
 abbrev pub SaysOne : Type 0 → Type 0
 SaysOne K = (num : List ℕ → K) (text : List ℕ) (v w : Plain K) → SaysText num text v → SaysText num text w → v ≡ w
+
+-- the slice of a part says what the part is without places
+abbrev pub SlicesSay : Type 0 → Type 0
+SlicesSay K = (num : List ℕ → K) (text : List ℕ) (root n : Placed) → Shows text root → IsPart n root → SaysText num (slice_range text (start_of n) (end_of n)) (plain_of num n)

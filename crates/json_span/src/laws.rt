@@ -1,6 +1,6 @@
 //! Laws over the definitions alone, for the layers above.
 
-ghost use Rattle.json_span.specs.Laws.{TextsShow, FrontsArePrefixes, ShowsOne, OneAnswer, EachHasAnswer, ShowsSay, SaysBefore, SaysShow, SaysOne};
+ghost use Rattle.json_span.specs.Laws.{TextsShow, FrontsArePrefixes, ShowsOne, OneAnswer, EachHasAnswer, ShowsSay, SaysBefore, SaysShow, SaysOne, SlicesSay};
 ghost use Rattle.json_span.specs.Parts.{SlicesShow};
 
 /// The texts that show a value are those of RFC 8259, each shows one, and each text has one answer, neither more nor less.
@@ -21,4 +21,5 @@ pub fn plain_laws<Number>()
     ensures framed { SaysBefore Number }
     ensures said { SaysShow Number }
     ensures one { SaysOne Number }
+    ensures slices { SlicesSay Number }
 {}
