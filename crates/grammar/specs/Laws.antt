@@ -1,8 +1,8 @@
 -- What holds of every grammar: fronts are the prefixes of what is derived, and one byte ahead decides a steered reading.
-use Rattle.std.specs.Prelude.{◌≡◌, ℕ, List, ◌++◌, true, false, ◌↔◌}
+use Rattle.std.specs.Prelude.{◌≡◌, ℕ, List, ◌++◌, Bool, true, false, ◌↔◌, ◌⊎◌}
 use Rattle.grammar.specs.Grammar.{Rule, named, Reads, Derives, IsFront, EachPasses}
-use Rattle.grammar.specs.Predict.{begins, more_in}
-use Rattle.grammar.specs.Ranges.{Table, ahead_of, is_steered, is_honest_at}
+use Rattle.grammar.specs.Predict.{begins, more_in, Steers, Stuck}
+use Rattle.grammar.specs.Ranges.{Table, ahead_of, is_steered, is_honest_at, are_guarded}
 use Rattle.grammar.specs.Stop.{Stops, Refuses}
 
 -- each rule that has a name derives some text, and no range of bytes in it is empty
@@ -30,3 +30,8 @@ abbrev pub StopsAreExact : Type 0 → Type 0
 StopsAreExact N = (grammar : N → Rule N) (table : Table N) → IsTabled grammar table → IsProductive grammar →
     (r : Rule N) → EachPasses r → is_steered table r ≡ true →
     (text : List ℕ) (at : ℕ) → Stops grammar (ahead_of table) r text at → Refuses grammar r text at
+
+-- a steered reading of any text comes to its end or gets stuck
+abbrev pub ReadingsEnd : Type 0 → Type 0
+ReadingsEnd N = (grammar : N → Rule N) (table : Table N) → IsTabled grammar table → (low : N → Bool) → ((n : N) → are_guarded grammar low n ≡ true) → (r : Rule N) → is_steered table r ≡ true →
+    (t : List ℕ) → ((u : List ℕ) × Steers grammar (ahead_of table) r t u) ⊎ ((u : List ℕ) × Stuck grammar (ahead_of table) r t u)

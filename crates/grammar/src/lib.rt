@@ -4,7 +4,7 @@
 //! and each law below is a function with an empty body that holds for every such type.
 #![tactic(auto)]
 
-ghost use Rattle.grammar.specs.Laws.{FrontsArePrefixes, SteeredReadsOnce, StopsAreExact};
+ghost use Rattle.grammar.specs.Laws.{FrontsArePrefixes, SteeredReadsOnce, StopsAreExact, ReadingsEnd};
 
 /// A text is a front of what a rule derives exactly where some text goes on from it to a derived one.
 pub fn fronts_are_prefixes<Name>()
@@ -19,4 +19,9 @@ pub fn steered_reads_once<Name>()
 /// Where the steered reading stops, no text of the rule is read, and the longest front ends.
 pub fn stops_are_exact<Name>()
     ensures { StopsAreExact Name }
+{}
+
+/// Where no rule comes to itself without a byte, a steered reading of any text comes to its end or gets stuck.
+pub fn steered_readings_end<Name>()
+    ensures { ReadingsEnd Name }
 {}

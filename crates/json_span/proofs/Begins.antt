@@ -1,6 +1,6 @@
 -- What a reading begins with.
-use Rattle.std.proofs.Common.{◌≡◌, ℕ, List, [], ◌∷◌, Bool, true, false, inl, inr, refl, subst}
-use Rattle.grammar.specs.Grammar.{Rule, alt, named, Reads}
+use Rattle.std.proofs.Common.{◌≡◌, ℕ, List, [], ◌∷◌, Bool, true, false, inl, inr, refl}
+use Rattle.grammar.specs.Grammar.{Rule, alt, Reads}
 use Rattle.grammar.specs.Predict.{begins, first, nullable, Apart}
 use Rattle.grammar.specs.Ranges.{is_steered}
 use Rattle.grammar.proofs.Predicts.{starts}

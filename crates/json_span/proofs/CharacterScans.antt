@@ -1,7 +1,7 @@
 -- The characters of a string, one after another.
 use Rattle.std.proofs.Common.{◌≡◌, ℕ, ◌+◌, ◌<◌, ◌≤◌, List, [], ◌∷◌, length, drop, Bool, true, false, ◌||◌, refl, inl, inr, arith, Result, Ok, Err}
 use Rattle.grammar.specs.Grammar.{Rule, many, seq, within}
-use Rattle.grammar.specs.Predict.{begins, first, Apart, on_both, on_left, on_right, on_end, on_more, at_first, at_second, at_round, at_later, at_right, Steers, Stuck}
+use Rattle.grammar.specs.Predict.{begins, first, Apart, on_both, on_left, on_end, on_more, at_first, at_second, at_round, at_later, at_right, Steers, Stuck}
 use Rattle.grammar.proofs.Tables.{steered_from}
 use Rattle.grammar.proofs.Predicts.{reads, starts}
 use Rattle.json_span.specs.Grammar.{Name, char, unescaped, escape, one}

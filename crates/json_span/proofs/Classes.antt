@@ -1,6 +1,6 @@
 -- Classes of bytes, and rows of them.
-use Rattle.std.proofs.Common.{◌≡◌, ℕ, ◌+◌, ◌<◌, ◌≤◌, List, [], ◌∷◌, length, drop, get_or, true, false, refl, sym, subst, arith, Result, Ok, Err}
-use Rattle.grammar.specs.Grammar.{Rule, empty, seq}
+use Rattle.std.proofs.Common.{◌≡◌, ℕ, ◌+◌, ◌<◌, ◌≤◌, List, [], ◌∷◌, length, drop, true, false, refl, sym, subst, arith, Result, Ok, Err}
+use Rattle.grammar.specs.Grammar.{Rule, empty}
 use Rattle.grammar.specs.Predict.{first, Steers, on_empty, Stuck}
 use Rattle.grammar.specs.Ranges.{is_steered}
 use Rattle.grammar.proofs.Steps.{IsChoice}

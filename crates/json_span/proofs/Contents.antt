@@ -1,11 +1,11 @@
 -- What the grammar derives as a string has a content.
-use Rattle.std.proofs.Common.{◌≡◌, ℕ, ◌+◌, ◌-◌, ◌*◌, ◌<◌, ◌≤◌, List, [], ◌∷◌, ◌++◌, Bool, true, false, ◌||◌, Some, refl, sym, subst, arith}
+use Rattle.std.proofs.Common.{◌≡◌, ℕ, ◌+◌, ◌-◌, ◌*◌, List, [], ◌∷◌, ◌++◌, true, false, ◌||◌, sym, subst}
 use Rattle.std.specs.Char.{digit_value, encode_utf8}
-use Rattle.grammar.specs.Grammar.{Rule, byte, seq, alt, many, within, Reads, one_byte, both, left, right, no_more, more}
+use Rattle.grammar.specs.Grammar.{seq, many, Reads, one_byte, both, left, right, no_more, more}
 use Rattle.grammar.specs.Predict.{first}
-use Rattle.json_span.specs.Grammar.{hex, short, unescaped, char, one}
+use Rattle.json_span.specs.Grammar.{hex, char, one}
 use Rattle.json_span.specs.Steered.{rules, ahead}
-use Rattle.json_span.specs.Characters.{Content, closes, plain, short as a_short, scalar, pair, unit, unit_of, is_high, is_low, joined_pair}
+use Rattle.json_span.specs.Characters.{Content, closes, plain, short as a_short, scalar, pair, unit, is_high, is_low}
 use Rattle.json_span.proofs.Shorts.{choice_read, short_some, is_value, hex_unit, not_d_hex, not_d_value, hex_value, no_surrogate, below_unit, low_digit_value, d_value, high_unit, low_unit, high_digit_value, last_digit_value}
 
 four : (t u2 u3 u4 v : List ℕ) (a b c d : ℕ) → t ≡ a ∷ u2 → u2 ≡ b ∷ u3 → u3 ≡ c ∷ u4 → u4 ≡ d ∷ v → t ≡ a ∷ b ∷ c ∷ d ∷ v

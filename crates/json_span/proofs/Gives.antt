@@ -1,6 +1,6 @@
 -- What building gives, value by value.
-use Rattle.std.proofs.Common.{◌≡◌, ◌≢◌, ℕ, zero, suc, ◌+◌, ◌-◌, ◌<◌, ◌≤◌, List, [], ◌∷◌, ◌++◌, length, drop, true, false, refl, sym, ap, ◌∙◌, subst, arith, rules, length-drop, add-one, Option, Some, None}
-use Rattle.grammar.specs.Grammar.{Rule, seq, alt, named, within, Reads}
+use Rattle.std.proofs.Common.{◌≡◌, ◌≢◌, ℕ, zero, suc, ◌+◌, ◌<◌, ◌≤◌, List, [], ◌∷◌, ◌++◌, length, drop, true, false, refl, sym, ap, ◌∙◌, subst, arith, rules, length-drop, add-one, Some, None}
+use Rattle.grammar.specs.Grammar.{Rule, seq, alt, named, Reads}
 use Rattle.grammar.specs.Predict.{begins, first, Steers, on_both, nullable}
 use Rattle.grammar.specs.Ranges.{is_steered}
 use Rattle.grammar.proofs.Predicts.{reads}
@@ -8,11 +8,11 @@ use Rattle.grammar.proofs.Steps.{no_longer}
 use Rattle.json_span.specs.Grammar.{Name, value, number, string, ws, one, null_word, false_word, true_word}
 use Rattle.json_span.specs.Steered as steered
 use Rattle.json_span.specs.Steered.{Bracket, square, curly, table, ahead, token, open_of, close_of, before_of, more_of, list_of}
-use Rattle.json_span.specs.Tree.{Tree, Placed, placed, an_array, an_object, Elements, no_elements, element, Members, no_members, member, Entry, elements_of, members_of, end_of}
+use Rattle.json_span.specs.Tree.{Tree, Placed, placed, an_array, an_object, element, Members, member, Entry, elements_of, members_of, end_of}
 use Rattle.json_span.specs.Reading.{StringAt, BeginsAt, Value, value_at, Shape, null_shape, false_shape, true_shape, number_shape, string_shape, array_shape, object_shape, ElementsAt, no_element, MembersAt, no_member}
-use Rattle.json_span.specs.Flaw.{Flaw, too_deep, equal_names, or_else, flaw_in, flaw_at, flaw_in_elements, flaw_in_members, is_seen}
-use Rattle.json_span.specs.Scan.{Reaches, Halts}
-use Rattle.json_span.specs.Kinds.{bracket_of, rule_of_scalar}
+use Rattle.json_span.specs.Flaw.{too_deep, flaw_in, flaw_at, flaw_in_elements, flaw_in_members, is_seen}
+use Rattle.json_span.specs.Scan.{Reaches}
+use Rattle.json_span.specs.Kinds.{bracket_of}
 use Rattle.json_span.specs.Skipping.{left_of, Leads}
 use Rattle.json_span.specs.View.{json_view, node_view}
 use Rattle.json_span.specs.Building.{IsScalarValue, Opens, IsComma, IsClose, Gives, flaw_view, empty_tree}
@@ -20,7 +20,6 @@ use Rattle.json_span.specs.ListsLeft.{list_left, then_elements, then_members, na
 use Rattle.json_span.specs.declared.kind.Bracket as declared
 use Rattle.json_span.specs.declared.kind.Bracket.TheVariants.{Square, Curly}
 use Rattle.json_span.specs.declared.kind.Scalar.{Scalar}
-use Rattle.json_span.specs.declared.build.Built.{Built}
 use Rattle.json_span.specs.declared.build.Built.TheVariants.{Whole, Flawed}
 use Rattle.json_span.specs.declared.build.Flaw as declared_flaw
 use Rattle.json_span.specs.declared.build.Flaw.TheVariants.{Dup, Deep}

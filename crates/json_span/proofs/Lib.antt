@@ -24,3 +24,9 @@ pub mod Unique
 pub mod OneAnswer
 pub mod Utf8
 pub mod Spelled
+pub mod Answered
+pub mod Cut
+pub mod Slices
+pub mod Saying
+pub mod SaidShown
+pub mod SliceSaid

@@ -1,17 +1,17 @@
 -- The turns of building a list.
-use Rattle.std.proofs.Common.{◌≡◌, ℕ, zero, suc, ◌+◌, ◌<◌, ◌≤◌, List, [], ◌∷◌, ◌++◌, length, drop, true, false, refl, sym, ap, ◌∙◌, subst, arith, length-drop, Result, Ok, Err, Option, Some, None}
+use Rattle.std.proofs.Common.{◌≡◌, ℕ, ◌<◌, List, [], ◌∷◌, ◌++◌, length, drop, true, false, refl, sym, ap, ◌∙◌, subst, arith, Result, Ok, Err, Option, Some, None}
 use Rattle.grammar.specs.Grammar.{Rule, empty, seq, named, within, Reads}
 use Rattle.grammar.specs.Predict.{begins, first, Steers, on_both, on_empty, Stuck, at_first, at_second}
 use Rattle.grammar.proofs.Predicts.{reads}
 use Rattle.json_span.specs.Grammar.{Name, value, string, ws, one}
 use Rattle.json_span.specs.Steered.{Bracket, square, curly, rules, ahead, token, open_of, close_of, before_of, more_of, list_of}
-use Rattle.json_span.specs.Tree.{Placed, placed, an_array, Elements, no_elements, element, elements_of}
-use Rattle.json_span.specs.Reading.{BeginsAt, Value, value_at, array_shape, ElementsAt, first_element, MoreElements, last_element, next_element}
+use Rattle.json_span.specs.Tree.{Placed, Elements, no_elements, element, elements_of}
+use Rattle.json_span.specs.Reading.{Value, ElementsAt, first_element, last_element, next_element}
 use Rattle.json_span.specs.Flaw.{Flaw, or_else, flaw_in, flaw_in_elements}
 use Rattle.json_span.specs.Scan.{Reaches, Halts, Scans}
 use Rattle.json_span.specs.Kinds.{bracket_of}
 use Rattle.json_span.specs.Skipping.{left_of, Leads, StopsAt}
-use Rattle.json_span.specs.Building.{Opens, IsComma, IsClose, Gives, end_of_built, flaw_of_built}
+use Rattle.json_span.specs.Building.{Opens, IsComma, IsClose}
 use Rattle.json_span.specs.ListsLeft.{list_left, then_elements, ElementsLeft}
 use Rattle.json_span.specs.declared.kind.Bracket as declared
 use Rattle.json_span.specs.declared.stop.Stop.{Stop}

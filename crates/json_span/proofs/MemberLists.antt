@@ -1,18 +1,18 @@
 -- The turns of building an object.
-use Rattle.std.proofs.Common.{◌≡◌, ℕ, ◌+◌, ◌≤◌, List, [], ◌∷◌, ◌++◌, length, drop, true, false, Bool, cond, ◌||◌, not, refl, sym, ap, ◌∙◌, subst, arith, length-drop, Option, Some, None}
+use Rattle.std.proofs.Common.{◌≡◌, ℕ, ◌≤◌, List, [], ◌∷◌, ◌++◌, length, drop, true, false, Bool, cond, ◌||◌, not, refl, sym, ap, ◌∙◌, subst, arith, length-drop, Option, Some, None}
 use Rattle.std.specs.BTreeSet.{contains, BTreeSet, Updates, IsEmpty}
 use Rattle.std.specs.Str.{bytes_eq}
 use Rattle.std.specs.List.{list_any}
 use Rattle.std.specs.BTreeMap.{is_at}
 use Rattle.std.specs.Cmp.Lexicographic.{texts_ties}
-use Rattle.grammar.specs.Grammar.{Rule, named, seq, Reads}
+use Rattle.grammar.specs.Grammar.{seq, Reads}
 use Rattle.grammar.specs.Predict.{Steers, on_both}
 use Rattle.grammar.proofs.Predicts.{reads}
 use Rattle.tk_io.specs.Order.{text_cmp}
-use Rattle.json_span.specs.Grammar.{value, string, ws, one}
-use Rattle.json_span.specs.Steered.{curly, rules, ahead, token, more_of}
-use Rattle.json_span.specs.Tree.{Placed, placed, an_object, Members, no_members, member, Entry, members_of}
-use Rattle.json_span.specs.Reading.{StringAt, BeginsAt, Value, MemberAt, member_at, MembersAt, first_member, MoreMembers, last_member, next_member}
+use Rattle.json_span.specs.Grammar.{ws, one}
+use Rattle.json_span.specs.Steered.{curly, rules, ahead, token}
+use Rattle.json_span.specs.Tree.{Placed, Members, no_members, member, Entry, members_of}
+use Rattle.json_span.specs.Reading.{StringAt, BeginsAt, Value, MemberAt, member_at, MembersAt, first_member, last_member, next_member}
 use Rattle.json_span.specs.Flaw.{Flaw, equal_names, or_else, flaw_in, flaw_in_members, is_seen}
 use Rattle.json_span.specs.Scan.{Reaches}
 use Rattle.json_span.specs.Building.{IsComma, IsClose}

@@ -1,8 +1,8 @@
 -- A text has at most one answer.
-use Rattle.std.proofs.Common.{◌≡◌, ℕ, ◌<◌, ◌≤◌, List, refl, sym, ap, ◌∙◌, subst, arith, Option, Some, None}
+use Rattle.std.proofs.Common.{◌≡◌, ℕ, ◌<◌, List, ap, ◌∙◌, arith, Option, Some, None}
 use Rattle.grammar.specs.Grammar.{Derives}
 use Rattle.grammar.specs.Stop.{IsStop}
-use Rattle.json_span.specs.Grammar.{Name, grammar, json_text}
+use Rattle.json_span.specs.Grammar.{grammar, json_text}
 use Rattle.json_span.specs.Tree.{Placed}
 use Rattle.json_span.specs.Reading.{Shows}
 use Rattle.json_span.specs.Flaw.{Flaw, first_flaw}

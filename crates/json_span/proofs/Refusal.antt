@@ -1,9 +1,8 @@
 -- Where the reader stops, the text has no reading, and its longest front ends.
-use Rattle.std.proofs.Common.{◌≡◌, ℕ, ◌<◌, ◌≤◌, List, [], length, drop, refl, sym, ap, ◌∙◌, subst, inl, inr, arith, Some, None}
+use Rattle.std.proofs.Common.{◌≡◌, ℕ, ◌<◌, ◌≤◌, List, length, drop, refl, sym, ap, ◌∙◌, subst, inl, inr}
 use Rattle.std.proofs.lemmas.List.{drop_all}
-use Rattle.std.specs.Prelude.{◌⊎◌}
-use Rattle.grammar.specs.Grammar.{seq, named, Reads}
-use Rattle.grammar.specs.Predict.{Steers, on_both, at_first, at_second}
+use Rattle.grammar.specs.Grammar.{named, Reads}
+use Rattle.grammar.specs.Predict.{on_both, at_first, at_second}
 use Rattle.grammar.specs.Stop.{Stops, Refuses}
 use Rattle.grammar.proofs.Tables.{passes_from}
 use Rattle.grammar.proofs.Refusals.{refuses}
@@ -25,7 +24,7 @@ use Rattle.json_span.specs.declared.build.Flaw.TheVariants.{Dup, Deep}
 use Rattle.json_span.proofs.Steered.{honest_json, steered_json, spelled, passes}
 use Rattle.json_span.proofs.Rfc.{refuses_to}
 
-refusal : (text : List ℕ) (at : ℕ) → Stops rules ahead json text at → Refuses grammar json_text text at
+pub refusal : (text : List ℕ) (at : ℕ) → Stops rules ahead json text at → Refuses grammar json_text text at
 refusal text at h = refuses_to text at (refuses rules ahead honest_json spelled passes json text at (passes_from json refl) steered_json h)
 
 refused : (text : List ℕ) (f : declared.Flaw) → IsAnswer text (flawed (flaw_view f)) → IsRefusal text (fault_of f)

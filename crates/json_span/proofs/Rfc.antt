@@ -1,11 +1,11 @@
 -- The grammar of RFC 8259 and its steered form derive the same texts, and so have the same fronts.
-use Rattle.std.proofs.Common.{◌≡◌, ℕ, List, [], ◌∷◌, ◌++◌, take, Bool, true, false, ◌&&◌, refl}
+use Rattle.std.proofs.Common.{◌≡◌, ℕ, List, ◌++◌, take, Bool, true, false, ◌&&◌, refl}
 use Rattle.grammar.specs.Grammar.{Rule, empty, byte, seq, alt, many, named, Reads, Derives, IsFront, EachPasses, no_byte, one_byte, both, left, right, no_more, more, by_name}
 use Rattle.grammar.specs.Stop.{Refuses}
 use Rattle.grammar.proofs.Steps.{rounds}
 use Rattle.grammar.proofs.Fronts.{goes_on, is_front}
 use Rattle.grammar.proofs.Tables.{passes_from}
-use Rattle.json_span.specs.Grammar.{Name, value, number, string, grammar, json_text, ws, one, false_word, null_word, true_word, number_rule, string_rule, structural, member, value_separator}
+use Rattle.json_span.specs.Grammar.{Name, value, number, string, grammar, json_text, ws, one, member, value_separator}
 use Rattle.json_span.specs.Steered.{Bracket, square, curly, rules, token, before_of, item_of, json}
 use Rattle.json_span.proofs.Steered.{spelled, passes}
 

@@ -1,5 +1,5 @@
 -- Values that hold no others.
-use Rattle.std.proofs.Common.{◌≡◌, ℕ, zero, suc, ◌<◌, ◌≤◌, ◌++◌, List, length, drop, true, false, refl, sym, ap, ◌∙◌, subst, rules, None, Bool}
+use Rattle.std.proofs.Common.{◌≡◌, ℕ, zero, suc, ◌≤◌, List, length, drop, true, false, refl, sym, ap, ◌∙◌, subst, rules, None, Bool}
 use Rattle.std.specs.Prelude.{slice_range}
 use Rattle.std.specs.Str.{IsUtf8, IsCharBoundary}
 use Rattle.grammar.specs.Grammar.{named}

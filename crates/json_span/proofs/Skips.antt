@@ -7,17 +7,16 @@ use Rattle.grammar.proofs.Steps.{shorter}
 use Rattle.grammar.proofs.Predicts.{reads}
 use Rattle.json_span.specs.Grammar.{Name, value, ws, one}
 use Rattle.json_span.specs.Steered.{Bracket, square, curly, rules, table, ahead, token, open_of, close_of, before_of, item_of, more_of, inside_of, list_of}
-use Rattle.json_span.specs.Scan.{Reaches, Halts, Scans}
+use Rattle.json_span.specs.Scan.{Reaches, Halts}
 use Rattle.json_span.specs.Kinds.{bracket_of}
 use Rattle.json_span.specs.Skipping.{behind_from, behind, left_of, Leads, StopsAt}
 use Rattle.json_span.specs.declared.stop.Stop.{Stop}
 use Rattle.json_span.specs.declared.stop.Stop.TheVariants.{Syntax, NoMemory}
 use Rattle.json_span.specs.declared.kind.Bracket as declared
-use Rattle.json_span.specs.declared.kind.Bracket.TheVariants.{Square, Curly}
 use Rattle.json_span.specs.declared.kind.Kind.TheVariants.{List as Listed}
 use Rattle.json_span.proofs.Scans as scan
 use Rattle.json_span.proofs.Steered.{honest_json}
-use Rattle.json_span.proofs.KindFacts.{Walks, walk_then, value_walk}
+use Rattle.json_span.proofs.KindFacts.{Walks, value_walk}
 
 -- the innermost bracket is the last of the list
 pub behind-push : (bs : List declared.Bracket) (b : declared.Bracket) (rest : Rule Name) → behind_from (bs ++ b ∷ []) rest ≡ seq ws (seq (more_of (bracket_of b)) (behind_from bs rest))

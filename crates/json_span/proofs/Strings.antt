@@ -1,13 +1,13 @@
 -- The characters between two places of a text, without and with escapes.
-use Rattle.std.proofs.Common.{◌≡◌, ℕ, suc, ◌+◌, ◌-◌, ◌<◌, ◌≤◌, List, [], ◌∷◌, ◌++◌, length, take, drop, get_or, Bool, true, false, not, refl, sym, ap, ◌∙◌, subst, arith, append_assoc, length-drop, append-nil, take-append-drop, Ok}
-use Rattle.std.specs.Prelude.{slice_range, IsTrue}
+use Rattle.std.proofs.Common.{◌≡◌, ℕ, ◌+◌, ◌-◌, ◌<◌, ◌≤◌, List, [], ◌∷◌, ◌++◌, length, take, drop, get_or, Bool, true, false, not, refl, sym, ap, ◌∙◌, subst, arith, append_assoc, length-drop, append-nil, take-append-drop, Ok}
+use Rattle.std.specs.Prelude.{slice_range}
 use Rattle.std.proofs.lemmas.List.{drop_more, take_rest, drop-drop, append_cancel_right, get_or-drop}
 use Rattle.std.proofs.lemmas.Bool.Decides.{nat_tests}
 use Rattle.std.specs.Char.{encode_utf8}
 use Rattle.std.specs.Str.{IsUtf8, IsCharBoundary}
 use Rattle.std.proofs.lemmas.Str.{IsCharBoundary-before_ascii, IsCharBoundary-after_ascii}
 use Rattle.grammar.specs.Grammar.{within, alt, many, named, seq}
-use Rattle.grammar.specs.Predict.{begins, first, Steers, on_byte, on_left, on_right, on_end, on_more}
+use Rattle.grammar.specs.Predict.{begins, first, Steers, on_end, on_more}
 use Rattle.grammar.proofs.Tables.{steered_from}
 use Rattle.grammar.proofs.Predicts.{reads}
 use Rattle.std.specs.List.{prefix_len}
@@ -17,8 +17,8 @@ use Rattle.json_span.specs.Grammar.{unescaped, char, one, string}
 use Rattle.json_span.specs.Steered.{rules, table, ahead}
 use Rattle.json_span.specs.Characters.{Content, closes, plain, short, scalar, pair}
 use Rattle.json_span.specs.Reading.{StringAt}
-use Rattle.json_span.specs.Escapes.{BeginsEscape, Stands}
-use Rattle.json_span.specs.Scan.{Reaches, Halts, Scans}
+use Rattle.json_span.specs.Escapes.{Stands}
+use Rattle.json_span.specs.Scan.{Reaches, Halts}
 use Rattle.json_span.specs.declared.bytes.Class.TheVariants.{One}
 use Rattle.json_span.proofs.Steered.{honest_json}
 use Rattle.json_span.proofs.Scans as scan

@@ -1,15 +1,15 @@
 -- A text shows one value.
-use Rattle.std.proofs.Common.{◌≡◌, ℕ, List, [], ◌∷◌, ◌++◌, length, Bool, true, false, ◌||◌, refl, sym, ap, ◌∙◌, subst, inl, inr, arith, Option, Some, None}
+use Rattle.std.proofs.Common.{◌≡◌, ℕ, List, [], ◌∷◌, ◌++◌, length, Bool, true, false, ◌||◌, refl, sym, ap, ◌∙◌, subst, arith, Option, Some, None}
 use Rattle.std.proofs.lemmas.List.{append_cancel_right}
 use Rattle.std.proofs.lemmas.Bool.Decides.{nat_tests}
-use Rattle.grammar.specs.Grammar.{Rule, seq, alt, many, named, within, Reads, Derives, no_byte, one_byte, both, left, right, no_more, more, by_name}
+use Rattle.grammar.specs.Grammar.{Rule, seq, alt, named, within, Reads, Derives, no_byte, one_byte, both, left, right, no_more, more, by_name}
 use Rattle.grammar.specs.Ranges.{is_steered}
-use Rattle.grammar.specs.Predict.{begins, first, more_in, Apart, IsSteered, nullable}
+use Rattle.grammar.specs.Predict.{begins, first, more_in, Apart, IsSteered}
 use Rattle.grammar.proofs.Predicts.{same_end, parted}
 use Rattle.grammar.proofs.Tables.{steered_from}
 use Rattle.json_span.specs.Grammar.{Name, value, number, string, ws, one}
 use Rattle.json_span.specs.Steered.{Bracket, square, curly, rules, table, ahead, token, open_of, before_of, item_of, more_of, inside_of, list_of, json}
-use Rattle.json_span.specs.Tree.{Tree, a_null, a_boolean, a_number, a_string, an_array, an_object, Placed, placed, Elements, no_elements, element, Members, no_members, member}
+use Rattle.json_span.specs.Tree.{Tree, a_null, a_boolean, a_number, a_string, an_array, an_object, Placed, placed, Elements, element, Members, member}
 use Rattle.json_span.specs.Reading.{StringAt, BeginsAt, Value, value_at, Shape, null_shape, false_shape, true_shape, number_shape, string_shape, array_shape, object_shape, ElementsAt, no_element, first_element, MoreElements, last_element, next_element, MemberAt, member_at, MembersAt, no_member, first_member, MoreMembers, last_member, next_member, Shows}
 use Rattle.json_span.specs.Characters.{Content}
 use Rattle.json_span.specs.Kinds.{kind_of}
@@ -45,7 +45,7 @@ mutual
   elements_read (no_element x) = left x
   elements_read (first_element v b m) = right (both (both no_byte (both (value_reads v) b)) (more_elements_read m))
 
-  more_elements_read : {total : ℕ} {t u : List ℕ} {ns : Elements} → MoreElements total t ns u → Reads rules (more_of square) t u
+  pub more_elements_read : {total : ℕ} {t u : List ℕ} {ns : Elements} → MoreElements total t ns u → Reads rules (more_of square) t u
   more_elements_read (last_element x) = both no_more x
   more_elements_read (next_element x v b m) = item_then square x (both no_byte (both (value_reads v) b)) (more_elements_read m)
 
@@ -56,7 +56,7 @@ mutual
   members_read (no_member x) = left x
   members_read (first_member i b m) = right (both (item_of_member (member_reads i) b) (more_members_read m))
 
-  more_members_read : {total : ℕ} {t u : List ℕ} {ms : Members} → MoreMembers total t ms u → Reads rules (more_of curly) t u
+  pub more_members_read : {total : ℕ} {t u : List ℕ} {ms : Members} → MoreMembers total t ms u → Reads rules (more_of curly) t u
   more_members_read (last_member x) = both no_more x
   more_members_read (next_member x i b m) = item_then curly x (item_of_member (member_reads i) b) (more_members_read m)
 
@@ -125,13 +125,13 @@ abbrev spaced : Rule Name
 spaced = seq (named value) ws
 
 -- behind a value, and behind its blanks
-after_value : {v w : List ℕ} → Reads rules ws v w → begins (more_in ahead spaced) w ≡ false → begins (more_in ahead (named value)) v ≡ false
+pub after_value : {v w : List ℕ} → Reads rules ws v w → begins (more_in ahead spaced) w ≡ false → begins (more_in ahead (named value)) v ≡ false
 after_value b h = parted rules ahead honest_json (named value) ws b (steered_from table spaced refl).2 h
 
-behind_element : {w u : List ℕ} → Reads rules (more_of square) w u → begins (more_in ahead spaced) w ≡ false
+pub behind_element : {w u : List ℕ} → Reads rules (more_of square) w u → begins (more_in ahead spaced) w ≡ false
 behind_element {u = u} m = parted rules ahead honest_json spaced (more_of square) m (steered_from table (seq spaced (more_of square)) refl).2 (none_begins u)
 
-behind_member : {w u : List ℕ} → Reads rules (more_of curly) w u → begins (more_in ahead spaced) w ≡ false
+pub behind_member : {w u : List ℕ} → Reads rules (more_of curly) w u → begins (more_in ahead spaced) w ≡ false
 behind_member {u = u} m = parted rules ahead honest_json spaced (more_of curly) m (steered_from table (seq spaced (more_of curly)) refl).2 (none_begins u)
 
 same_place : (total s s2 : ℕ) (t t2 : List ℕ) → BeginsAt total t s → BeginsAt total t2 s2 → t ≡ t2 → s ≡ s2

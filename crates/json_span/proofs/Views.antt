@@ -1,7 +1,7 @@
 -- Nodes, level by level.
 use Rattle.std.proofs.Common.{◌≡◌, List, [], ◌∷◌, ◌++◌, map, length, Option, Some, None, option_map, refl, ap, rules, suc, Bor}
-use Rattle.json_span.specs.Tree.{Placed, Entry, Elements, Members, an_array, an_object, elements_of, members_of, elements_in, entries_in}
-use Rattle.json_span.specs.View.{json_view, node_view, field_view, items_view, fields_view}
+use Rattle.json_span.specs.Tree.{Placed, Entry, an_array, an_object, elements_of, members_of, elements_in, entries_in}
+use Rattle.json_span.specs.View.{json_view, items_view, fields_view}
 use Rattle.json_span.specs.declared.tree.Items.{Items}
 use Rattle.json_span.specs.declared.tree.Fields.{Fields}
 use Rattle.json_span.specs.declared.tree.Json.{Arr, Obj, the_lemmas}

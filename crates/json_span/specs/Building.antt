@@ -6,7 +6,7 @@ use Rattle.json_span.specs.Grammar.{value, ws, one}
 use Rattle.json_span.specs.Tree.{Tree, Placed, an_array, an_object, no_elements, no_members}
 use Rattle.json_span.specs.Reading.{Value, Shape}
 use Rattle.json_span.specs.Flaw.{Flaw, equal_names, too_deep, flaw_at, flaw_in}
-use Rattle.json_span.specs.Steered.{Bracket, square, curly, ahead, open_of, close_of, more_of, list_of}
+use Rattle.json_span.specs.Steered.{Bracket, square, curly, ahead, close_of, more_of, list_of}
 use Rattle.json_span.specs.Scan.{Reaches, Halts}
 use Rattle.json_span.specs.Kinds.{rule_of_scalar}
 use Rattle.json_span.specs.View.{json_view, node_view}

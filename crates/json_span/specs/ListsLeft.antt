@@ -1,5 +1,5 @@
 -- What a list that is being built leaves to read: what stands behind makes it whole.
-use Rattle.std.specs.Prelude.{◌≡◌, ℕ, List, [], ◌∷◌, length, drop, map}
+use Rattle.std.specs.Prelude.{◌≡◌, ℕ, List, [], ◌∷◌, length, drop}
 use Rattle.std.specs.BTreeSet.{contains, BTreeSet}
 use Rattle.grammar.specs.Grammar.{Rule, empty, seq, named, Reads}
 use Rattle.tk_io.specs.Order.{text_cmp}

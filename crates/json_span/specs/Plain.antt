@@ -1,5 +1,5 @@
 -- JSON values without their places; K is what is kept of a number.
-use Rattle.std.specs.Prelude.{ℕ, List, [], ◌∷◌, Bool, Option, Some, None}
+use Rattle.std.specs.Prelude.{ℕ, List, [], ◌∷◌, Bool}
 
 mutual
   pub data Plain (K : Type 0) : Type 0 where

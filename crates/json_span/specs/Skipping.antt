@@ -1,5 +1,5 @@
 -- What the open brackets of a text that is skipped leave to read. The last bracket of the list is the innermost.
-use Rattle.std.specs.Prelude.{ℕ, List, [], ◌∷◌, length, Bool, true, false, Result, Ok, Err}
+use Rattle.std.specs.Prelude.{ℕ, List, [], ◌∷◌, Bool, true, false, Result}
 use Rattle.grammar.specs.Grammar.{Rule, empty, seq, named}
 use Rattle.json_span.specs.Grammar.{Name, value, ws}
 use Rattle.json_span.specs.Steered.{more_of}

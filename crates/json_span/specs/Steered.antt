@@ -1,6 +1,6 @@
 -- The grammar as a reader with one byte ahead wants it: the blanks of a structural character stand behind it alone.
 use Rattle.std.specs.Prelude.{ℕ, [], ◌∷◌}
-use Rattle.grammar.specs.Grammar.{Rule, empty, byte, seq, alt, many, named}
+use Rattle.grammar.specs.Grammar.{Rule, empty, seq, alt, many, named}
 use Rattle.grammar.specs.Predict.{Ahead}
 use Rattle.grammar.specs.Ranges.{Table, Ranges, ahead_of}
 use Rattle.json_span.specs.Grammar.{Name, value, number, string, one, ws, false_word, null_word, true_word, number_rule, string_rule}

@@ -1,11 +1,25 @@
 //! Laws over the definitions alone, for the layers above.
 
-ghost use Rattle.json_span.specs.Laws.{TextsShow, FrontsArePrefixes, ShowsOne, OneAnswer};
+ghost use Rattle.json_span.specs.Laws.{TextsShow, FrontsArePrefixes, ShowsOne, OneAnswer, EachHasAnswer, ShowsSay, SaysBefore, SaysShow, SaysOne, SlicesSay};
+ghost use Rattle.json_span.specs.Parts.{SlicesShow};
 
-/// The texts that show a value are those of RFC 8259, each shows one, and each text has one answer.
+/// The texts that show a value are those of RFC 8259, each shows one, and each text has one answer, neither more nor less.
+/// The slice of a part, read by itself, shows the part with its start taken off its offsets.
 pub fn json_laws()
     ensures texts { TextsShow }
     ensures fronts { FrontsArePrefixes }
     ensures one { ShowsOne }
     ensures answer { OneAnswer }
+    ensures answered { EachHasAnswer }
+    ensures slices { SlicesShow }
+{}
+
+/// What a text shows it says without places, and back; it says one value; and what a value's text says, it says whatever follows. `Number` is what
+/// is kept of a number.
+pub fn plain_laws<Number>()
+    ensures shown { ShowsSay Number }
+    ensures framed { SaysBefore Number }
+    ensures said { SaysShow Number }
+    ensures one { SaysOne Number }
+    ensures slices { SlicesSay Number }
 {}

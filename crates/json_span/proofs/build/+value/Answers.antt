@@ -1,24 +1,17 @@
-use Rattle.std.proofs.Common.{◌≡◌, ◌∷◌, ◌++◌, ℕ, ◌+◌, ◌-◌, ◌<◌, ◌≤◌, [], length, drop, true, false, refl, sym, ap, ◌∙◌, subst, arith, rules, Ok, Err, not}
+use Rattle.std.proofs.Common.{◌≡◌, [], true, false, sym, ap, ◌∙◌, subst, arith, rules, Ok, not}
 use Rattle.std.proofs.lemmas.Result.{err_from_is_err_and}
 use Rattle.std.specs.BTreeSet.{contains, Updates}
 use Rattle.tk_io.specs.Order.{text_cmp}
 use Rattle.json_span.specs.Tree.{Entry}
 use Rattle.json_span.specs.ListsLeft.{HasNames}
-use Rattle.grammar.specs.Grammar.{named, seq}
-use Rattle.json_span.specs.Grammar.{value, string, ws}
-use Rattle.json_span.specs.Steered.{square, curly, token, more_of}
+use Rattle.json_span.specs.Steered.{square, curly}
 use Rattle.json_span.specs.Kinds.{bracket_of}
-use Rattle.json_span.specs.Scan.{rule_of, Halts}
-use Rattle.json_span.specs.Skipping.{StopsAt}
+use Rattle.json_span.specs.Scan.{rule_of}
 use Rattle.json_span.specs.View.{items_view, fields_view, node_view}
-use Rattle.json_span.specs.Building.{Opens, Gives, GoesOn, IsComma, IsClose}
+use Rattle.json_span.specs.Building.{Opens, Gives, GoesOn}
 use Rattle.json_span.specs.declared.kind.Bracket.TheVariants.{Square, Curly}
 use Rattle.json_span.specs.declared.kind.Kind.TheVariants.{Scalar}
-use Rattle.json_span.specs.declared.stop.Stop.{Stop}
 use Rattle.json_span.specs.declared.stop.Stop.TheVariants.{Syntax}
-use Rattle.json_span.specs.declared.build.Built.TheVariants.{Whole, Flawed}
-use Rattle.json_span.specs.declared.build.Next.TheVariants.{Item, Closed}
-use Rattle.json_span.proofs.Scans as scan
 use Rattle.json_span.proofs.Skips as skip
 use Rattle.json_span.proofs.KindFacts.{value_scan, value_stops, no_value}
 use Rattle.json_span.proofs.Lists as list

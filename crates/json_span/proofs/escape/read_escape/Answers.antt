@@ -1,4 +1,4 @@
-use Rattle.std.proofs.Common.{◌≡◌, ◌+◌, get_or, sym, ap, ◌∙◌, subst, true}
+use Rattle.std.proofs.Common.{get_or, sym, ap, ◌∙◌}
 use Rattle.json_span.specs.Characters.{is_low}
 use Rattle.json_span.proofs.EscapeFacts as escape
 use Rattle.json_span.proofs.escape.read_escape.Goals as goal

@@ -1,4 +1,4 @@
-use Rattle.std.proofs.Common.{◌≡◌, ◌+◌, ◌*◌, get_or, ap, ◌∙◌, refl}
+use Rattle.std.proofs.Common.{◌+◌, get_or}
 use Rattle.json_span.proofs.EscapeFacts.{digits_in}
 use Rattle.json_span.proofs.escape.unit_at.Goals as goal
 

@@ -2,6 +2,8 @@ use Rattle.grammar.proofs.Fronts.{is_front}
 use Rattle.json_span.specs.Grammar.{grammar}
 use Rattle.json_span.proofs.Rfc.{rfc_goes_on}
 use Rattle.json_span.proofs.Unique.{shows_one}
+use Rattle.json_span.proofs.Answered.{answered}
+use Rattle.json_span.proofs.Slices.{slices_show}
 use Rattle.json_span.proofs.OneAnswer.{text_shows, shows_text, one_answer}
 use Rattle.json_span.proofs.laws.json_laws.Goals as goal
 
@@ -11,4 +13,6 @@ returns c = record {
   fronts = λ t. (λ f. rfc_goes_on t f, λ (w, d). is_front grammar t w d);
   one = shows_one;
   answer = one_answer;
+  answered = answered;
+  slices = slices_show;
 }

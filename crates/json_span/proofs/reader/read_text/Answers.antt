@@ -1,8 +1,7 @@
-use Rattle.std.proofs.Common.{◌≡◌, sym, subst, ap, ◌∙◌, arith, length, ◌≤◌}
+use Rattle.std.proofs.Common.{sym, subst}
 use Rattle.json_span.specs.Skipping.{StopsAt}
 use Rattle.grammar.specs.Grammar.{named}
 use Rattle.json_span.specs.Grammar.{value}
-use Rattle.json_span.specs.Building.{flaw_view}
 use Rattle.json_span.specs.Answer.{IsRefusal}
 use Rattle.json_span.proofs.Refusal as refusal
 use Rattle.json_span.proofs.reader.read_text.Goals as goal

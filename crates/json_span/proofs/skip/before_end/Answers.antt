@@ -1,5 +1,5 @@
 use Rattle.std.proofs.lemmas.Result.{err_from_is_err_and}
-use Rattle.std.proofs.Common.{arith, drop}
+use Rattle.std.proofs.Common.{arith}
 use Rattle.grammar.specs.Grammar.{seq, named}
 use Rattle.grammar.specs.Predict.{on_empty}
 use Rattle.json_span.specs.Grammar.{string, ws}

@@ -1,7 +1,6 @@
-use Rattle.std.proofs.Common.{◌≡◌, false, true, refl, sym, ap, Result, Ok, Err, arith}
+use Rattle.std.proofs.Common.{refl, Ok, Err}
 use Rattle.std.proofs.lemmas.Result.{err_from_is_err_and}
 use Rattle.grammar.specs.Grammar.{named}
-use Rattle.grammar.specs.Predict.{nullable}
 use Rattle.json_span.specs.Grammar.{value}
 use Rattle.json_span.specs.Skipping.{behind}
 use Rattle.json_span.specs.declared.kind.Kind.TheVariants.{Scalar}

@@ -1,5 +1,4 @@
 use Rattle.std.proofs.lemmas.Result.{err_from_is_err_and}
-use Rattle.grammar.specs.Grammar.{seq}
 use Rattle.json_span.specs.Grammar.{ws, one}
 use Rattle.json_span.specs.Steered.{token}
 use Rattle.json_span.proofs.Scans as scan

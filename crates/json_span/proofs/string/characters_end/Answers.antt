@@ -1,4 +1,4 @@
-use Rattle.std.proofs.Common.{◌+◌, ◌≤◌, ℕ, ◌<◌, length, get_or, sym, arith, Err}
+use Rattle.std.proofs.Common.{sym, Err}
 use Rattle.std.proofs.lemmas.Result.{err_from_is_err_and}
 use Rattle.json_span.proofs.CharacterScans as characters
 use Rattle.json_span.proofs.string.characters_end.Goals as goal
