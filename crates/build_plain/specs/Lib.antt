@@ -1,3 +1,3 @@
-pub mod Causes
-pub mod Lines
 pub mod Out
+pub mod Plain
+pub mod Refusal

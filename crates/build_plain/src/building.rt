@@ -1,24 +1,27 @@
 // Building the outputs of files.
-ghost use Rattle.std.specs.Prelude.{◌≡◌, ◌⊎◌, ◌+◌, List, ℕ, [], ◌∷◌, codes, Err, IfOk, IfSome, IfNone};
+ghost use Rattle.std.specs.Prelude.{◌≡◌, ◌+◌, Some, None, Err, IfOk, codes, option_map};
 ghost use Rattle.std.specs.FinMap as map;
-ghost use Rattle.token_tree.specs.Grammar.{Thin};
-ghost use Rattle.build_plain.specs.Out.{AreThin, out_of};
+ghost use Rattle.json_span.specs.Tree.{tree_of};
+ghost use Rattle.json_span.specs.View.{json_view};
+ghost use Rattle.build_plain.specs.Out.{Builds, has_plan, parse_count, sheet_of, refused_by};
+ghost use Rattle.build_plain.specs.Plain.{plain_in};
 
 use crate::files::Files;
+use crate::plain::plain_in;
+use crate::refusal::{Rule, refusal_text};
 use crate::sheet::css;
+use json_span::{Json, JsonFault, read};
 use std::alloc::Global;
 use std::sync::ledger::Ledger;
-use thin_json::{JsonFault, read};
 use tk_io::{NoMemory, Outputs, Steps};
-use token_tree::{ShapeFault, shape};
 
-/// The one file that is read so far.
+/// The file that is built so far.
 const TOKENS: &str = "tokens.json";
 
-/// Why nothing was built: the files are none that are built so far, or memory ran out.
+/// Why nothing was built.
 #[derive(Clone, Copy, Debug, PartialEq, Eq)]
 pub enum BuildStop {
-    /// The files are not the one file `tokens.json` with the text of a thin file.
+    /// The files are none that are built so far.
     NotYet,
     /// Memory ran out.
     NoMemory,
@@ -35,54 +38,49 @@ impl From<NoMemory> for BuildStop {
     }
 }
 
-impl From<JsonFault> for BuildStop {
-    ghost use Rattle.std.specs.Prelude.{◌≡◌};
-    ghost use Rattle.build_plain.specs.Causes.{of_json};
-
-    ghost from_gives = { λ f e. e ≡ of_json f };
-
-    fn from(fault: JsonFault) -> BuildStop {
-        match fault {
-            JsonFault::NotYet => BuildStop::NotYet,
-            JsonFault::NoMemory => BuildStop::NoMemory,
-        }
-    }
-}
-
-impl From<ShapeFault> for BuildStop {
-    ghost use Rattle.std.specs.Prelude.{◌≡◌};
-    ghost use Rattle.build_plain.specs.Causes.{of_shape};
-
-    ghost from_gives = { λ f e. e ≡ of_shape f };
-
-    fn from(fault: ShapeFault) -> BuildStop {
-        match fault {
-            ShapeFault::NotYet => BuildStop::NotYet,
-            ShapeFault::NoMemory => BuildStop::NoMemory,
-        }
-    }
-}
-
-// The text of `tokens.json`, where that is the only file.
-fn only_text<'s>(files: &Files<'s>) -> Option<&'s str>
-    ensures found { IfSome result (λ t. map.entries files.now ≡ (codes "tokens.json", t.now) ∷ []) }
-    ensures other { IfNone result ((text : List ℕ) → map.entries files.now ≡ (codes "tokens.json", text) ∷ [] → ⊥) }
+fn has_plan(files: &Files<'_>) -> bool
+    ensures { result ≡ has_plan files.now }
 {
-    if files.len() != 1 {
-        return None;
-    }
-    let (path, text) = files.at(0)?;
-    if path == TOKENS {
-        return Some(text);
-    }
-    None
+    files.get("tokc.toml").is_some() || files.get("resolver.json").is_some()
 }
 
-/// The outputs of the files: `default/tokens.css`, with a line for each token. It counts one step of `parses` for each
-/// file that is read, whatever it answers.
+// One output: a refusal at a span of `tokens.json`.
+fn refused(
+    alloc: Global,
+    rule: Rule,
+    text: &str,
+    start: usize,
+    end: usize,
+) -> Result<Outputs, NoMemory>
+    ensures { IfOk result (λ o. o ≡ refused_by rule text.now start end) }
+{
+    let body = refusal_text(alloc, rule, TOKENS, text, start, end)?;
+    let mut outputs = Outputs::new(alloc);
+    outputs.insert("default/REFUSED", body)?;
+    Ok(outputs)
+}
+
+// One output: the style sheet of a plain file.
+fn accepted(alloc: Global, value: &Json<'_>) -> Result<Outputs, BuildStop>
+    ensures ok { IfOk result (λ o. Some o ≡ option_map sheet_of (plain_in (json_view value.now))) }
+    ensures not_yet { result ≡ Err BuildStop.NotYet → plain_in (json_view value.now) ≡ None }
+{
+    let Some(groups) = plain_in(alloc, value)? else {
+        return Err(BuildStop::NotYet);
+    };
+    let body = css(alloc, &groups)?;
+    let mut outputs = Outputs::new(alloc);
+    outputs.insert("default/tokens.css", body)?;
+    Ok(outputs)
+}
+
+/// The outputs of the files, for the one permutation `default`: `default/tokens.css` for a plain token file, and
+/// `default/REFUSED` where `tokens.json` is absent or breaks a rule of JSON. Each file that is read is one step of
+/// `parses`.
 ///
 /// # Errors
-/// `NotYet` exactly where the files are not the one file `tokens.json` with the text of a thin file. `NoMemory`.
+/// `NotYet` exactly where `tokc.toml` or `resolver.json` is there, or `tokens.json` is read without a flaw and is not
+/// plain. `NoMemory`.
 pub fn build<'s, L: Ledger, M: Ledger, N: Ledger>(
     alloc: Global,
     files: &Files<'s>,
@@ -90,19 +88,29 @@ pub fn build<'s, L: Ledger, M: Ledger, N: Ledger>(
     merges: &mut Steps<M>,
     evals: &mut Steps<N>,
 ) -> Result<Outputs, BuildStop>
-    ensures ok { IfOk result (λ o. (f : Thin) × AreThin files.now f × (o ≡ out_of f)) }
-    ensures not_yet { result ≡ Err BuildStop.NotYet → (f : Thin) → AreThin files.now f → ⊥ }
-    ensures parses { (parses.new ≡ parses.old + 1) ⊎ ((parses.new ≡ parses.old) × (result ≡ Err BuildStop.NotYet)) }
+    ensures ok { IfOk result (λ o. Builds files.now (Some o)) }
+    ensures not_yet { result ≡ Err BuildStop.NotYet → Builds files.now None }
+    ensures parses { parses.new ≡ parses.old + parse_count files.now }
     ensures merges { merges.new ≡ merges.old }
     ensures evals { evals.new ≡ evals.old }
 {
-    let Some(text) = only_text(files) else {
+    if has_plan(files) {
         return Err(BuildStop::NotYet);
+    }
+    let Some(text) = files.get(TOKENS) else {
+        return Ok(refused(alloc, Rule::FileMissing, "", 0, 0)?);
     };
-    let root = read(alloc, text, parses)?;
-    let group = shape(alloc, TOKENS, text, &root)?;
-    let body = css(alloc, &group)?;
-    let mut outputs = Outputs::new(alloc);
-    outputs.insert("default/tokens.css", body)?;
-    Ok(outputs)
+    match read(alloc, text, parses) {
+        Ok(root) => accepted(alloc, &root.value),
+        Err(JsonFault::Syntax(at)) => Ok(refused(alloc, Rule::JsonSyntax, text, at, at)?),
+        Err(JsonFault::Dup(start, end)) => Ok(refused(
+            alloc,
+            Rule::JsonDuplicate,
+            text,
+            start,
+            end,
+        )?),
+        Err(JsonFault::Deep(start, end)) => Ok(refused(alloc, Rule::JsonDepth, text, start, end)?),
+        Err(JsonFault::NoMemory) => Err(BuildStop::NoMemory),
+    }
 }

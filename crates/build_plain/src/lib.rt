@@ -3,7 +3,11 @@
 
 mod building;
 mod files;
+mod laws;
+mod plain;
+mod refusal;
 mod sheet;
 
 pub use building::{BuildStop, build};
 pub use files::Files;
+pub use laws::one_build;

@@ -1,52 +1,62 @@
-// The style sheet of a group.
-ghost use Rattle.std.specs.Prelude.{◌≡◌, ◌++◌, codes, IfOk, OnOk};
-ghost use Rattle.token_tree.specs.View.{group_view};
-ghost use Rattle.build_plain.specs.Lines.{lines_in};
-ghost use Rattle.build_plain.specs.Out.{css_line};
+// The style sheet of a plain file.
+ghost use Rattle.std.specs.Prelude.{◌≡◌, ◌++◌, codes, IfOk, OnOk, flat_map};
+ghost use Rattle.std.specs.FinMap as map;
+ghost use Rattle.build_plain.specs.Out.{css_line, css_text};
 
+use dec_fix::Dec;
 use std::alloc::Global;
-use tk_io::{Bytes, NoMemory};
-use token_tree::Group;
+use tk_io::{Bytes, NoMemory, TextMap};
 
 // The line of a token.
-fn line(out: &mut Bytes, group: &str, name: &str, number: &str) -> Result<(), NoMemory>
-    ensures { OnOk result (out.new ≡ out.old ++ css_line group.now name.now number.now) }
+fn append_line(out: &mut Bytes, group: &str, name: &str, number: &Dec) -> Result<(), NoMemory>
+    ensures { OnOk result (out.new ≡ out.old ++ css_line group.now (name.now, number.now)) }
 {
     out.append(b"  --")?;
     out.append(group.as_bytes())?;
     out.append(b"-")?;
     out.append(name.as_bytes())?;
     out.append(b": ")?;
-    out.append(number.as_bytes())?;
-    out.append(b"px;\n")
+    number.write(out)?;
+    out.append(b"px;\n")?;
+    Ok(())
 }
 
-// The lines of all tokens.
-fn lines(out: &mut Bytes, root: &Group<'_>) -> Result<(), NoMemory>
-    ensures { OnOk result (out.new ≡ out.old ++ lines_in (group_view root.now)) }
+// The lines of a group's tokens.
+fn append_group(
+    alloc: Global,
+    out: &mut Bytes,
+    group: &str,
+    tokens: &TextMap<Dec>,
+) -> Result<(), NoMemory>
+    ensures { OnOk result (out.new ≡ out.old ++ flat_map (css_line group.now) (map.entries tokens.now)) }
 {
-    let Some((group, child)) = root.parts().first() else {
-        return Ok(());
-    };
-    let Some(inner) = child.as_group() else {
-        return Ok(());
-    };
-    let Some((name, token)) = inner.parts().first() else {
-        return Ok(());
-    };
-    let Some(def) = token.as_token() else {
-        return Ok(());
-    };
-    line(out, group.as_str(), name.as_str(), def.number)
+    for (name, number) in tokens.entries(alloc)?.as_slice() {
+        append_line(out, group, name, number)?;
+    }
+    Ok(())
 }
 
-/// The style sheet of a group's tokens.
-pub fn css(alloc: Global, root: &Group<'_>) -> Result<Bytes, NoMemory>
-    ensures { IfOk result (λ b. b ≡ codes ":root {\n" ++ lines_in (group_view root.now) ++ codes "}\n") }
+// The lines of all groups' tokens.
+fn append_groups(
+    alloc: Global,
+    out: &mut Bytes,
+    groups: &TextMap<TextMap<Dec>>,
+) -> Result<(), NoMemory>
+    ensures { OnOk result (out.new ≡ out.old ++ flat_map (λ g. flat_map (css_line g.0) (map.entries g.1)) (map.entries groups.now)) }
+{
+    for (group, tokens) in groups.entries(alloc)?.as_slice() {
+        append_group(alloc, out, group, tokens)?;
+    }
+    Ok(())
+}
+
+/// The style sheet of the groups.
+pub fn css(alloc: Global, groups: &TextMap<TextMap<Dec>>) -> Result<Bytes, NoMemory>
+    ensures { IfOk result (λ b. b ≡ css_text groups.now) }
 {
     let mut out = Bytes::new(alloc);
     out.append(b":root {\n")?;
-    lines(&mut out, root)?;
+    append_groups(alloc, &mut out, groups)?;
     out.append(b"}\n")?;
     Ok(out)
 }

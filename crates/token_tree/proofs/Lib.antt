@@ -1,3 +1,0 @@
-pub mod Built
-pub mod Found
-pub mod Shown
