@@ -1,1 +1,7 @@
 pub mod FileMaps
+pub mod Refusals
+pub mod Members
+pub mod Sheets
+pub mod Built
+pub mod Tokens
+pub mod PlainFiles

@@ -1,3 +1,4 @@
+pub mod Laws
 pub mod Out
 pub mod Plain
 pub mod Refusal

@@ -1,13 +1,13 @@
 -- The outputs of files: a style sheet, or a refusal.
-use Rattle.std.specs.Prelude.{◌≡◌, ℕ, Bool, ◌||◌, not, if◌then◌else◌, is_some, List, [], ◌++◌, codes, Option, Some, None, option_map, MatchBool, MatchOption, flat_map}
+use Rattle.std.specs.Prelude.{◌≡◌, ℕ, Bool, ◌||◌, not, if◌then◌else◌, is_some, List, [], ◌++◌, codes, Option, Some, None, option_map, MatchBool, flat_map}
 use Rattle.std.specs.FinMap as map
 use Rattle.tk_io.specs.Order.{text_cmp}
 use Rattle.dec_fix.specs.Decimal.{Decimal}
 use Rattle.dec_fix.specs.Writing.{spelling}
 use Rattle.json_span.specs.Answer.{Answer, IsAnswer, shows, flawed, stops}
-use Rattle.json_span.specs.Flaw.{Flaw, equal_names, too_deep}
+use Rattle.json_span.specs.Flaw.{equal_names, too_deep}
 use Rattle.json_span.specs.Tree.{tree_of}
-use Rattle.build_plain.specs.Plain.{Tokens, Groups, plain_in}
+use Rattle.build_plain.specs.Plain.{Groups, plain_in}
 use Rattle.build_plain.specs.Refusal.{refusal_text}
 use Rattle.build_plain.specs.declared.refusal.Rule.{Rule}
 use Rattle.build_plain.specs.declared.refusal.Rule.TheVariants as rule

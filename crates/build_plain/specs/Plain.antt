@@ -1,12 +1,12 @@
 -- Plain token files: groups of kind dimension whose tokens are numbers of pixels, and nothing else.
-use Rattle.std.specs.Prelude.{◌≡◌, ℕ, Bool, false, ◌==◌, ◌&&◌, ◌||◌, not, nat_le, if◌then◌else◌, List, [], ◌∷◌, length, codes, Option, Some, None, option_map, option_and_then}
+use Rattle.std.specs.Prelude.{ℕ, Bool, false, ◌==◌, ◌&&◌, ◌||◌, not, nat_le, if◌then◌else◌, List, [], ◌∷◌, length, codes, Option, Some, None, option_map, option_and_then}
 use Rattle.std.specs.FinMap as map
 use Rattle.std.specs.List.{list_all}
 use Rattle.std.specs.Str.{bytes_eq}
 use Rattle.tk_io.specs.Order.{text_cmp}
 use Rattle.dec_fix.specs.Decimal.{Decimal}
 use Rattle.dec_fix.specs.Reading.{number_of}
-use Rattle.json_span.specs.Tree.{Tree, Placed, Entry, tree_of, object_in, string_in, number_in}
+use Rattle.json_span.specs.Tree.{Tree, Entry, tree_of, object_in, string_in, number_in}
 
 -- the tokens of a group, from name to number of pixels, and the groups of a file
 abbrev pub Tokens : Type 0

@@ -1,5 +1,5 @@
 -- What is printed of a refusal: its rule, and where it stands.
-use Rattle.std.specs.Prelude.{ℕ, ◌+◌, ◌==◌, not, List, ◌++◌, length, take, codes, count_by}
+use Rattle.std.specs.Prelude.{ℕ, ◌+◌, ◌==◌, not, List, ◌++◌, take, codes, count_by}
 use Rattle.std.specs.Fmt.{decimal}
 use Rattle.std.specs.List.{suffix_len}
 use Rattle.build_plain.specs.declared.refusal.Rule.{Rule}

@@ -7,7 +7,9 @@ mod laws;
 mod plain;
 mod refusal;
 mod sheet;
+#[cfg(test)]
+mod tests;
 
 pub use building::{BuildStop, build};
 pub use files::Files;
-pub use laws::one_build;
+pub use laws::{each_printed, each_token, one_build, plain_files};

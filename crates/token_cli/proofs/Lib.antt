@@ -1,3 +1,10 @@
+pub mod Edits
+pub mod Endings
+pub mod Lists
+pub mod Outcomes
 pub mod Pieces
-pub mod Scripts
-pub mod Single
+pub mod Places
+pub mod Records
+pub mod Standing
+pub mod Stops
+pub mod Streams

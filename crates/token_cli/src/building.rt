@@ -1,14 +1,10 @@
-// From a script to its outputs.
-ghost use Rattle.std.specs.Prelude.{◌≡◌, ◌<◌, IfOk, Err};
-ghost use Rattle.token_tree.specs.Grammar.{Thin, IsThin};
-ghost use Rattle.build_plain.specs.Out.{AreThin, out_of};
-ghost use Rattle.token_cli.specs.Script.{IsThinScript};
+// Building the files of a commit.
+ghost use Rattle.std.specs.Prelude.{◌≡◌, ◌<◌, Some, None, Err, IfOk};
+ghost use Rattle.build_plain.specs.Out.{Builds};
 
-use crate::script::script_text;
 use build_plain::{BuildStop, Files, build};
 use std::alloc::Global;
 use std::marker::Brand;
-use std::str;
 use std::sync::ledger::{Blank, Ledger};
 use tk_io::{Outputs, Steps};
 
@@ -23,8 +19,8 @@ fn counted<L: Ledger, M: Ledger, N: Ledger>(
     requires parses { (parses.name ≡ L.name) × (parses.parts ≡ L.parts) × (0 < L.parts) }
     requires merges { (merges.name ≡ M.name) × (merges.parts ≡ M.parts) × (0 < M.parts) }
     requires evals { (evals.name ≡ N.name) × (evals.parts ≡ N.parts) × (0 < N.parts) }
-    ensures ok { IfOk result (λ o. (f : Thin) × AreThin files.now f × (o ≡ out_of f)) }
-    ensures not_yet { result ≡ Err BuildStop.NotYet → (f : Thin) → AreThin files.now f → ⊥ }
+    ensures ok { IfOk result (λ o. Builds files.now (Some o)) }
+    ensures not_yet { result ≡ Err BuildStop.NotYet → Builds files.now None }
 {
     let mut parses: Steps<L> = Steps::new(parses);
     let mut merges: Steps<M> = Steps::new(merges);
@@ -32,35 +28,13 @@ fn counted<L: Ledger, M: Ledger, N: Ledger>(
     build(alloc, files, &mut parses, &mut merges, &mut evals)
 }
 
-fn build_files(alloc: Global, files: &Files<'_>) -> Result<Outputs, BuildStop>
-    ensures ok { IfOk result (λ o. (f : Thin) × AreThin files.now f × (o ≡ out_of f)) }
-    ensures not_yet { result ≡ Err BuildStop.NotYet → (f : Thin) → AreThin files.now f → ⊥ }
-{
-    counted::<Brand, Brand, Brand>(alloc, files, Blank::new(1), Blank::new(1), Blank::new(1))
-}
-
-fn build_text(alloc: Global, text: &str) -> Result<Outputs, BuildStop>
-    ensures ok { IfOk result (λ o. (f : Thin) × IsThin text.now f × (o ≡ out_of f)) }
-    ensures not_yet { result ≡ Err BuildStop.NotYet → (f : Thin) → IsThin text.now f → ⊥ }
-{
-    let mut files = Files::new(alloc);
-    files.put("tokens.json", text)?;
-    build_files(alloc, &files)
-}
-
-/// The outputs of the file that a script puts.
+/// The outputs of the files, built from nothing.
 ///
 /// # Errors
-/// `NotYet` exactly where the bytes are no thin script. `NoMemory`.
-pub fn script_outputs(alloc: Global, script: &[u8]) -> Result<Outputs, BuildStop>
-    ensures ok { IfOk result (λ o. (f : Thin) × IsThinScript script.now f × (o ≡ out_of f)) }
-    ensures not_yet { result ≡ Err BuildStop.NotYet → (f : Thin) → IsThinScript script.now f → ⊥ }
+/// `NotYet` exactly where the files are none that are built so far; `NoMemory`.
+pub fn build_files(alloc: Global, files: &Files<'_>) -> Result<Outputs, BuildStop>
+    ensures ok { IfOk result (λ o. Builds files.now (Some o)) }
+    ensures not_yet { result ≡ Err BuildStop.NotYet → Builds files.now None }
 {
-    let Some(bytes) = script_text(alloc, script)? else {
-        return Err(BuildStop::NotYet);
-    };
-    let Ok(text) = str::from_utf8(bytes) else {
-        return Err(BuildStop::NotYet);
-    };
-    build_text(alloc, text)
+    counted::<Brand, Brand, Brand>(alloc, files, Blank::new(1), Blank::new(1), Blank::new(1))
 }

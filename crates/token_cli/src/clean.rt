@@ -1,8 +1,9 @@
 // A run over a source and sinks that never fail.
-ghost use Rattle.std.specs.Prelude.{◌≡◌, ◌≢◌, ◌<◌, length, true, false};
-ghost use Rattle.token_tree.specs.Grammar.{Thin};
-ghost use Rattle.token_cli.specs.Script.{IsThinScript};
-ghost use Rattle.token_cli.specs.Words.{are_build};
+ghost use Rattle.std.specs.Prelude.{◌≡◌, ◌≢◌, ◌<◌, ◌≤◌, ◌⊎◌, List, ℕ, None, Some, IfSome, length};
+ghost use Rattle.edit_script.specs.Script.{EventData, IsScript};
+ghost use Rattle.token_cli.specs.Headline.{AreBuilt, events_for, most_bytes};
+ghost use Rattle.token_cli.specs.Words.{command_of};
+ghost use Rattle.token_cli.specs.declared.words.Command.{Command as CommandData};
 
 use crate::running::run;
 use crate::status::Status;
@@ -15,10 +16,10 @@ use tk_io::{CleanSource, NullSink};
 pub fn run_clean(alloc: Global, words: &[String], src: &mut CleanSource<'_>) -> Status
     ensures read { result ≢ Status.ReadFault }
     ensures write { result ≢ Status.WriteFault }
-    ensures words { are_build words.now ≡ false → result ≡ Status.NotYet }
-    ensures done { result ≡ Status.Done → (are_build words.now ≡ true) × ((f : Thin) × IsThinScript src.old f) }
-    ensures not_yet { result ≡ Status.NotYet → are_build words.now ≡ true → (f : Thin) → IsThinScript src.old f → ⊥ }
-    ensures too_long { result ≡ Status.TooLong → 67108864 < length src.old }
+    ensures words { command_of words.now ≡ None → result ≡ Status.NotYet }
+    ensures complete { (c : CommandData) (es : List EventData) → command_of words.now ≡ Some c → length src.old ≤ most_bytes → IsScript src.old es → AreBuilt (events_for c es) → (result ≡ Status.Done) ⊎ ((result ≡ Status.Refused) ⊎ (result ≡ Status.NoMemory)) }
+    ensures unread { (c : CommandData) → command_of words.now ≡ Some c → length src.old ≤ most_bytes → ((es : List EventData) → IsScript src.old es → ⊥) → (result ≡ Status.BadScript) ⊎ (result ≡ Status.NoMemory) }
+    ensures too_long { result ≡ Status.TooLong → most_bytes < length src.old }
 {
     run(
         alloc,

@@ -3,15 +3,19 @@
 
 mod building;
 mod clean;
+mod laws;
+mod reading;
+mod replaying;
+mod reporting;
 mod running;
-mod script;
 mod status;
-mod stream;
-mod words;
-
-pub use clean::run_clean;
-pub use running::run;
-pub use status::Status;
-
+mod stop;
 #[cfg(test)]
 mod tests;
+mod words;
+mod workspace;
+
+pub use clean::run_clean;
+pub use laws::one_stream;
+pub use running::run;
+pub use status::Status;

@@ -1,77 +1,70 @@
 // Running the words of the command line.
-ghost use Rattle.std.specs.Prelude.{Some, List, ◌⊎◌, ◌≡◌, ◌≢◌, ◌≤◌, ◌<◌, ℕ, length, true, false, IfSome};
-ghost use Rattle.std.specs.Io.KnownBytes.{Appends, IsAtEnd};
+ghost use Rattle.std.specs.Prelude.{Some, None, Err, List, ◌⊎◌, ◌≡◌, ◌≤◌, ◌<◌, ℕ, suc, Bool, Ok, length, IfSome};
+ghost use Rattle.std.specs.Io.KnownBytes.{IsAtEnd};
 ghost use Rattle.tk_io.specs.Causes.{Rose};
 ghost use Rattle.tk_io.specs.Reading.{TakesAtMost, TakesExactly};
-ghost use Rattle.tk_io.specs.Writing.{AppendsFront};
-ghost use Rattle.token_tree.specs.Grammar.{Thin};
-ghost use Rattle.build_plain.specs.Out.{out_of};
-ghost use Rattle.token_cli.specs.Script.{IsThinScript};
-ghost use Rattle.token_cli.specs.Words.{are_build};
-ghost use Rattle.token_cli.specs.Expected.{IsExpected, IsOneOf};
-ghost use Rattle.token_cli.specs.Stream.{stream_of, error_text, Reports};
+ghost use Rattle.edit_script.specs.Script.{EventData, IsScript, IsScriptStop};
+ghost use Rattle.token_cli.specs.Ending.{Scripted};
+ghost use Rattle.token_cli.specs.Headline.{OfScript, WroteStream, WroteFront, WroteUntil, BuildsAt, AreBuilt, events_for, most_bytes};
+ghost use Rattle.token_cli.specs.Report.{error_text, Reports};
+ghost use Rattle.token_cli.specs.Words.{command_of};
+ghost use Rattle.token_cli.specs.declared.words.Command.{Command as CommandData};
+ghost use Rattle.edit_script.specs.Files.{commit_count};
 
-use crate::building::script_outputs;
-use crate::status::{Status, report};
-use crate::stream::{WriteStop, write_stream};
-use crate::words::are_build;
-use build_plain::BuildStop;
+use crate::reading::read_events;
+use crate::replaying::write_stream;
+use crate::reporting::report;
+use crate::status::{Status, status_of};
+use crate::stop::Stop;
+use crate::words::{Command, command_of};
 use std::alloc::Global;
-use tk_io::{ReadStop, Sink, Source, read_all};
+use tk_io::{Sink, Source, read_all};
 
 /// How many bytes a script may have.
 const LIMIT: u64 = 67_108_864;
 
-// Builds what the script puts and writes its stream.
-fn build_and_write<K: Sink>(alloc: Global, script: &[u8], out: &mut K) -> Status
-    ensures done { result ≡ Status.Done → (f : Thin) × IsThinScript script.now f × Appends (K.written out.old) (K.written out.new) (stream_of (out_of f)) }
-    ensures fault { result ≡ Status.WriteFault → Rose (K.faults out.old) (K.faults out.new) × ((f : Thin) × IsThinScript script.now f × AppendsFront (K.written out.old) (K.written out.new) (stream_of (out_of f))) }
-    ensures not_yet { result ≡ Status.NotYet → (out.new ≡ out.old) × ((f : Thin) → IsThinScript script.now f → ⊥) }
-    ensures memory { result ≡ Status.NoMemory → out.new ≡ out.old }
-    ensures others { IsOneOf result }
+// Reads the script and writes its stream.
+fn write_script<K: Sink>(
+    alloc: Global,
+    command: Command,
+    script: &[u8],
+    out: &mut K,
+) -> Result<bool, Stop>
+    ensures { Scripted result command script.now (K.written out.old) (K.written out.new) (K.faults out.old) (K.faults out.new) }
 {
-    let outputs = match script_outputs(alloc, script) {
-        Ok(outputs) => outputs,
-        Err(BuildStop::NotYet) => return Status::NotYet,
-        Err(BuildStop::NoMemory) => return Status::NoMemory,
-    };
-    match write_stream(alloc, out, &outputs) {
-        Ok(()) => Status::Done,
-        Err(WriteStop::WriteFault) => Status::WriteFault,
-        Err(WriteStop::NoMemory) => Status::NoMemory,
-    }
+    let events = read_events(alloc, script)?;
+    write_stream(alloc, command, &events, out)
 }
 
 // All that the words ask for, but for the report.
-fn main_job<S: Source, K: Sink>(alloc: Global, words: &[String], src: &mut S, out: &mut K) -> Status
-    ensures done { result ≡ Status.Done → (are_build words.now ≡ true) × IsAtEnd (S.left src.new)
-        × IfSome (S.left src.old) (λ script. (length script ≤ 67108864) × ((f : Thin) × IsThinScript script f × Appends (K.written out.old) (K.written out.new) (stream_of (out_of f)))) }
-    ensures not_yet { result ≡ Status.NotYet → (K.written out.new ≡ K.written out.old)
-        × (are_build words.now ≡ true → IsAtEnd (S.left src.new) × IfSome (S.left src.old) (λ script. (length script ≤ 67108864) × ((f : Thin) → IsThinScript script f → ⊥))) }
-    ensures read_fault { result ≡ Status.ReadFault → Rose (S.faults src.old) (S.faults src.new) × (K.written out.new ≡ K.written out.old) }
-    ensures write_fault { result ≡ Status.WriteFault → Rose (K.faults out.old) (K.faults out.new)
-        × IfSome (S.left src.old) (λ script. (length script ≤ 67108864) × ((f : Thin) × IsThinScript script f × AppendsFront (K.written out.old) (K.written out.new) (stream_of (out_of f)))) }
-    ensures memory { result ≡ Status.NoMemory → K.written out.new ≡ K.written out.old }
-    ensures too_long { result ≡ Status.TooLong → TakesExactly 67108865 (S.left src.old) (S.left src.new) × (K.written out.new ≡ K.written out.old) }
-    ensures taken { result ≢ Status.TooLong → TakesAtMost 67108864 (S.left src.old) (S.left src.new) }
-    ensures words { are_build words.now ≡ false → (result ≡ Status.NotYet) × (src.new ≡ src.old) }
-    ensures others { IsExpected result }
+fn main_job<S: Source, K: Sink>(
+    alloc: Global,
+    words: &[String],
+    src: &mut S,
+    out: &mut K,
+) -> Result<bool, Stop>
+    ensures wrote { (refused : Bool) → result ≡ Ok refused → IsAtEnd (S.left src.new) × OfScript (command_of words.now) (S.left src.old) (λ es. WroteStream es refused (K.written out.old) (K.written out.new)) }
+    ensures words { command_of words.now ≡ None → (result ≡ Err Stop.NotYet) × (src.new ≡ src.old) × (K.written out.new ≡ K.written out.old) }
+    ensures not_yet { result ≡ Err Stop.NotYet → IfSome (command_of words.now) (λ c. IsAtEnd (S.left src.new)) × OfScript (command_of words.now) (S.left src.old) (λ es. WroteUntil es (K.written out.old) (K.written out.new)) }
+    ensures bad_script { (at : ℕ) → result ≡ Err (Stop.BadScript at) → (K.written out.new ≡ K.written out.old) × IsAtEnd (S.left src.new) × IfSome (S.left src.old) (λ script. (length script ≤ most_bytes) × IsScriptStop script at) }
+    ensures read_fault { result ≡ Err Stop.ReadFault → Rose (S.faults src.old) (S.faults src.new) × (K.written out.new ≡ K.written out.old) }
+    ensures write_fault { result ≡ Err Stop.WriteFault → Rose (K.faults out.old) (K.faults out.new) × IsAtEnd (S.left src.new) × OfScript (command_of words.now) (S.left src.old) (λ es. WroteFront es (K.written out.old) (K.written out.new)) }
+    ensures memory { result ≡ Err Stop.NoMemory → (K.written out.new ≡ K.written out.old) ⊎ (IsAtEnd (S.left src.new) × OfScript (command_of words.now) (S.left src.old) (λ es. WroteFront es (K.written out.old) (K.written out.new))) }
+    ensures too_long { result ≡ Err Stop.TooLong → TakesExactly 67108865 (S.left src.old) (S.left src.new) × (K.written out.new ≡ K.written out.old) }
+    ensures taken { (result ≡ Err Stop.TooLong → ⊥) → TakesAtMost most_bytes (S.left src.old) (S.left src.new) }
 {
-    if !are_build(words) {
-        return Status::NotYet;
-    }
-    match read_all(alloc, src, LIMIT) {
-        Ok(script) => build_and_write(alloc, script.as_slice(), out),
-        Err(ReadStop::ReadFault) => Status::ReadFault,
-        Err(ReadStop::TooLong) => Status::TooLong,
-        Err(ReadStop::NoMemory) => Status::NoMemory,
-    }
+    let Some(command) = command_of(words) else {
+        return Err(Stop::NotYet);
+    };
+    let script = read_all(alloc, src, LIMIT)?;
+    write_script(alloc, command, script.as_slice(), out)
 }
 
 /// Does what the words say with the script of the source, writes the stream to `out` and a line about a failure to
 /// `err`, and answers how it ended.
 ///
-/// So far the one job is `build` of a thin script: one put of `tokens.json` with the text of a thin file.
+/// The words are `build` or `replay`. Commit after commit, the stream has exactly the output files that a build from
+/// nothing of the files then present would change; `build` acts as if every commit were taken out and one stood at the end.
 pub fn run<S: Source, K: Sink, E: Sink>(
     alloc: Global,
     words: &[String],
@@ -79,37 +72,44 @@ pub fn run<S: Source, K: Sink, E: Sink>(
     out: &mut K,
     err: &mut E,
 ) -> Status
-    // All was written: the stream of the thin file whose script the source had left.
-    ensures done { result ≡ Status.Done → (are_build words.now ≡ true) × IsAtEnd (S.left src.new)
-        × IfSome (S.left src.old) (λ script. (length script ≤ 67108864) × ((f : Thin) × IsThinScript script f × Appends (K.written out.old) (K.written out.new) (stream_of (out_of f)))) }
-    // The words are not `build`, or what was read to the end is no thin script.
-    ensures not_yet { result ≡ Status.NotYet → (K.written out.new ≡ K.written out.old)
-        × (are_build words.now ≡ true → IsAtEnd (S.left src.new) × IfSome (S.left src.old) (λ script. (length script ≤ 67108864) × ((f : Thin) → IsThinScript script f → ⊥))) }
-    // Other words are not built, and nothing is read for them.
-    ensures words { are_build words.now ≡ false → (result ≡ Status.NotYet) × (src.new ≡ src.old) }
+    // The headline: all was written, and no refusal is held at the end, ..
+    ensures done { result ≡ Status.Done → IsAtEnd (S.left src.new) × OfScript (command_of words.now) (S.left src.old) (λ es. WroteStream es Bool.false (K.written out.old) (K.written out.new)) }
+    // .. or one is.
+    ensures refused { result ≡ Status.Refused → IsAtEnd (S.left src.new) × OfScript (command_of words.now) (S.left src.old) (λ es. WroteStream es Bool.true (K.written out.old) (K.written out.new)) }
+    // Other words are not built, and nothing is read or written for them.
+    ensures words { command_of words.now ≡ None → (result ≡ Status.NotYet) × (src.new ≡ src.old) × (K.written out.new ≡ K.written out.old) }
+    // A commit's files are not built, and all that stands before its line was written.
+    ensures not_yet { result ≡ Status.NotYet → IfSome (command_of words.now) (λ c. IsAtEnd (S.left src.new)) × OfScript (command_of words.now) (S.left src.old) (λ es. WroteUntil es (K.written out.old) (K.written out.new)) }
+    // What was read to the end is no script, and the place where it is refused is said.
+    ensures bad_script { result ≡ Status.BadScript → (K.written out.new ≡ K.written out.old) × IsAtEnd (S.left src.new)
+        × ((at : ℕ) × IfSome (S.left src.old) (λ script. (length script ≤ most_bytes) × IsScriptStop script at) × Reports (E.written err.old) (E.written err.new) (E.faults err.old) (E.faults err.new) (error_text result at)) }
     // A fault is answered only where its count rose.
     ensures read_fault { result ≡ Status.ReadFault → Rose (S.faults src.old) (S.faults src.new) × (K.written out.new ≡ K.written out.old) }
-    ensures write_fault { result ≡ Status.WriteFault → Rose (K.faults out.old) (K.faults out.new)
-        × IfSome (S.left src.old) (λ script. (length script ≤ 67108864) × ((f : Thin) × IsThinScript script f × AppendsFront (K.written out.old) (K.written out.new) (stream_of (out_of f)))) }
-    ensures memory { result ≡ Status.NoMemory → K.written out.new ≡ K.written out.old }
+    ensures write_fault { result ≡ Status.WriteFault → Rose (K.faults out.old) (K.faults out.new) × IsAtEnd (S.left src.new) × OfScript (command_of words.now) (S.left src.old) (λ es. WroteFront es (K.written out.old) (K.written out.new)) }
+    // Where memory ran out, nothing was written, or a front of the stream.
+    ensures memory { result ≡ Status.NoMemory → (K.written out.new ≡ K.written out.old) ⊎ (IsAtEnd (S.left src.new) × OfScript (command_of words.now) (S.left src.old) (λ es. WroteFront es (K.written out.old) (K.written out.new))) }
     // A script is too long exactly where one byte more than the limit was taken.
     ensures too_long { result ≡ Status.TooLong → TakesExactly 67108865 (S.left src.old) (S.left src.new) × (K.written out.new ≡ K.written out.old) }
-    ensures taken { result ≢ Status.TooLong → TakesAtMost 67108864 (S.left src.old) (S.left src.new) }
-    // Where the script is thin and nothing fails, all is written, or memory ran out.
-    ensures complete { (script : List ℕ) (f : Thin) → are_build words.now ≡ true → S.left src.old ≡ Some script → IsThinScript script f → length script ≤ 67108864
-        → (Rose (S.faults src.old) (S.faults src.new) → ⊥) → (Rose (K.faults out.old) (K.faults out.new) → ⊥) → (result ≡ Status.Done) ⊎ (result ≡ Status.NoMemory) }
-    // Where it is not thin and nothing fails, it is not built, or memory ran out.
-    ensures refused { (script : List ℕ) → are_build words.now ≡ true → S.left src.old ≡ Some script → ((f : Thin) → IsThinScript script f → ⊥) → length script ≤ 67108864
-        → (Rose (S.faults src.old) (S.faults src.new) → ⊥) → (result ≡ Status.NotYet) ⊎ (result ≡ Status.NoMemory) }
-    // Where it is longer than the limit and nothing fails, it is too long, or memory ran out.
-    ensures endless { (script : List ℕ) → are_build words.now ≡ true → S.left src.old ≡ Some script → 67108864 < length script
+    ensures taken { (result ≡ Status.TooLong → ⊥) → TakesAtMost most_bytes (S.left src.old) (S.left src.new) }
+    // Where the script has a reading, every commit is built and nothing fails, all is written, or memory ran out.
+    ensures complete { (c : CommandData) (script : List ℕ) (es : List EventData) → command_of words.now ≡ Some c → S.left src.old ≡ Some script → length script ≤ most_bytes → IsScript script es → AreBuilt (events_for c es)
+        → (Rose (S.faults src.old) (S.faults src.new) → ⊥) → (Rose (K.faults out.old) (K.faults out.new) → ⊥) → (result ≡ Status.Done) ⊎ ((result ≡ Status.Refused) ⊎ (result ≡ Status.NoMemory)) }
+    // Where a commit isn't built and nothing fails, that is said, or memory ran out.
+    ensures unbuilt { (c : CommandData) (script : List ℕ) (es : List EventData) (k : ℕ) → command_of words.now ≡ Some c → S.left src.old ≡ Some script → length script ≤ most_bytes → IsScript script es
+        → suc k ≤ commit_count (events_for c es) → BuildsAt (events_for c es) (suc k) None
+        → (Rose (S.faults src.old) (S.faults src.new) → ⊥) → (Rose (K.faults out.old) (K.faults out.new) → ⊥) → (result ≡ Status.NotYet) ⊎ (result ≡ Status.NoMemory) }
+    // Where the script has no reading and reading doesn't fail, that is said, or memory ran out.
+    ensures unread { (c : CommandData) (script : List ℕ) → command_of words.now ≡ Some c → S.left src.old ≡ Some script → length script ≤ most_bytes → ((es : List EventData) → IsScript script es → ⊥)
+        → (Rose (S.faults src.old) (S.faults src.new) → ⊥) → (result ≡ Status.BadScript) ⊎ (result ≡ Status.NoMemory) }
+    // Where the script is longer than the limit and reading doesn't fail, that is said, or memory ran out.
+    ensures endless { (c : CommandData) (script : List ℕ) → command_of words.now ≡ Some c → S.left src.old ≡ Some script → most_bytes < length script
         → (Rose (S.faults src.old) (S.faults src.new) → ⊥) → (result ≡ Status.TooLong) ⊎ (result ≡ Status.NoMemory) }
-    // No other status comes.
-    ensures others { IsExpected result }
+    // The words are not looked at for more than the commands that are built.
+    ensures others { result ≡ Status.Usage → ⊥ }
     // The error text was appended whole, or a front of it was and the error sink failed.
-    ensures error { Reports (E.written err.old) (E.written err.new) (E.faults err.old) (E.faults err.new) (error_text result) }
+    ensures error { (result ≡ Status.BadScript → ⊥) → Reports (E.written err.old) (E.written err.new) (E.faults err.old) (E.faults err.new) (error_text result 0) }
 {
-    let status = main_job(alloc, words, src, out);
-    report(err, status);
-    status
+    let ended = main_job(alloc, words, src, out);
+    report(err, ended);
+    status_of(ended)
 }

@@ -1,15 +1,16 @@
-// How a run ends, and what is said of it.
+// How a run ends.
 ghost use Rattle.std.specs.Prelude.{◌≡◌};
-ghost use Rattle.token_cli.specs.Stream.{error_text, number_of, Reports};
+ghost use Rattle.token_cli.specs.Ending.{status_of};
+ghost use Rattle.token_cli.specs.Report.{number_of};
 
-use tk_io::{Sink, write_all};
+use crate::stop::Stop;
 
 /// How a run ends.
 #[derive(Clone, Copy, Debug, PartialEq, Eq)]
 pub enum Status {
-    /// All was written.
+    /// All was written, and no refusal is held after the last commit.
     Done,
-    /// All was written, and something is refused.
+    /// All was written, and a refusal is held after the last commit.
     Refused,
     /// The words are none that are known.
     Usage,
@@ -23,7 +24,7 @@ pub enum Status {
     NoMemory,
     /// The script is longer than 67,108,864 bytes.
     TooLong,
-    /// The words or the script are none that are built so far.
+    /// The words, or the files of a commit, are none that are built so far.
     NotYet,
 }
 
@@ -46,23 +47,18 @@ impl Status {
     }
 }
 
-fn error_text(status: Status) -> &'static [u8]
-    ensures { result.now ≡ error_text status }
+/// The status of a run whose stream was written whole, with or without a refusal at its end, or that stopped.
+pub fn status_of(ended: Result<bool, Stop>) -> Status
+    ensures { result ≡ status_of ended }
 {
-    match status {
-        Status::Done | Status::Refused | Status::BadScript => b"",
-        Status::Usage => b"usage: tokc build | replay | stats | gen SEED SIZE\n",
-        Status::ReadFault => b"tokc: read failed\n",
-        Status::WriteFault => b"tokc: write failed\n",
-        Status::NoMemory => b"tokc: out of memory\n",
-        Status::TooLong => b"tokc: script too long\n",
-        Status::NotYet => b"tokc: not built yet\n",
+    match ended {
+        Ok(true) => Status::Refused,
+        Ok(false) => Status::Done,
+        Err(Stop::BadScript(_)) => Status::BadScript,
+        Err(Stop::ReadFault) => Status::ReadFault,
+        Err(Stop::WriteFault) => Status::WriteFault,
+        Err(Stop::NoMemory) => Status::NoMemory,
+        Err(Stop::TooLong) => Status::TooLong,
+        Err(Stop::NotYet) => Status::NotYet,
     }
-}
-
-/// Writes the status's text on the error sink. Where that fails, nothing else changes.
-pub fn report<E: Sink>(err: &mut E, status: Status)
-    ensures { Reports (E.written err.old) (E.written err.new) (E.faults err.old) (E.faults err.new) (error_text status) }
-{
-    let _ = write_all(err, error_text(status));
 }

@@ -1,130 +1,264 @@
-// Runs of the command line: what is written, what is said of a failure, and how it ends.
+//! Runs of the command line: what is written, what is said of a failure, and how it ends.
 use crate::{Status, run, run_clean};
 use std::alloc::Global;
 use std::process::Abort;
 use std::test::Fail;
 use tk_io::{CleanSource, MemSink, MemSource};
 
-const SCRIPT: &[u8] =
-    b"tokc-script 1\nput tokens.json 70\n{\"space\":{\"$type\":\"dimension\",\"s\":{\"$value\":{\"value\":4,\"unit\":\"px\"}}}}\n";
-
-const STREAM: &[u8] =
-    b"tokc-stream 1\ncommit 1\nfile default/tokens.css 28\n:root {\n  --space-s: 4px;\n}\n\ndone 1\n";
-
-// A run of one word, by the script and the calls that fail.
-#[derive(Drop)]
-struct Case<'a> {
-    word: &'a str,
-    script: &'a [u8],
-    read_fails: &'a [u64],
-    write_fails: &'a [u64],
-    report_fails: &'a [u64],
+/// A run without a failing call: one word, the script, and what is written, what is said and how it ends.
+struct Case {
+    word: &'static str,
+    script: &'static [u8],
+    written: &'static str,
+    said: &'static str,
+    status: Status,
 }
 
-// What the run writes, what it reports and how it ends.
+static CASES: [Case; 19] = [
+    Case {
+        word: "build",
+        script: b"tokc-script 1\nput tokens.json 70\n{\"space\":{\"$type\":\"dimension\",\"s\":{\"$value\":{\"value\":4,\"unit\":\"px\"}}}}\n",
+        written: "tokc-stream 1\ncommit 1\nfile default/tokens.css 28\n:root {\n  --space-s: 4px;\n}\n\ndone 1\n",
+        said: "",
+        status: Status::Done,
+    },
+    Case {
+        word: "replay",
+        script: b"tokc-script 1\n",
+        written: "tokc-stream 1\ndone 0\n",
+        said: "",
+        status: Status::Done,
+    },
+    Case {
+        word: "replay",
+        script: b"tokc-script 1\ncommit\ncommit\n",
+        written: "tokc-stream 1\ncommit 1\nfile default/REFUSED 61\nrule file-missing\nfile tokens.json\nline 1 column 1\nbytes 0 0\n\ncommit 2\ndone 2\n",
+        said: "",
+        status: Status::Refused,
+    },
+    Case {
+        word: "build",
+        script: b"tokc-script 1\nput tokens.json 0\n\n",
+        written: "tokc-stream 1\ncommit 1\nfile default/REFUSED 60\nrule json-syntax\nfile tokens.json\nline 1 column 1\nbytes 0 0\n\ndone 1\n",
+        said: "",
+        status: Status::Refused,
+    },
+    Case {
+        word: "build",
+        script: b"tokc-script 1\nput tokens.json 2\n{}\n",
+        written: "tokc-stream 1\ncommit 1\nfile default/tokens.css 10\n:root {\n}\n\ndone 1\n",
+        said: "",
+        status: Status::Done,
+    },
+    Case {
+        word: "build",
+        script: b"tokc-script 1\nput a.json 5\n{}\n",
+        written: "",
+        said: "tokc: bad script at byte 14\n",
+        status: Status::BadScript,
+    },
+    Case {
+        word: "replay",
+        script: b"tokc-script 1\ncommit\nput a.json 02\n{}\n",
+        written: "",
+        said: "tokc: bad script at byte 21\n",
+        status: Status::BadScript,
+    },
+    Case {
+        word: "replay",
+        script: b"tokc-script 1\ncommit\n\xff\n",
+        written: "",
+        said: "tokc: bad script at byte 21\n",
+        status: Status::BadScript,
+    },
+    Case {
+        word: "build",
+        script: b"tokc-script 1\nput tokens.json 5\n\xef\xbb\xbf{}\n",
+        written: "tokc-stream 1\ncommit 1\nfile default/REFUSED 60\nrule json-syntax\nfile tokens.json\nline 1 column 1\nbytes 0 0\n\ndone 1\n",
+        said: "",
+        status: Status::Refused,
+    },
+    Case {
+        word: "build",
+        script: b"tokc-script 1\nput tokens.json 15\n{\"a\":\"\\ud800x\"}\n",
+        written: "tokc-stream 1\ncommit 1\nfile default/REFUSED 63\nrule json-syntax\nfile tokens.json\nline 1 column 13\nbytes 12 12\n\ndone 1\n",
+        said: "",
+        status: Status::Refused,
+    },
+    Case {
+        word: "build",
+        script: b"tokc-script 1\nput tokens.json 13\n{\"a\":1,\"a\":2}\n",
+        written: "tokc-stream 1\ncommit 1\nfile default/REFUSED 64\nrule json-duplicate\nfile tokens.json\nline 1 column 8\nbytes 7 10\n\ndone 1\n",
+        said: "",
+        status: Status::Refused,
+    },
+    Case {
+        word: "build",
+        script: b"tokc-script 1\nput tokens.json 1\n{\n",
+        written: "tokc-stream 1\ncommit 1\nfile default/REFUSED 60\nrule json-syntax\nfile tokens.json\nline 1 column 2\nbytes 1 1\n\ndone 1\n",
+        said: "",
+        status: Status::Refused,
+    },
+    Case {
+        word: "build",
+        script: b"tokc-script 1\nput tokens.json 130\n[[[[[[[[[[[[[[[[[[[[[[[[[[[[[[[[[[[[[[[[[[[[[[[[[[[[[[[[[[[[[[[[[]]]]]]]]]]]]]]]]]]]]]]]]]]]]]]]]]]]]]]]]]]]]]]]]]]]]]]]]]]]]]]]]]\n",
+        written: "tokc-stream 1\ncommit 1\nfile default/REFUSED 62\nrule json-depth\nfile tokens.json\nline 1 column 65\nbytes 64 65\n\ndone 1\n",
+        said: "",
+        status: Status::Refused,
+    },
+    Case {
+        word: "build",
+        script: b"tokc-script 1\nput tokens.json 4\n{} x\n",
+        written: "tokc-stream 1\ncommit 1\nfile default/REFUSED 60\nrule json-syntax\nfile tokens.json\nline 1 column 4\nbytes 3 3\n\ndone 1\n",
+        said: "",
+        status: Status::Refused,
+    },
+    Case {
+        word: "replay",
+        script: b"tokc-script 1\nput tokens.json 70\n{\"space\":{\"$type\":\"dimension\",\"s\":{\"$value\":{\"value\":4,\"unit\":\"px\"}}}}\ncommit\nput tokens.json 70\n{\"space\":{\"$type\":\"dimension\",\"s\":{\"$value\":{\"value\":4,\"unit\":\"px\"}}}}\nput other.json 2\n{}\ncommit\ndel tokens.json\ndel tokens.json\ncommit\nput tokens.json 73\n{\"space\":{\"$type\":\"dimension\",\"s\":{\"$value\":{\"value\":1.50,\"unit\":\"px\"}}}}\ncommit\n",
+        written: "tokc-stream 1\ncommit 1\nfile default/tokens.css 28\n:root {\n  --space-s: 4px;\n}\n\ncommit 2\ncommit 3\nfile default/REFUSED 61\nrule file-missing\nfile tokens.json\nline 1 column 1\nbytes 0 0\n\ngone default/tokens.css\ncommit 4\ngone default/REFUSED\nfile default/tokens.css 30\n:root {\n  --space-s: 1.5px;\n}\n\ndone 4\n",
+        said: "",
+        status: Status::Done,
+    },
+    Case {
+        word: "build",
+        script: b"tokc-script 1\nput tokens.json 2\n{}\ncommit\ndel tokens.json\ncommit\nput tokens.json 73\n{\"space\":{\"$type\":\"dimension\",\"s\":{\"$value\":{\"value\":1.50,\"unit\":\"px\"}}}}\n",
+        written: "tokc-stream 1\ncommit 1\nfile default/tokens.css 30\n:root {\n  --space-s: 1.5px;\n}\n\ndone 1\n",
+        said: "",
+        status: Status::Done,
+    },
+    Case {
+        word: "replay",
+        script: b"tokc-script 1\nput tokens.json 2\n{}\ncommit\nput tokc.toml 0\n\ncommit\n",
+        written: "tokc-stream 1\ncommit 1\nfile default/tokens.css 10\n:root {\n}\n\n",
+        said: "tokc: not built yet\n",
+        status: Status::NotYet,
+    },
+    Case {
+        word: "build",
+        script: b"tokc-script 1\nput tokens.json 2\n[]\n",
+        written: "tokc-stream 1\n",
+        said: "tokc: not built yet\n",
+        status: Status::NotYet,
+    },
+    Case {
+        word: "stats",
+        script: b"tokc-script 1\n",
+        written: "",
+        said: "tokc: not built yet\n",
+        status: Status::NotYet,
+    },
+];
+
+// What the run writes, says and answers, by the numbers of the calls that fail.
 fn check(
     rt: &impl Abort,
     alloc: Global,
-    case: &Case<'_>,
-    written: &[u8],
-    reported: &[u8],
-    status: Status,
+    case: &Case,
+    read_fails: &[u64],
+    report_fails: &[u64],
 ) -> Result<(), Fail> {
     let mut words = Vec::new(alloc);
     words.push(String::from_str(alloc, case.word)?)?;
     let mut room = [0u8; 1000];
     let mut error_room = [0u8; 100];
-    let mut src = MemSource::new(case.script, case.read_fails);
-    let mut out = MemSink::new(case.write_fails, 1000, &mut room);
-    let mut err = MemSink::new(case.report_fails, 3, &mut error_room);
+    let mut src = MemSource::new(case.script, read_fails);
+    let mut out = MemSink::new(&[], 1000, &mut room);
+    let mut err = MemSink::new(report_fails, 3, &mut error_room);
     let ended = run(alloc, words.as_slice(), &mut src, &mut out, &mut err);
-    assert_eq!(rt; ended, status);
-    assert_eq!(rt; out.written(), written);
-    assert_eq!(rt; err.written(), reported);
+    assert_eq!(rt; ended, case.status);
+    assert_eq!(rt; out.written(), case.written.as_bytes());
+    assert_eq!(rt; err.written(), case.said.as_bytes());
     Ok(())
 }
 
-const BUILD: Case<'static> = Case {
+#[test]
+fn scripts_are_built_and_replayed(rt: HostRuntime) -> Result<(), Fail> {
+    for case in &CASES {
+        check(&rt, rt.alloc(), case, &[], &[])?;
+        assert_eq!(&rt; case.status.number() == 0, case.status == Status::Done);
+    }
+    Ok(())
+}
+
+static READ_FAULT: Case = Case {
     word: "build",
-    script: SCRIPT,
-    read_fails: &[],
-    write_fails: &[],
-    report_fails: &[],
+    script: b"tokc-script 1\n",
+    written: "",
+    said: "tokc: read failed\n",
+    status: Status::ReadFault,
+};
+
+static UNSAID: Case = Case {
+    word: "build",
+    script: b"tokc-script 1\n",
+    written: "",
+    said: "",
+    status: Status::ReadFault,
 };
 
 #[test]
-fn builds_one_file(rt: HostRuntime) -> Result<(), Fail> {
-    check(&rt, rt.alloc(), &BUILD, STREAM, b"", Status::Done)?;
-    assert_eq!(rt; Status::Done.number(), 0);
-    let mut words = Vec::new(rt.alloc());
-    words.push(String::from_str(rt.alloc(), "build")?)?;
-    let mut src = CleanSource::new(SCRIPT);
-    assert_eq!(rt;
-        run_clean(rt.alloc(), words.as_slice(), &mut src),
-        Status::Done
-    );
+fn a_read_that_fails_ends_the_run(rt: HostRuntime) -> Result<(), Fail> {
+    check(&rt, rt.alloc(), &READ_FAULT, &[1], &[])?;
+    check(&rt, rt.alloc(), &UNSAID, &[1], &[1])
+}
+
+static TWO_COMMITS: &[u8] =
+    b"tokc-script 1\nput tokens.json 2\n{}\ncommit\ndel tokens.json\ncommit\n";
+
+/// The pieces of its stream, each with the number of the call that writes it.
+static PIECES: [(u64, &str); 11] = [
+    (1, "tokc-stream 1\n"),
+    (2, "commit 1\n"),
+    (3, "file default/tokens.css 10\n"),
+    (4, ":root {\n}\n"),
+    (5, "\n"),
+    (6, "commit 2\n"),
+    (7, "file default/REFUSED 61\n"),
+    (
+        8,
+        "rule file-missing\nfile tokens.json\nline 1 column 1\nbytes 0 0\n",
+    ),
+    (9, "\n"),
+    (10, "gone default/tokens.css\n"),
+    (11, "done 2\n"),
+];
+
+// The run in which this write fails has written the pieces before it.
+fn check_write(rt: &impl Abort, alloc: Global, fails: u64, written: &[u8]) -> Result<(), Fail> {
+    let mut words = Vec::new(alloc);
+    words.push(String::from_str(alloc, "replay")?)?;
+    let mut room = [0u8; 1000];
+    let mut error_room = [0u8; 100];
+    let mut src = MemSource::new(TWO_COMMITS, &[]);
+    let numbers = [fails];
+    let mut out = MemSink::new(&numbers, 1000, &mut room);
+    let mut err = MemSink::new(&[], 100, &mut error_room);
+    let ended = run(alloc, words.as_slice(), &mut src, &mut out, &mut err);
+    assert_eq!(rt; ended, Status::WriteFault);
+    assert_eq!(rt; out.written(), written);
+    assert_eq!(rt; err.written(), "tokc: write failed\n".as_bytes());
     Ok(())
 }
 
 #[test]
-fn other_words_and_scripts_are_not_built(rt: HostRuntime) -> Result<(), Fail> {
-    let not_yet = b"tokc: not built yet\n";
-    let replay = Case {
-        word: "replay",
-        script: SCRIPT,
-        read_fails: &[],
-        write_fails: &[],
-        report_fails: &[],
-    };
-    check(&rt, rt.alloc(), &replay, b"", not_yet, Status::NotYet)?;
-    let cut = Case {
-        word: "build",
-        script: &SCRIPT[..33],
-        read_fails: &[],
-        write_fails: &[],
-        report_fails: &[],
-    };
-    check(&rt, rt.alloc(), &cut, b"", not_yet, Status::NotYet)
+fn a_write_that_fails_leaves_the_pieces_before_it(rt: HostRuntime) -> Result<(), Fail> {
+    let mut written = Vec::new(rt.alloc());
+    for (number, piece) in &PIECES {
+        check_write(&rt, rt.alloc(), *number, written.as_slice())?;
+        written.extend_from_slice(piece.as_bytes())?;
+    }
+    Ok(())
 }
 
 #[test]
-fn calls_that_fail_end_the_run(rt: HostRuntime) -> Result<(), Fail> {
-    let third = Case {
-        word: "build",
-        script: SCRIPT,
-        read_fails: &[],
-        write_fails: &[3],
-        report_fails: &[],
-    };
-    check(
-        &rt,
-        rt.alloc(),
-        &third,
-        b"tokc-stream 1\ncommit 1\n",
-        b"tokc: write failed\n",
-        Status::WriteFault,
-    )?;
-    let first = Case {
-        word: "build",
-        script: SCRIPT,
-        read_fails: &[1],
-        write_fails: &[],
-        report_fails: &[],
-    };
-    check(
-        &rt,
-        rt.alloc(),
-        &first,
-        b"",
-        b"tokc: read failed\n",
-        Status::ReadFault,
-    )?;
-    let both = Case {
-        word: "build",
-        script: SCRIPT,
-        read_fails: &[1],
-        write_fails: &[],
-        report_fails: &[1],
-    };
-    check(&rt, rt.alloc(), &both, b"", b"", Status::ReadFault)
+fn a_clean_run_ends_by_its_words_and_script(rt: HostRuntime) -> Result<(), Fail> {
+    let mut words = Vec::new(rt.alloc());
+    words.push(String::from_str(rt.alloc(), "replay")?)?;
+    let mut src = CleanSource::new(TWO_COMMITS);
+    assert_eq!(&rt;
+        run_clean(rt.alloc(), words.as_slice(), &mut src),
+        Status::Refused
+    );
+    Ok(())
 }

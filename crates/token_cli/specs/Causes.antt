@@ -1,0 +1,22 @@
+-- Why a run ends early, by what the calls below answer.
+use Rattle.tk_io.specs.declared.source.ReadStop.{ReadStop}
+use Rattle.tk_io.specs.declared.source.ReadStop.TheVariants as reading
+use Rattle.edit_script.specs.declared.script.ScriptStop.{ScriptStop}
+use Rattle.edit_script.specs.declared.script.ScriptStop.TheVariants as script
+use Rattle.build_plain.specs.declared.building.BuildStop.{BuildStop}
+use Rattle.build_plain.specs.declared.building.BuildStop.TheVariants as building
+use Rattle.token_cli.specs.declared.stop.Stop.{Stop}
+use Rattle.token_cli.specs.declared.stop.Stop.TheVariants as stop
+
+abbrev pub of_read : ReadStop → Stop
+of_read reading.ReadFault = stop.ReadFault
+of_read reading.TooLong = stop.TooLong
+of_read reading.NoMemory = stop.NoMemory
+
+abbrev pub of_script : ScriptStop → Stop
+of_script (script.BadScript at) = stop.BadScript at
+of_script script.NoMemory = stop.NoMemory
+
+abbrev pub of_build : BuildStop → Stop
+of_build building.NotYet = stop.NotYet
+of_build building.NoMemory = stop.NoMemory

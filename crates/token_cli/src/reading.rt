@@ -1,0 +1,23 @@
+// Reading the bytes of a script.
+ghost use Rattle.std.specs.Prelude.{◌≡◌, ℕ, Err, IfOk, OnErr};
+ghost use Rattle.edit_script.specs.Script.{IsScript, IsScriptStop};
+
+use edit_script::{Events, ScriptStop, read_script, script_is_text};
+use std::alloc::Global;
+use std::str;
+
+/// The events of a script.
+///
+/// # Errors
+/// `BadScript` exactly where the bytes are no script: at the first byte that is not UTF-8, and in a text at the end of its
+/// longest front that is a script, or at 0 where none is. `NoMemory`.
+pub fn read_events(alloc: Global, script: &[u8]) -> Result<Events<'_>, ScriptStop>
+    ensures ok { IfOk result (λ es. IsScript script.now es) }
+    ensures bad { (at : ℕ) → result ≡ Err (ScriptStop.BadScript at) → IsScriptStop script.now at }
+{
+    script_is_text();
+    match str::from_utf8(script) {
+        Ok(text) => read_script(alloc, text),
+        Err(error) => Err(ScriptStop::BadScript(error.valid_up_to())),
+    }
+}

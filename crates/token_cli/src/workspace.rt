@@ -1,0 +1,111 @@
+// What stands while a script is replayed, and what its events make of it.
+ghost use Rattle.std.specs.Prelude.{◌≡◌, ◌<◌, ◌≤◌, ◌+◌, ◌^◌, ◌-◌, ℕ, List, Some, OnOk, OnErr, IfOk, IfErr, Ok, map as map_list};
+ghost use Rattle.std.specs.FinMap as map;
+ghost use Rattle.std.specs.List.{slice_get};
+ghost use Rattle.std.specs.Io.KnownBytes.{Appends};
+ghost use Rattle.tk_io.specs.Causes.{HasCause};
+ghost use Rattle.tk_io.specs.Writing.{AppendsFront};
+ghost use Rattle.edit_script.specs.Delta.{Delta, IsDelta};
+ghost use Rattle.edit_script.specs.Script.{commit as commit_event};
+ghost use Rattle.edit_script.specs.Shown.{Lined, event_of, with_line};
+ghost use Rattle.token_cli.specs.Step.{Follows, Fails, Cuts, commit_text, records_of};
+ghost use Rattle.token_cli.specs.Views.{state_of};
+
+use crate::building::build_files;
+use crate::stop::Stop;
+use build_plain::Files;
+use edit_script::{Changes, Event, Line, carried_lines, delta, write_change, write_line};
+use std::alloc::Global;
+use tk_io::{Failed, Outputs, Sink};
+
+/// What stands while a script is replayed.
+#[derive(Drop)]
+pub struct Workspace<'s> {
+    /// The files that its events have left.
+    pub files: Files<'s>,
+    /// The outputs of the last commit; none before the first.
+    pub held: Outputs,
+    /// How many commits there were.
+    pub commits: u64,
+}
+
+// Writes the records of the changes.
+fn write_changes<K: Sink>(out: &mut K, changes: &Changes<'_>) -> Result<(), Failed>
+    requires { (i : ℕ) → (change : Lined) → slice_get changes.now i ≡ Some change → change ≡ with_line change.0 }
+    ensures whole { OnOk result (Appends (K.written out.old) (K.written out.new) (records_of changes.now)) }
+    ensures part { OnErr result (AppendsFront (K.written out.old) (K.written out.new) (records_of changes.now)) }
+    ensures cause { HasCause (K.faults out.old) (K.faults out.new) result }
+{
+    for i in 0..changes.len() {
+        if let Some(change) = changes.at(i) {
+            write_change(out, change)?;
+        }
+    }
+    Ok(())
+}
+
+// Writes the line of the commit with this number, and the records of what changed from the old outputs to the new.
+fn write_commit<K: Sink>(
+    alloc: Global,
+    number: u64,
+    old: &Outputs,
+    new: &Outputs,
+    out: &mut K,
+) -> Result<(), Stop>
+    ensures ok { OnOk result ((d : Delta) × IsDelta old.now new.now d × Appends (K.written out.old) (K.written out.new) (commit_text number d)) }
+    ensures err { IfErr result (λ stop. Cuts stop old.now new.now number (K.written out.old) (K.written out.new) (K.faults out.old) (K.faults out.new)) }
+    ensures later { K.faults out.old ≤ K.faults out.new }
+{
+    carried_lines();
+    let changes = delta(alloc, old, new)?;
+    write_line(out, &Line::Commit(number))?;
+    write_changes(out, &changes)?;
+    Ok(())
+}
+
+impl<'s> Workspace<'s> {
+    /// No file, no output and no commit.
+    pub fn new(alloc: Global) -> Workspace<'s>
+        ensures { state_of result ≡ record { files = map.empty; held = map.empty; commits = 0 } }
+    {
+        Workspace {
+            files: Files::new(alloc),
+            held: Outputs::new(alloc),
+            commits: 0,
+        }
+    }
+
+    // Builds the files, and writes the commit with its changes.
+    fn commit<K: Sink>(&mut self, alloc: Global, out: &mut K) -> Result<(), Stop>
+        requires { self.now.commits < 2 ^ 64 - 1 }
+        ensures ok { OnOk result (Follows commit_event (state_of self.old) (state_of self.new) (K.written out.old) (K.written out.new)) }
+        ensures err { IfErr result (λ stop. Fails stop commit_event (state_of self.old) (K.written out.old) (K.written out.new) (K.faults out.old) (K.faults out.new)) }
+        ensures later { K.faults out.old ≤ K.faults out.new }
+    {
+        let outputs = build_files(alloc, &self.files)?;
+        write_commit(alloc, self.commits + 1, &self.held, &outputs, out)?;
+        self.commits += 1;
+        self.held = outputs;
+        Ok(())
+    }
+
+    /// Takes the next event. At a commit the files are built, and the commit is written with its changes.
+    pub fn take<K: Sink>(
+        &mut self,
+        alloc: Global,
+        event: &Event<'s>,
+        out: &mut K,
+    ) -> Result<(), Stop>
+        requires { self.now.commits < 2 ^ 64 - 1 }
+        ensures ok { OnOk result (Follows (event_of event.now) (state_of self.old) (state_of self.new) (K.written out.old) (K.written out.new)) }
+        ensures err { IfErr result (λ stop. Fails stop (event_of event.now) (state_of self.old) (K.written out.old) (K.written out.new) (K.faults out.old) (K.faults out.new)) }
+        ensures later { K.faults out.old ≤ K.faults out.new }
+    {
+        match event {
+            Event::Put(path, text) => self.files.put(path, text)?,
+            Event::Del(path) => self.files.del(path),
+            Event::Commit => self.commit(alloc, out)?,
+        }
+        Ok(())
+    }
+}
