@@ -1,12 +1,11 @@
 -- How a replay ends, by what stood before.
-use Rattle.std.proofs.Common.{◌≡◌, ◌∙◌, ◌≤◌, ◌<◌, ◌==◌, ◌+◌, ℕ, suc, Bool, true, false, cond, List, [], ◌∷◌, ◌++◌, length, take, Option, Some, None, Ok, Err, ap, sym, subst, refl, arith, append_assoc, append-nil}
+use Rattle.std.proofs.Common.{◌≡◌, ◌∙◌, ◌≤◌, ◌==◌, ◌+◌, ℕ, Bool, true, false, cond, List, [], ◌∷◌, ◌++◌, length, Option, Some, Err, ap, sym, subst, refl, arith, append_assoc, append-nil}
 use Rattle.std.proofs.KnownBytes.{Appends-nil, Appends-trans}
 use Rattle.std.proofs.lemmas.Bool.Decides.{nat_tests}
 use Rattle.std.proofs.lemmas.List.{take_all}
 use Rattle.std.specs.FinMap as map
 use Rattle.std.specs.List.{slice_get}
 use Rattle.std.specs.Io.KnownBytes.{Appends}
-use Rattle.tk_io.specs.Causes.{Rose}
 use Rattle.tk_io.specs.Writing.{AppendsFront}
 use Rattle.edit_script.specs.Script.{EventData, commit}
 use Rattle.edit_script.specs.Files.{commit_count}
@@ -16,7 +15,7 @@ use Rattle.edit_script.specs.declared.line.Line.TheVariants.{StreamHead, Done}
 use Rattle.edit_script.proofs.Deltas.{stream_is}
 use Rattle.edit_script.proofs.Written.{front_more, front_after}
 use Rattle.token_cli.specs.Ending.{Writes}
-use Rattle.token_cli.specs.Headline.{WroteStream, WroteFront, WroteUntil, commits_so_far, stream_so_far, is_refused, last_held}
+use Rattle.token_cli.specs.Headline.{WroteStream, WroteFront, commits_so_far, stream_so_far, is_refused}
 use Rattle.token_cli.specs.Step.{State, Fails, commit_text}
 use Rattle.token_cli.specs.declared.stop.Stop.{Stop}
 use Rattle.token_cli.specs.declared.stop.Stop.TheVariants as stop

@@ -1,18 +1,17 @@
 -- What a status says of the main job's answer.
-use Rattle.std.proofs.Common.{◌≡◌, ◌∙◌, ◌⊎◌, ◌≤◌, ◌<◌, ℕ, zero, suc, Bool, true, false, List, [], ◌∷◌, ◌++◌, length, Option, Some, None, Result, Ok, Err, ap, sym, subst, refl, inl, inr, arith, length-append}
+use Rattle.std.proofs.Common.{◌≡◌, ◌⊎◌, ◌≤◌, ◌<◌, ℕ, zero, suc, Bool, true, false, List, [], ◌∷◌, length, Option, Some, None, Result, Ok, Err, ap, subst, refl, inl, inr, arith, length-append}
 use Rattle.std.specs.Prelude.{IfSome}
 use Rattle.std.specs.List.{slice_get}
 use Rattle.std.proofs.lemmas.Option.{none-some, same_Some}
 use Rattle.tk_io.specs.Reading.{TakesExactly}
 use Rattle.edit_script.specs.Script.{EventData, IsScript}
-use Rattle.edit_script.specs.Files.{FilesData, AreFilesAt, commit_count, up_to}
-use Rattle.edit_script.specs.Delta.{Held, Delta}
+use Rattle.edit_script.specs.Files.{FilesData, commit_count, up_to}
 use Rattle.edit_script.proofs.Readings.{one_reading}
 use Rattle.edit_script.proofs.Standing.{one_files}
 use Rattle.build_plain.specs.Out.{Builds}
 use Rattle.build_plain.proofs.Built.{one_outcome}
 use Rattle.token_cli.specs.Ending.{status_of}
-use Rattle.token_cli.specs.Headline.{OfScript, BuildsAt, AreCommits, WroteStream, events_for, most_bytes}
+use Rattle.token_cli.specs.Headline.{OfScript, BuildsAt, WroteStream, events_for, most_bytes}
 use Rattle.token_cli.specs.declared.stop.Stop.{Stop}
 use Rattle.token_cli.specs.declared.stop.Stop.TheVariants as stop
 use Rattle.token_cli.specs.declared.status.Status.TheVariants as status

@@ -1,5 +1,5 @@
 -- What stands when the first events of a script were taken, and what was written by then.
-use Rattle.std.proofs.Common.{◌≡◌, ◌∙◌, ◌⊎◌, ◌≤◌, ◌<◌, ◌+◌, ℕ, zero, suc, List, [], ◌∷◌, ◌++◌, length, length-append, take, drop, Option, Some, None, ap, sym, subst, refl, inl, inr, arith, append_assoc, append-nil}
+use Rattle.std.proofs.Common.{◌≡◌, ◌∙◌, ◌⊎◌, ◌≤◌, ◌<◌, ◌+◌, ℕ, zero, suc, List, [], ◌∷◌, ◌++◌, length, length-append, take, drop, Option, Some, ap, sym, subst, refl, inl, inr, arith, append_assoc}
 use Rattle.std.proofs.KnownBytes.{Appends-trans}
 use Rattle.std.proofs.lemmas.Option.{none-some}
 use Rattle.std.specs.FinMap as map
@@ -7,12 +7,11 @@ use Rattle.std.specs.List.{slice_get, flat_map}
 use Rattle.std.specs.Io.KnownBytes.{Appends}
 use Rattle.edit_script.specs.Script.{EventData, put, del, commit}
 use Rattle.edit_script.specs.Files.{FilesData, AreFilesAfter, AreFilesAt, commit_count, up_to}
-use Rattle.edit_script.specs.Delta.{Held, Delta, IsDelta, AreDeltas, held_at}
+use Rattle.edit_script.specs.Delta.{Held, Delta, IsDelta, AreDeltas}
 use Rattle.edit_script.specs.Stream.{line_text, commits_text, record_of}
 use Rattle.edit_script.specs.declared.line.Line.TheVariants.{StreamHead, Commit}
 use Rattle.edit_script.proofs.Deltas.{one_more_delta, no_commits, more_commits}
 use Rattle.edit_script.proofs.Standing.{empty_files, put_files, del_files, commit_files, up_to_here, count_parts}
-use Rattle.build_plain.specs.Out.{Builds}
 use Rattle.token_cli.specs.Headline.{AreCommits, BuildsAt, commits_so_far, last_held}
 use Rattle.token_cli.specs.Step.{State, Follows, Leads, commit_text}
 use Rattle.token_cli.proofs.Lists.{split_here, take_more, at_pushed, last_pushed}

@@ -1,5 +1,5 @@
 -- A script has one stream.
-use Rattle.std.proofs.Common.{◌≡◌, ◌∙◌, ◌≤◌, ◌<◌, ℕ, zero, suc, List, [], ◌∷◌, length, Some, ap, sym, subst, refl, arith}
+use Rattle.std.proofs.Common.{◌≡◌, ◌∙◌, ℕ, suc, List, [], ◌∷◌, length, Some, ap, sym, subst, refl, arith}
 use Rattle.std.proofs.lemmas.Option.{same_Some}
 use Rattle.std.specs.FinMap as map
 use Rattle.std.specs.List.{slice_get}
@@ -11,7 +11,6 @@ use Rattle.edit_script.proofs.Standing.{one_files}
 use Rattle.build_plain.specs.Out.{Builds}
 use Rattle.build_plain.proofs.Built.{one_outcome}
 use Rattle.token_cli.specs.Headline.{AreCommits, BuildsAt}
-use Rattle.token_cli.proofs.Outcomes.{below_some}
 
 one_built : (es : List EventData) (k : ℕ) (a b : Held) → BuildsAt es k (Some a) → BuildsAt es k (Some b) → a ≡ b
 one_built es k a b left right =

@@ -1,8 +1,6 @@
 -- How a run ends, by what its main job answers.
-use Rattle.std.specs.Prelude.{◌≡◌, ◌⊎◌, ◌≤◌, ℕ, Bool, List, length, Option, Some, None, Result, Ok, Err, IfSome}
-use Rattle.std.specs.Io.KnownBytes.{IsAtEnd}
+use Rattle.std.specs.Prelude.{◌≡◌, ◌⊎◌, ℕ, Bool, List, Option, Result, Ok, Err}
 use Rattle.tk_io.specs.Causes.{Rose}
-use Rattle.tk_io.specs.Reading.{TakesExactly}
 use Rattle.edit_script.specs.Script.{EventData, IsScript, IsScriptStop}
 use Rattle.token_cli.specs.Report.{error_text}
 use Rattle.token_cli.specs.Headline.{events_for, WroteStream, WroteFront, WroteUntil}

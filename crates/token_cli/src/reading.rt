@@ -1,8 +1,8 @@
 // Reading the bytes of a script.
-ghost use Rattle.std.specs.Prelude.{◌≡◌, ℕ, Err, IfOk, OnErr};
+ghost use Rattle.std.specs.Prelude.{◌≡◌, ℕ, Err, IfOk};
 ghost use Rattle.edit_script.specs.Script.{IsScript, IsScriptStop};
 
-use edit_script::{Events, ScriptStop, read_script, script_is_text};
+use edit_script::{Events, ScriptStop, read_script};
 use std::alloc::Global;
 use std::str;
 
@@ -15,7 +15,6 @@ pub fn read_events(alloc: Global, script: &[u8]) -> Result<Events<'_>, ScriptSto
     ensures ok { IfOk result (λ es. IsScript script.now es) }
     ensures bad { (at : ℕ) → result ≡ Err (ScriptStop.BadScript at) → IsScriptStop script.now at }
 {
-    script_is_text();
     match str::from_utf8(script) {
         Ok(text) => read_script(alloc, text),
         Err(error) => Err(ScriptStop::BadScript(error.valid_up_to())),

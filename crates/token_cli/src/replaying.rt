@@ -8,9 +8,7 @@ ghost use Rattle.token_cli.specs.Headline.{events_for};
 use crate::stop::Stop;
 use crate::words::Command;
 use crate::workspace::Workspace;
-use edit_script::{
-    Event, Events, Line, one_more_delta, one_more_event, stream_parts, up_to_commit, write_line,
-};
+use edit_script::{Event, Events, Line, write_line};
 use std::alloc::Global;
 use tk_io::{NoMemory, Sink};
 

@@ -1,5 +1,5 @@
 // What stands while a script is replayed, and what its events make of it.
-ghost use Rattle.std.specs.Prelude.{◌≡◌, ◌<◌, ◌≤◌, ◌+◌, ◌^◌, ◌-◌, ℕ, List, Some, OnOk, OnErr, IfOk, IfErr, Ok, map as map_list};
+ghost use Rattle.std.specs.Prelude.{◌≡◌, ◌<◌, ◌≤◌, ◌^◌, ◌-◌, ℕ, Some, OnOk, OnErr, IfErr};
 ghost use Rattle.std.specs.FinMap as map;
 ghost use Rattle.std.specs.List.{slice_get};
 ghost use Rattle.std.specs.Io.KnownBytes.{Appends};
@@ -14,7 +14,7 @@ ghost use Rattle.token_cli.specs.Views.{state_of};
 use crate::building::build_files;
 use crate::stop::Stop;
 use build_plain::Files;
-use edit_script::{Changes, Event, Line, carried_lines, delta, write_change, write_line};
+use edit_script::{Changes, Event, Line, delta, write_change, write_line};
 use std::alloc::Global;
 use tk_io::{Failed, Outputs, Sink};
 
@@ -56,7 +56,6 @@ fn write_commit<K: Sink>(
     ensures err { IfErr result (λ stop. Cuts stop old.now new.now number (K.written out.old) (K.written out.new) (K.faults out.old) (K.faults out.new)) }
     ensures later { K.faults out.old ≤ K.faults out.new }
 {
-    carried_lines();
     let changes = delta(alloc, old, new)?;
     write_line(out, &Line::Commit(number))?;
     write_changes(out, &changes)?;

@@ -1,12 +1,7 @@
-use Rattle.std.proofs.Common.{◌≡◌, ◌∙◌, ◌≤◌, ◌<◌, ◌+◌, ◌^◌, ℕ, List, Some, Option, Err, Bool, ap, sym, subst, arith, length}
-use Rattle.std.specs.Prelude.{Result, IsErr, IsErrAnd}
+use Rattle.std.proofs.Common.{◌∙◌, ◌≤◌, ◌+◌, ap, sym, subst, arith, length}
 use Rattle.std.specs.Option.{is_some}
-use Rattle.edit_script.specs.Script.{EventData}
 use Rattle.edit_script.specs.Shown.{event_of}
-use Rattle.token_cli.specs.Ending.{Writes}
-use Rattle.token_cli.specs.Step.{State}
 use Rattle.token_cli.specs.Views.{state_of}
-use Rattle.token_cli.specs.declared.stop.Stop.{Stop}
 use Rattle.token_cli.specs.declared.stop.Stop.TheVariants as stop
 use Rattle.token_cli.specs.declared.workspace.Workspace.{Workspace}
 use Rattle.token_cli.proofs.Places.{at_none, some_shown}

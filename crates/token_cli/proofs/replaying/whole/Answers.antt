@@ -1,4 +1,4 @@
-use Rattle.std.proofs.Common.{◌≡◌, ◌∙◌, ◌++◌, ◌+◌, List, ap, sym, subst, drop}
+use Rattle.std.proofs.Common.{◌≡◌, ◌∙◌, ◌++◌, ◌+◌, List, sym, subst, drop}
 use Rattle.edit_script.specs.Files.{without_commits}
 use Rattle.edit_script.specs.Script.{EventData}
 use Rattle.edit_script.specs.Shown.{event_of}

@@ -1,12 +1,9 @@
-use Rattle.std.proofs.Common.{◌≡◌, ◌∙◌, ◌⊎◌, ◌≤◌, ◌<◌, ℕ, suc, Bool, true, false, List, length, Some, None, Ok, Err, ap, sym, subst, refl, arith}
-use Rattle.std.specs.Prelude.{Result}
-use Rattle.edit_script.specs.Script.{EventData, IsScript, IsScriptStop}
+use Rattle.std.proofs.Common.{◌≡◌, ◌∙◌, ◌⊎◌, ◌≤◌, ℕ, Bool, true, false, List, length, ap, sym, subst, arith}
+use Rattle.edit_script.specs.Script.{EventData, IsScriptStop}
 use Rattle.token_cli.specs.Ending.{status_of, place_of}
-use Rattle.token_cli.specs.Headline.{OfScript, WroteStream, WroteFront, WroteUntil, events_for, most_bytes}
+use Rattle.token_cli.specs.Headline.{WroteStream, WroteFront, WroteUntil, events_for, most_bytes}
 use Rattle.token_cli.specs.Report.{error_text, Reports}
 use Rattle.token_cli.specs.Words.{command_of}
-use Rattle.token_cli.specs.declared.stop.Stop.{Stop}
-use Rattle.token_cli.specs.declared.stop.Stop.TheVariants as stop
 use Rattle.token_cli.specs.declared.status.Status.{Status}
 use Rattle.token_cli.specs.declared.status.Status.TheVariants as status
 use Rattle.token_cli.proofs.Outcomes.{is_done, is_refusal, is_bad, all_written, not_built, not_read, too_many, taken, at_some, of_script, of_events, not_whole}

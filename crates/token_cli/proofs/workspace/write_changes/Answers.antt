@@ -1,4 +1,4 @@
-use Rattle.std.proofs.Common.{◌≡◌, ◌∙◌, ◌≤◌, ◌+◌, ◌++◌, suc, List, ℕ, Some, Option, ap, sym, subst, take, drop, arith}
+use Rattle.std.proofs.Common.{◌≡◌, ◌+◌, suc, List, ℕ, Some, Option, ap, sym, subst, take, drop, arith}
 use Rattle.std.proofs.KnownBytes.{Appends-trans}
 use Rattle.std.specs.Io.KnownBytes.{Appends}
 use Rattle.std.specs.List.{slice_get}

@@ -1,11 +1,11 @@
-use Rattle.std.proofs.Common.{◌≡◌, ◌∙◌, ℕ, List, [], ◌++◌, append-nil, map as map_list, ap, refl, sym, arith}
+use Rattle.std.proofs.Common.{◌≡◌, ◌∙◌, ℕ, List, [], ◌++◌, append-nil, map as map_list, Some, ap, refl, sym, subst, arith}
 use Rattle.std.specs.FinMap as map
-use Rattle.std.specs.List.{flat_map}
+use Rattle.std.specs.List.{flat_map, slice_get}
 use Rattle.edit_script.specs.Delta.{Delta}
 use Rattle.edit_script.specs.Shown.{Lined, with_line}
 use Rattle.edit_script.specs.Stream.{line_text, record_of}
 use Rattle.edit_script.specs.declared.line.Line.TheVariants.{Commit}
-use Rattle.edit_script.proofs.Written.{front_more, front_after}
+use Rattle.edit_script.proofs.Written.{front_more, front_after, line_carried}
 use Rattle.token_cli.specs.Step.{Cuts, commit_text, records_of}
 use Rattle.token_cli.specs.declared.stop.Stop.{Stop}
 use Rattle.token_cli.specs.declared.stop.Stop.TheVariants as stop
@@ -46,3 +46,10 @@ returns-clause-ok g c =
     let k = c.args.number in
     let delta = c.in_ok-changes.ensures in
     (delta.0, delta.1, two_written (g.K.Sink.written c.args.out.now) (g.K.Sink.written c.write_line.new.out) (g.K.Sink.written c.write_changes.new.out) (commit_text k delta.0) (line_text (Commit k)) (records_of c.in_ok-changes.changes) c.in_ok-write_line.ensures.whole c.in_ok-write_changes.ensures.whole (text_is k delta.0 c.in_ok-changes.changes delta.2))
+
+pub write_changes-requires : goal.write_changes-requires
+write_changes-requires g c i change at =
+    let changes = c.in_ok-changes.changes in
+    let delta = c.in_ok-changes.ensures in
+    let P : List Lined → Type 0 = λ l. slice_get l i ≡ Some change in
+    line_carried (map.entries delta.0) i change (subst P delta.2 at)

@@ -1,4 +1,3 @@
-use Rattle.std.proofs.Common.{ℕ}
 use Rattle.edit_script.specs.Script.{commit}
 use Rattle.token_cli.specs.Step.{Fails}
 use Rattle.token_cli.specs.Views.{state_of}
