@@ -30,3 +30,5 @@ pub mod Slices
 pub mod Saying
 pub mod SaidShown
 pub mod SliceSaid
+pub mod SaidCut
+pub mod Composing
