@@ -32,3 +32,4 @@ pub mod SaidShown
 pub mod SliceSaid
 pub mod SaidCut
 pub mod Composing
+pub mod Insides

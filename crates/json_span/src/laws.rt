@@ -2,6 +2,7 @@
 
 ghost use Rattle.json_span.specs.Laws.{TextsShow, FrontsArePrefixes, ShowsOne, OneAnswer, EachHasAnswer, ShowsSay, SaysBefore, SaysShow, SaysOne, SlicesSay};
 ghost use Rattle.json_span.specs.Parts.{SlicesShow};
+ghost use Rattle.json_span.specs.SpellingLaws.{InsidesFollow, InsidesJoin, JoinedReadBack, PlainStays, StringsReadBack};
 ghost use Rattle.json_span.specs.Composing.{ArraysAreJoined, ArraysMayBeSpaced, ArraysSayBefore, FrontsSay, ObjectsAreJoined, ObjectsMayBeSpaced, ObjectsSayBefore};
 
 /// The texts that show a value are those of RFC 8259, each shows one, and each text has one answer, neither more nor less.
@@ -35,4 +36,14 @@ pub fn joined_laws<Number>()
     ensures arrays_spaced { ArraysMayBeSpaced Number }
     ensures objects_spaced { ObjectsMayBeSpaced Number }
     ensures fronts { FrontsSay Number }
+{}
+
+/// What is written for a string reads back as the string, and so do the insides of several strings with plain characters between each two, as names
+/// that are joined by dots.
+pub fn spelling_laws()
+    ensures reads { StringsReadBack }
+    ensures plain { PlainStays }
+    ensures follow { InsidesFollow }
+    ensures join { InsidesJoin }
+    ensures joined { JoinedReadBack }
 {}
