@@ -1,6 +1,5 @@
 -- Each text has an answer.
-use Rattle.std.proofs.Common.{◌≡◌, ℕ, ◌+◌, ◌<◌, ◌≤◌, List, [], ◌∷◌, ◌++◌, length, drop, Bool, true, false, refl, sym, subst, inl, inr, arith, Option, Some, None, length-append}
-use Rattle.std.specs.Prelude.{◌⊎◌}
+use Rattle.std.proofs.Common.{◌≡◌, ℕ, ◌+◌, ◌<◌, List, [], ◌∷◌, length, drop, Bool, true, false, refl, sym, subst, inl, inr, arith, Option, Some, None, length-append}
 use Rattle.std.proofs.Math.Seq.{drop-append_seam}
 use Rattle.grammar.specs.Predict.{Steers, Stuck}
 use Rattle.grammar.specs.Ranges.{are_guarded}

@@ -30,3 +30,6 @@ pub mod Slices
 pub mod Saying
 pub mod SaidShown
 pub mod SliceSaid
+pub mod SaidCut
+pub mod Composing
+pub mod Insides

@@ -1,10 +1,9 @@
 -- Values without places: what follows a text doesn't change what it says, and what a text shows it says.
-use Rattle.std.proofs.Common.{◌≡◌, ℕ, List, [], ◌∷◌, ◌++◌, ap, ◌∙◌, append_assoc}
-use Rattle.grammar.specs.Grammar.{Reads}
+use Rattle.std.proofs.Common.{ℕ, List, ◌++◌, ap, ◌∙◌, append_assoc}
 use Rattle.json_span.specs.Plain.{Plain, Plains, PlainMembers}
 use Rattle.json_span.specs.Tree.{Tree, Placed, Elements, Members}
-use Rattle.json_span.specs.Reading.{StringAt, Value, value_at, Shape, null_shape, false_shape, true_shape, number_shape, string_shape, array_shape, object_shape, ElementsAt, no_element, first_element, MoreElements, last_element, next_element, MemberAt, member_at, MembersAt, no_member as none, first_member, MoreMembers, last_member, next_member, Shows}
-use Rattle.json_span.specs.Says.{Says, says_null, says_false, says_true, says_number, says_string, says_list, says_object, SaysItems, no_item, items, MoreItems, no_more_item, more_items, SaysMember, says_member, SaysMembers, no_member, some_members, MoreMembers as MoreSaid, no_more_member, more_members, Padded, SaysText, plain_of, plain_tree, plain_elements, plain_fields}
+use Rattle.json_span.specs.Reading.{Value, value_at, Shape, null_shape, false_shape, true_shape, number_shape, string_shape, array_shape, object_shape, ElementsAt, no_element, first_element, MoreElements, last_element, next_element, MemberAt, member_at, MembersAt, no_member as none, first_member, MoreMembers, last_member, next_member, Shows}
+use Rattle.json_span.specs.Says.{Says, says_null, says_false, says_true, says_number, says_string, says_list, says_object, SaysItems, no_item, items, MoreItems, no_more_item, more_items, SaysMember, says_member, SaysMembers, no_member, some_members, MoreMembers as MoreSaid, no_more_member, more_members, SaysText, plain_of, plain_tree, plain_elements, plain_fields}
 use Rattle.json_span.proofs.Slices.{frame, string_frame}
 
 module _ {K : Type 0} (num : List ℕ → K) where

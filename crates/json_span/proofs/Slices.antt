@@ -1,5 +1,5 @@
 -- A part's own slice shows the part, with its offsets moved.
-use Rattle.std.proofs.Common.{◌≡◌, ℕ, ◌+◌, ◌≤◌, List, [], ◌∷◌, ◌++◌, length, drop, false, refl, sym, ap, ◌∙◌, subst, arith, append_assoc, append-nil, length-append}
+use Rattle.std.proofs.Common.{◌≡◌, ℕ, ◌+◌, ◌≤◌, List, [], ◌++◌, length, drop, false, refl, sym, ap, ◌∙◌, subst, arith, append_assoc, append-nil, length-append}
 use Rattle.std.specs.Prelude.{slice_range}
 use Rattle.std.proofs.Math.Seq.{drop-append_seam}
 use Rattle.std.proofs.lemmas.List.{append_cancel_right}
@@ -9,7 +9,7 @@ use Rattle.grammar.proofs.Fronts.{widen}
 use Rattle.json_span.specs.Grammar.{Name, value}
 use Rattle.json_span.specs.Steered.{rules, ahead}
 use Rattle.json_span.specs.Characters.{Content, closes, plain, short, scalar, pair}
-use Rattle.json_span.specs.Tree.{Tree, Placed, Elements, Members, placed, start_of, end_of}
+use Rattle.json_span.specs.Tree.{Tree, Placed, Elements, Members, start_of, end_of}
 use Rattle.json_span.specs.Reading.{StringAt, BeginsAt, Value, value_at, Shape, null_shape, false_shape, true_shape, number_shape, string_shape, array_shape, object_shape, ElementsAt, no_element, first_element, MoreElements, last_element, next_element, MemberAt, member_at, MembersAt, no_member, first_member, MoreMembers, last_member, next_member, Shows}
 use Rattle.json_span.specs.Parts.{moved, moved_tree, moved_elements, moved_members, IsPart, itself, inside, IsIn, in_array, in_object, IsElement, this_element, later_element, IsMember, this_member, later_member}
 use Rattle.json_span.proofs.Cut.{reads_cut}

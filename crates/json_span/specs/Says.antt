@@ -1,7 +1,7 @@
 -- The values that texts have, without places. `num` is what is kept of a number's spelling.
-use Rattle.std.specs.Prelude.{◌≡◌, ℕ, List, [], ◌∷◌, ◌++◌, true, false}
+use Rattle.std.specs.Prelude.{◌≡◌, ℕ, List, [], ◌++◌, true, false}
 use Rattle.grammar.specs.Grammar.{named, Reads}
-use Rattle.json_span.specs.Grammar.{number, string, ws, one, null_word, false_word, true_word}
+use Rattle.json_span.specs.Grammar.{number, ws, one, null_word, false_word, true_word}
 use Rattle.json_span.specs.Steered.{rules, token}
 use Rattle.json_span.specs.Tree as tree
 use Rattle.json_span.specs.Tree.{Tree, Placed, placed, Elements, no_elements, element, Members, no_members, member}

@@ -2,6 +2,8 @@
 
 ghost use Rattle.json_span.specs.Laws.{TextsShow, FrontsArePrefixes, ShowsOne, OneAnswer, EachHasAnswer, ShowsSay, SaysBefore, SaysShow, SaysOne, SlicesSay};
 ghost use Rattle.json_span.specs.Parts.{SlicesShow};
+ghost use Rattle.json_span.specs.SpellingLaws.{InsidesFollow, InsidesJoin, JoinedReadBack, PlainStays, StringsReadBack};
+ghost use Rattle.json_span.specs.Composing.{ArraysAreJoined, ArraysMayBeSpaced, ArraysSayBefore, FrontsSay, ObjectsAreJoined, ObjectsMayBeSpaced, ObjectsSayBefore};
 
 /// The texts that show a value are those of RFC 8259, each shows one, and each text has one answer, neither more nor less.
 /// The slice of a part, read by itself, shows the part with its start taken off its offsets.
@@ -22,4 +24,26 @@ pub fn plain_laws<Number>()
     ensures said { SaysShow Number }
     ensures one { SaysOne Number }
     ensures slices { SlicesSay Number }
+{}
+
+/// Texts that say values, put together with commas and brackets, say the array of the values, and members put together so say the object; and only such
+/// texts do. `Number` is what is kept of a number.
+pub fn joined_laws<Number>()
+    ensures arrays { ArraysAreJoined Number }
+    ensures objects { ObjectsAreJoined Number }
+    ensures arrays_before { ArraysSayBefore Number }
+    ensures objects_before { ObjectsSayBefore Number }
+    ensures arrays_spaced { ArraysMayBeSpaced Number }
+    ensures objects_spaced { ObjectsMayBeSpaced Number }
+    ensures fronts { FrontsSay Number }
+{}
+
+/// What is written for a string reads back as the string, and so do the insides of several strings with plain characters between each two, as names
+/// that are joined by dots.
+pub fn spelling_laws()
+    ensures reads { StringsReadBack }
+    ensures plain { PlainStays }
+    ensures follow { InsidesFollow }
+    ensures join { InsidesJoin }
+    ensures joined { JoinedReadBack }
 {}

@@ -4,7 +4,7 @@ ghost use Rattle.std.specs.Prelude.{◌≡◌, ◌<◌};
 
 use crate::{
     Field, Fields, Items, Json, JsonFault, Node, Plain, PlainField, PlainFields, PlainItems, read,
-    write_string,
+    write_string, write_string_inside,
 };
 use std::alloc::Global;
 use std::marker::Brand;
@@ -435,9 +435,10 @@ fn open_brackets(rt: HostRuntime) -> Result<(), Fail> {
 fn many_members(rt: HostRuntime) -> Result<(), Fail> {
     let mut text = Vec::new(rt.alloc());
     text.push(b'{')?;
-    for i in 0..100000u32 {
+    for i in 0..500000u32 {
         text.push(b'"')?;
-        for tens in [100000, 10000, 1000, 100, 10, 1] {
+        // The last digit first, so that the names stand in no order.
+        for tens in [1, 10, 100, 1000, 10000, 100000] {
             text.push(b'0' + (i / tens % 10) as u8)?;
         }
         text.extend_from_slice(b"\":0,")?;
@@ -501,6 +502,11 @@ fn strings_and_lists(rt: HostRuntime) {
     let mut out = Bytes::new(rt.alloc());
     assert!(rt; write_string("a\"\\\u{1}\u{1f}é", &mut out).is_ok());
     assert_eq!(rt; out.as_slice(), "\"a\\\"\\\\\\u0001\\u001fé\"".as_bytes());
+    let mut inside = Bytes::new(rt.alloc());
+    assert!(rt; write_string_inside("\u{1f}a", &mut inside).is_ok());
+    assert!(rt; inside.append(b".").is_ok());
+    assert!(rt; write_string_inside("\"é", &mut inside).is_ok());
+    assert_eq!(rt; inside.as_slice(), "\\u001fa.\\\"é".as_bytes());
     let mut items = Items::new(rt.alloc());
     let null = Node {
         value: Json::Null,

@@ -1,9 +1,10 @@
 // How a string is written.
-ghost use Rattle.std.specs.Prelude.{◌≡◌, List, ℕ, true, ◌++◌, ◌<◌, OnOk, OnErr};
-ghost use Rattle.json_span.specs.Spelling.{hex_digit, escaped, string_text, are_bytes};
+ghost use Rattle.std.specs.Prelude.{◌≡◌, ◌∷◌, List, ℕ, true, ◌++◌, ◌<◌, OnOk, OnErr};
+ghost use Rattle.lane_scan.specs.Bytes.{is_special};
+ghost use Rattle.json_span.specs.Spelling.{hex_digit, escaped, inside_text, string_text, are_bytes};
 ghost use Rattle.json_span.specs.Reading.{StringAt};
-ghost use Rattle.std.specs.List.{flat_map};
 
+use lane_scan::first_special;
 use tk_io::{Bytes, NoMemory};
 
 fn hex_digit(n: u8) -> u8
@@ -13,40 +14,55 @@ fn hex_digit(n: u8) -> u8
     if n < 10 { b'0' + n } else { 87 + n }
 }
 
-fn write_byte(out: &mut Bytes, byte: u8) -> Result<(), NoMemory>
+// The escape of a byte that cannot stand for itself.
+fn write_escape(byte: u8, out: &mut Bytes) -> Result<(), NoMemory>
+    requires special { is_special byte ≡ true }
     ensures { OnOk result (out.new ≡ out.old ++ escaped byte) }
 {
     if byte == b'"' || byte == b'\\' {
         return out.append(&[b'\\', byte]);
     }
-    if byte < 32 {
-        return out.append(&[
-            b'\\',
-            b'u',
-            b'0',
-            b'0',
-            hex_digit(byte / 16),
-            hex_digit(byte % 16),
-        ]);
-    }
-    out.append(&[byte])
+    out.append(&[
+        b'\\',
+        b'u',
+        b'0',
+        b'0',
+        hex_digit(byte / 16),
+        hex_digit(byte % 16),
+    ])
 }
 
-fn write_bytes(out: &mut Bytes, bytes: &[u8]) -> Result<(), NoMemory>
-    ensures { OnOk result (out.new ≡ out.old ++ flat_map escaped bytes.now) }
+// Runs of plain bytes as they are, and escapes between them.
+fn put_inside(text: &[u8], out: &mut Bytes) -> Result<(), NoMemory>
+    ensures { OnOk result (out.new ≡ out.old ++ inside_text text.now) }
 {
-    for byte in bytes {
-        write_byte(out, *byte)?;
+    let mut at = 0;
+    loop {
+        let special = first_special(text, at);
+        out.append(&text[at..special])?;
+        if special == text.len() {
+            return Ok(());
+        }
+        write_escape(text[special], out)?;
+        at = special + 1;
     }
-    Ok(())
 }
 
 fn put_string(text: &[u8], out: &mut Bytes) -> Result<(), NoMemory>
     ensures { OnOk result (out.new ≡ out.old ++ string_text text.now) }
 {
     out.append(b"\"")?;
-    write_bytes(out, text)?;
+    put_inside(text, out)?;
     out.append(b"\"")
+}
+
+fn add_inside(text: &[u8], out: &mut Bytes) -> Result<(), NoMemory>
+    ensures ok { OnOk result (out.new ≡ out.old ++ inside_text text.now) }
+    ensures err { OnErr result (out.new ≡ out.old) }
+{
+    let mut scratch = out.fresh();
+    put_inside(text, &mut scratch)?;
+    out.append(scratch.as_slice())
 }
 
 fn add_string(text: &[u8], out: &mut Bytes) -> Result<(), NoMemory>
@@ -66,4 +82,16 @@ pub fn write_string(text: &str, out: &mut Bytes) -> Result<(), NoMemory>
     ensures bytes { are_bytes text.now ≡ true }
 {
     add_string(text.as_bytes(), out)
+}
+
+/// The inside of the string, without its quotes. Several of them, with plain characters between each two, are the inside of the joined string
+/// (`spelling_laws`). Where memory runs out nothing is written.
+pub fn write_string_inside(text: &str, out: &mut Bytes) -> Result<(), NoMemory>
+    ensures text { OnOk result (out.new ≡ out.old ++ inside_text text.now) }
+    ensures err { OnErr result (out.new ≡ out.old) }
+    // Between quotes it reads back, whatever follows.
+    ensures reads { (u : List ℕ) → StringAt (34 ∷ (inside_text text.now ++ (34 ∷ u))) text.now u }
+    ensures bytes { are_bytes text.now ≡ true }
+{
+    add_inside(text.as_bytes(), out)
 }

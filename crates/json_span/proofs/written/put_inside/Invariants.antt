@@ -1,0 +1,10 @@
+use Rattle.std.proofs.Common.{◌≡◌, ◌-◌, ◌≤◌, ◌++◌, length, drop}
+use Rattle.json_span.specs.Spelling.{inside_text}
+use Rattle.json_span.proofs.written.put_inside.Given as goal
+
+-- what is still to be written completes what was written
+abbrev pub invariant-loop-out : goal.invariant-loop-out
+invariant-loop-out l = (l.at ≤ length l.text) × (l.out ++ inside_text (drop l.at l.text) ≡ l.fn.out ++ inside_text l.text)
+
+abbrev pub decreases-loop-out : goal.decreases-loop-out
+decreases-loop-out l = length l.text - l.at
