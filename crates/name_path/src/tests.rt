@@ -70,7 +70,7 @@ fn refuses_what_is_no_curly_alias(rt: HostRuntime) {
 
 // The names, the steps and the place as it is printed.
 fn pointer(alloc: Global, text: &str) -> Result<(Bytes, Bytes, Bytes), RefStop> {
-    let place = read_pointer(alloc, &Text::of(text))?;
+    let place = read_pointer(alloc, &Text::of(text))?.copy()?;
     let names = lines(alloc, place.token.as_slice())?;
     let steps = lines(alloc, place.trail.as_slice())?;
     let mut printed = Bytes::new(alloc);
