@@ -1,6 +1,6 @@
-mod Escaping
-mod Joins
+pub mod Escaping
+pub mod Joins
 mod Parts
 mod PathMaps
-mod Spellings
+pub mod Spellings
 mod Steps

@@ -1,0 +1,86 @@
+-- Groups, member by member.
+use Rattle.std.proofs.Common.{◌≡◌, ℕ, ◌+◌, Bool, true, false, not, List, [], ◌++◌, drop, Some, None, refl, sym, ap, ◌∙◌, cond}
+use Rattle.std.specs.Prelude.{slice_get}
+use Rattle.json_span.specs.Tree.{Tree, a_null, a_boolean, a_number, a_string, an_array, an_object, Placed, placed, Entry, entries_in, members_of, tree_of, object_in}
+use Rattle.json_span.proofs.Views.{entries_in-of}
+use Rattle.token_tree.specs.declared.fault.Rule.TheVariants as rule
+use Rattle.token_tree.specs.Tree.{Named, a_token, a_group}
+use Rattle.token_tree.specs.Answer.{AreMembers}
+use Rattle.token_tree.specs.Shape.{members_in, entries_at, is_object, are_token, is_token, at_value, token_breaks, group_member_breaks, group_breaks, child_breaks, shape_breaks, put_children, put_child, child_of, def_of, group_of}
+use Rattle.token_tree.proofs.Keeps.{members_again}
+use Rattle.token_tree.proofs.Sound.{entries_are}
+use Rattle.token_tree.proofs.Steps.{next}
+
+-- a value with members is an object of these
+pub object_is : (v : Tree) (es : List Entry) → object_in v ≡ Some es → v ≡ an_object (members_of es)
+object_is a_null es e = absurd (cc)
+object_is (a_boolean b) es e = absurd (cc)
+object_is (a_number k) es e = absurd (cc)
+object_is (a_string s) es e = absurd (cc)
+object_is (an_array ns) es e = absurd (cc)
+object_is (an_object ms) es e = let h : entries_in ms ≡ es = cc in ap an_object (sym (members_again ms) ∙ ap members_of h)
+
+pub no_object : (v : Tree) → None ≡ object_in v → is_object v ≡ false
+no_object a_null e = refl
+no_object (a_boolean b) e = refl
+no_object (a_number k) e = refl
+no_object (a_string s) e = refl
+no_object (an_array ns) e = refl
+no_object (an_object ms) e = absurd (cc)
+
+pub next_group_breaks : (es : List Entry) (i : ℕ) (e : Entry) → slice_get es i ≡ Some e → group_breaks (members_of (drop i es)) ≡ group_member_breaks e (child_breaks e.value) ++ group_breaks (members_of (drop (i + 1) es))
+next_group_breaks es i e g = ap (λ z. group_breaks (members_of z)) (next es i e g)
+
+pub none_in_member : (es : List Entry) (i : ℕ) (e : Entry) → slice_get es i ≡ Some e → group_member_breaks e (child_breaks e.value) ≡ [] → group_breaks (members_of (drop (i + 1) es)) ≡ group_breaks (members_of (drop i es))
+none_in_member es i e g h = sym (next_group_breaks es i e g ∙ ap (λ z. z ++ group_breaks (members_of (drop (i + 1) es))) h)
+
+pub next_children : (file text : List ℕ) (es : List Entry) (i : ℕ) (e : Entry) (old new : Named) → slice_get es i ≡ Some e → new ≡ put_child file text e old
+    → put_children file text (members_of (drop (i + 1) es)) new ≡ put_children file text (members_of (drop i es)) old
+next_children file text es i e old new g h =
+    ap (put_children file text (members_of (drop (i + 1) es))) h
+    ∙ sym (ap (λ z. put_children file text (members_of z) old) (next es i e g))
+
+if_true : {A : Type 0} (b : Bool) (x y : A) → b ≡ true → cond b x y ≡ x
+if_true b x y e = ap (λ t. cond t x y) e
+
+if_false : {A : Type 0} (b : Bool) (x y : A) → b ≡ false → cond b x y ≡ y
+if_false b x y e = ap (λ t. cond t x y) e
+
+-- what the breaks of an object of these members are
+
+breaks_of : (n : Placed) (es : List Entry) → AreMembers n es → child_breaks n ≡ cond (are_token es) (token_breaks es) (group_breaks (members_of es))
+breaks_of (placed v start end) es h =
+    ap (λ z. child_breaks (placed z start end)) h
+    ∙ ap (λ z. cond (are_token z) (token_breaks z) (group_breaks (members_of es))) (entries_in-of es)
+
+pub group_child_breaks : (n : Placed) (es : List Entry) → AreMembers n es → are_token es ≡ false → child_breaks n ≡ group_breaks (members_of es)
+group_child_breaks n es h t = breaks_of n es h ∙ if_false (are_token es) (token_breaks es) (group_breaks (members_of es)) t
+
+token_is : (n : Placed) (es : List Entry) → AreMembers n es → is_token n ≡ are_token es
+token_is n es h = ap are_token (entries_are n es h)
+
+-- and what child it is
+
+pub group_child : (file text : List ℕ) (n : Placed) (es : List Entry) → AreMembers n es → are_token es ≡ false → child_of file text n ≡ a_group (group_of file text (an_object (members_of es)))
+group_child file text (placed v start end) es h t =
+    if_false (is_token (placed v start end)) (a_token (def_of file text (placed v start end))) (a_group (group_of file text v)) (token_is (placed v start end) es h ∙ t)
+    ∙ ap (λ z. a_group (group_of file text z)) h
+
+-- the root
+
+pub no_root : (n : Placed) → is_object (tree_of n) ≡ false → shape_breaks n ≡ at_value rule.Root n
+unfolding shape_breaks
+no_root n e = ap (λ t. cond (not t) (at_value rule.Root n) (cond (is_token n) (at_value rule.Root n ++ token_breaks (entries_at n)) (group_breaks (members_in (tree_of n))))) e
+
+root_cases : (n : Placed) (es : List Entry) → AreMembers n es → shape_breaks n ≡ cond (are_token es) (at_value rule.Root n ++ token_breaks (entries_at n)) (group_breaks (members_of es))
+unfolding shape_breaks
+root_cases (placed v start end) es h =
+    let n = placed v start end in
+    ap (λ z. cond (not (is_object z)) (at_value rule.Root n) (cond (is_token n) (at_value rule.Root n ++ token_breaks (entries_at n)) (group_breaks (members_in z)))) h
+    ∙ ap (λ t. cond t (at_value rule.Root n ++ token_breaks (entries_at n)) (group_breaks (members_of es))) (token_is n es h)
+
+pub group_root : (n : Placed) (es : List Entry) → AreMembers n es → are_token es ≡ false → shape_breaks n ≡ group_breaks (members_of es)
+group_root n es h t = root_cases n es h ∙ if_false (are_token es) (at_value rule.Root n ++ token_breaks (entries_at n)) (group_breaks (members_of es)) t
+
+pub token_root : (n : Placed) (es : List Entry) → AreMembers n es → are_token es ≡ true → shape_breaks n ≡ at_value rule.Root n ++ token_breaks (entries_at n)
+token_root n es h t = root_cases n es h ∙ if_true (are_token es) (at_value rule.Root n ++ token_breaks (entries_at n)) (group_breaks (members_of es)) t

@@ -1,0 +1,16 @@
+pub mod NameMaps
+pub mod Names
+pub mod Targets
+pub mod Steps
+pub mod Unders
+pub mod Weights
+pub mod Objects
+pub mod Flaws
+pub mod Moved
+pub mod Sound
+pub mod Places
+pub mod Keeps
+pub mod Groups
+pub mod Views
+pub mod OneAnswer
+pub mod Order

@@ -1,0 +1,36 @@
+-- Laws over the definitions alone.
+use Rattle.std.specs.Prelude.{◌≡◌, ℕ, ◌+◌, ◌≤◌, ◌↔◌, IsTrue, List, [], ◌∷◌, Some}
+use Rattle.json_span.specs.Tree.{Placed}
+use Rattle.json_span.specs.Reading.{Shows}
+use Rattle.json_span.specs.Parts.{IsPart}
+use Rattle.name_path.specs.declared.kind.Kind.{Kind}
+use Rattle.name_path.specs.Kinds.{kind_name}
+use Rattle.name_path.specs.Names.{IsName}
+use Rattle.name_path.specs.Reference.{SpellsGroup}
+use Rattle.token_tree.specs.Texts.{is_name, kind_named, group_named}
+use Rattle.token_tree.specs.Tree.{Definition}
+use Rattle.token_tree.specs.Shape.{Break, shape_breaks}
+use Rattle.token_tree.specs.Promise.{IsDefinition}
+
+-- each break starts behind the one before, and none before this place
+abbrev pub Ascend : ℕ → List Break → Type 0
+Ascend from [] = Unit {0}
+Ascend from (b ∷ bs) = (from ≤ b.start) × Ascend (b.start + 1) bs
+
+-- the breaks of a value of a text stand in the order of their spans, no two of which start together
+abbrev pub BreaksAscend : Type 0
+BreaksAscend = (text : List ℕ) (root n : Placed) → Shows text root → IsPart n root → Ascend 0 (shape_breaks n)
+
+-- a definition is decided by its file's name, its source and where that starts
+abbrev pub OneDefinition : Type 0
+OneDefinition = (d e : Definition) → IsDefinition d → IsDefinition e → d.file ≡ e.file → d.source ≡ e.source → d.start ≡ e.start → d ≡ e
+
+-- the tests of texts are those of names, kinds and groups
+abbrev pub NamesTest : Type 0
+NamesTest = (text : List ℕ) → IsTrue (is_name text) ↔ IsName text
+
+abbrev pub KindsNamed : Type 0
+KindsNamed = (text : List ℕ) (kind : Kind) → (kind_named text ≡ Some kind) ↔ (kind_name kind ≡ text)
+
+abbrev pub GroupsNamed : Type 0
+GroupsNamed = (text : List ℕ) (path : List (List ℕ)) → (group_named text ≡ Some path) ↔ SpellsGroup text path
