@@ -33,3 +33,4 @@ pub mod SliceSaid
 pub mod SaidCut
 pub mod Composing
 pub mod Insides
+pub mod Unders

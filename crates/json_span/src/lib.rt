@@ -22,4 +22,4 @@ pub use laws::{joined_laws, json_laws, plain_laws, spelling_laws};
 pub use plain::{Plain, PlainField, PlainFields, PlainItems};
 pub use reader::{JsonFault, read};
 pub use tree::{Field, Fields, Items, Json, Node};
-pub use written::{write_string, write_string_inside};
+pub use written::{write_string, write_string_bytes, write_string_inside};

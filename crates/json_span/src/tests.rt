@@ -4,7 +4,7 @@ ghost use Rattle.std.specs.Prelude.{◌≡◌, ◌<◌};
 
 use crate::{
     Field, Fields, Items, Json, JsonFault, Node, Plain, PlainField, PlainFields, PlainItems, read,
-    write_string, write_string_inside,
+    write_string, write_string_bytes, write_string_inside,
 };
 use std::alloc::Global;
 use std::marker::Brand;
@@ -502,6 +502,8 @@ fn strings_and_lists(rt: HostRuntime) {
     let mut out = Bytes::new(rt.alloc());
     assert!(rt; write_string("a\"\\\u{1}\u{1f}é", &mut out).is_ok());
     assert_eq!(rt; out.as_slice(), "\"a\\\"\\\\\\u0001\\u001fé\"".as_bytes());
+    assert!(rt; write_string_bytes(b"/\"", &mut out).is_ok());
+    assert_eq!(rt; out.as_slice(), "\"a\\\"\\\\\\u0001\\u001fé\"\"/\\\"\"".as_bytes());
     let mut inside = Bytes::new(rt.alloc());
     assert!(rt; write_string_inside("\u{1f}a", &mut inside).is_ok());
     assert!(rt; inside.append(b".").is_ok());
@@ -531,6 +533,8 @@ fn strings_and_lists(rt: HostRuntime) {
         fields.at(0).and_then(|field| field.node.value.as_bool()),
         Some(true)
     );
+    assert_eq!(rt; fields.get("a").map(|node| node.start), Some(5));
+    assert!(rt; fields.get("b").is_none());
     assert_eq!(rt; (items.len(), fields.len()), (1, 1));
     let mut plains = PlainItems::new(rt.alloc());
     assert!(rt; plains.push(Plain::Num("1")).is_ok());

@@ -1,7 +1,7 @@
 //! JSON values, each with the place where it stands.
 
 ghost use Rattle.std.specs.Prelude.{◌≡◌, [], ◌∷◌, ◌++◌, length, slice_get, option_map, OnOk, OnErr};
-ghost use Rattle.json_span.specs.Tree.{a_null, a_boolean, a_number, a_string, an_array, an_object, elements_of, members_of, boolean_in, number_in, string_in, array_in, object_in};
+ghost use Rattle.json_span.specs.Tree.{a_null, a_boolean, a_number, a_string, an_array, an_object, elements_of, members_of, boolean_in, number_in, string_in, array_in, object_in, under};
 ghost use Rattle.json_span.specs.View.{json_view, node_view, field_view, items_view, fields_view};
 
 use std::alloc::Global;
@@ -115,6 +115,21 @@ impl<'s> Fields<'s> {
         ensures { option_map (λ f. field_view f.now) result ≡ slice_get (fields_view self.now) i }
     {
         item_at(self.list.as_slice(), i)
+    }
+
+    /// The value of the first member of this name; none where there is no such member.
+    pub fn get(&self, name: &str) -> Option<&Node<'s>>
+        ensures { option_map (λ n. node_view n.now) result ≡ under name.now (fields_view self.now) }
+    {
+        for i in 0..self.len() {
+            let Some(field) = self.at(i) else {
+                continue;
+            };
+            if field.name.as_str() == name {
+                return Some(&field.node);
+            }
+        }
+        None
     }
 
     /// Adds a member at the end. Where memory runs out it is dropped, and the list stays.

@@ -65,8 +65,9 @@ fn add_inside(text: &[u8], out: &mut Bytes) -> Result<(), NoMemory>
     out.append(scratch.as_slice())
 }
 
-fn add_string(text: &[u8], out: &mut Bytes) -> Result<(), NoMemory>
-    ensures ok { OnOk result (out.new ≡ out.old ++ string_text text.now) }
+/// The string of these bytes in quotes; it reads back as they are (`spelling_laws`). Where memory runs out nothing is written.
+pub fn write_string_bytes(text: &[u8], out: &mut Bytes) -> Result<(), NoMemory>
+    ensures text { OnOk result (out.new ≡ out.old ++ string_text text.now) }
     ensures err { OnErr result (out.new ≡ out.old) }
 {
     let mut scratch = out.fresh();
@@ -81,7 +82,7 @@ pub fn write_string(text: &str, out: &mut Bytes) -> Result<(), NoMemory>
     ensures reads { (u : List ℕ) → StringAt (string_text text.now ++ u) text.now u }
     ensures bytes { are_bytes text.now ≡ true }
 {
-    add_string(text.as_bytes(), out)
+    write_string_bytes(text.as_bytes(), out)
 }
 
 /// The inside of the string, without its quotes. Several of them, with plain characters between each two, are the inside of the joined string

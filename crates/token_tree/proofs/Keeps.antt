@@ -2,14 +2,14 @@
 use Rattle.std.proofs.Common.{◌≡◌, ℕ, ◌+◌, ◌-◌, ◌≤◌, true, List, [], length, take, drop, map, Option, Some, None, option_map, refl, sym, ap, ap₂, ◌∙◌, subst, arith, codes}
 use Rattle.std.specs.Prelude.{slice_range}
 use Rattle.std.proofs.lemmas.List.{take-take, drop-take, drop-drop, take_rest}
-use Rattle.json_span.specs.Tree.{a_null, a_boolean, a_number, a_string, an_array, an_object, Placed, placed, Members, no_members, member, Entry, entries_in, members_of, tree_of, start_of, end_of}
+use Rattle.json_span.specs.Tree.{a_null, a_boolean, a_number, a_string, an_array, an_object, Placed, placed, Members, no_members, member, Entry, entries_in, members_of, tree_of, start_of, end_of, under}
 use Rattle.json_span.specs.Reading.{Shows}
 use Rattle.json_span.specs.Flaw.{most_open, flaw_in}
 use Rattle.json_span.specs.Parts.{moved}
 use Rattle.token_tree.specs.Tree.{Definition}
 use Rattle.token_tree.specs.Answer.{AreMembers}
 use Rattle.token_tree.specs.Promise.{IsDefinition, StandsIn, moved_def}
-use Rattle.token_tree.specs.Shape.{members_in, entries_at, is_token, under, has, token_breaks, slice_of, extensions_of, def_of, kind_of, description_of, deprecated_of, value_of}
+use Rattle.token_tree.specs.Shape.{members_in, entries_at, is_token, has, token_breaks, slice_of, extensions_of, def_of, kind_of, description_of, deprecated_of, value_of}
 use Rattle.token_tree.proofs.Flaws.{part_flawless, unmoved}
 use Rattle.token_tree.proofs.Moved.{moved_start, moved_end, entries_at_moved, under_moved, has_moved, kind_moved, description_moved, deprecated_moved, token_moved, value_moved, sound_moved, moved_entry}
 use Rattle.token_tree.proofs.Objects.{ObjectAt, object_at}

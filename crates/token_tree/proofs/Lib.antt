@@ -2,7 +2,6 @@ pub mod NameMaps
 pub mod Names
 pub mod Targets
 pub mod Steps
-pub mod Unders
 pub mod Weights
 pub mod Objects
 pub mod Flaws

@@ -3,11 +3,11 @@ use Rattle.std.proofs.Common.{◌≡◌, ℕ, ◌+◌, Bool, true, false, not, �
 use Rattle.std.specs.Prelude.{is_some, unwrap_or, option_and_then}
 use Rattle.std.specs.List.{flat_map}
 use Rattle.std.specs.Str.{bytes_eq}
-use Rattle.json_span.specs.Tree.{Tree, a_null, a_boolean, a_number, a_string, an_array, an_object, Placed, placed, Members, no_members, member, Entry, entries_in, tree_of, start_of, end_of, string_in}
+use Rattle.json_span.specs.Tree.{Tree, a_null, a_boolean, a_number, a_string, an_array, an_object, Placed, placed, Members, no_members, member, Entry, entries_in, tree_of, start_of, end_of, string_in, under}
 use Rattle.json_span.specs.Parts.{moved, moved_tree, moved_members}
 use Rattle.token_tree.specs.declared.fault.Rule.TheVariants as rule
 use Rattle.token_tree.specs.Texts.{is_reserved, kind_named}
-use Rattle.token_tree.specs.Shape.{members_in, entries_at, under, has, are_token, is_token, kind_in, mark_in, has_token_form, at_value, token_member_breaks, token_breaks, said, kind_of, description_of, deprecated_of, value_of}
+use Rattle.token_tree.specs.Shape.{members_in, entries_at, has, are_token, is_token, kind_in, mark_in, has_token_form, at_value, token_member_breaks, token_breaks, said, kind_of, description_of, deprecated_of, value_of}
 
 abbrev pub moved_entry : ℕ → Entry → Entry
 moved_entry d e = record { name = e.name; start = d + e.start; end = d + e.end; value = moved d e.value }

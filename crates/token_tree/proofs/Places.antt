@@ -1,11 +1,11 @@
 -- Parts of parts, and where the values of members stand.
 use Rattle.std.proofs.Common.{◌≡◌, ℕ, zero, suc, List, [], ◌∷◌, Some, subst, sym}
 use Rattle.std.specs.Prelude.{slice_get}
-use Rattle.json_span.specs.Tree.{Tree, Placed, placed, Elements, Members, Entry, members_of}
+use Rattle.json_span.specs.Tree.{Tree, Placed, placed, Elements, Members, Entry, members_of, under}
 use Rattle.json_span.specs.Parts.{IsPart, itself, inside, IsIn, in_array, in_object, IsElement, this_element, later_element, IsMember, this_member, later_member}
 use Rattle.token_tree.specs.Answer.{AreMembers, EachStands}
 use Rattle.token_tree.specs.Promise.{StandsIn}
-use Rattle.token_tree.specs.Shape.{under}
+
 use Rattle.token_tree.proofs.Sound.{among}
 
 mutual

@@ -3,14 +3,14 @@ use Rattle.std.proofs.Common.{◌≡◌, ℕ, zero, suc, ◌+◌, Bool, true, fa
 use Rattle.std.specs.Prelude.{slice_get, unwrap_or}
 use Rattle.std.specs.List.{flat_map}
 use Rattle.std.specs.Str.{bytes_eq}
-use Rattle.json_span.specs.Tree.{Tree, a_null, a_boolean, a_number, a_string, an_array, an_object, Placed, placed, Members, Entry, tree_of}
+use Rattle.json_span.specs.Tree.{Tree, a_null, a_boolean, a_number, a_string, an_array, an_object, Placed, placed, Members, Entry, tree_of, under}
 use Rattle.json_span.proofs.Views.{entries_in-of}
 use Rattle.token_tree.specs.declared.fault.Rule.TheVariants as rule
 use Rattle.token_tree.specs.declared.fault.ShapeFault.{ShapeFault}
 use Rattle.token_tree.specs.declared.fault.ShapeFault.TheVariants.{Broken, NoMemory}
 use Rattle.token_tree.specs.Answer.{IsFirst, AreMembers}
 use Rattle.token_tree.specs.Texts.{is_reserved}
-use Rattle.token_tree.specs.Shape.{Break, entries_at, is_object, under, has, has_token_form, at_value, at_name, token_member_breaks, token_breaks, value_of}
+use Rattle.token_tree.specs.Shape.{Break, entries_at, is_object, has, has_token_form, at_value, at_name, token_member_breaks, token_breaks, value_of}
 use Rattle.token_tree.proofs.Names.{same_text}
 use Rattle.token_tree.proofs.Steps.{next}
 

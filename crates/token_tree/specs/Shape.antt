@@ -5,7 +5,7 @@ use Rattle.std.specs.List.{flat_map}
 use Rattle.std.specs.Str.{bytes_eq}
 use Rattle.name_path.specs.declared.kind.Kind.{Kind}
 use Rattle.name_path.specs.Names.{root_name}
-use Rattle.json_span.specs.Tree.{Tree, a_null, a_boolean, a_number, a_string, an_array, an_object, Placed, placed, Members, no_members, member, Entry, entries_in, tree_of, start_of, end_of, string_in, object_in}
+use Rattle.json_span.specs.Tree.{Tree, a_null, a_boolean, a_number, a_string, an_array, an_object, Placed, placed, Members, no_members, member, Entry, entries_in, tree_of, start_of, end_of, string_in, object_in, under}
 use Rattle.token_tree.specs.declared.mark.Mark.{Mark}
 use Rattle.token_tree.specs.declared.mark.Mark.TheVariants.{No, Yes, Because}
 use Rattle.token_tree.specs.declared.fault.Rule.{Rule}
@@ -30,11 +30,6 @@ is_object v = is_some (object_in v)
 
 abbrev pub is_text : Tree → Bool
 is_text v = is_some (string_in v)
-
--- what stands under a name
-abbrev pub under : List ℕ → List Entry → Option Placed
-under name [] = None
-under name (e ∷ es) = if bytes_eq e.name name then Some e.value else under name es
 
 abbrev pub has : List ℕ → List Entry → Bool
 has name es = is_some (under name es)

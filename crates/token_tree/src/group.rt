@@ -11,7 +11,7 @@ ghost use Rattle.token_tree.specs.Shown.{extends_view, child_view, members_view,
 ghost use Rattle.token_tree.specs.Tree.{group_with};
 
 use crate::fault::{Rule, ShapeFault};
-use crate::listed::{are_token, has_group_form, is_name, is_reserved, target_in, under};
+use crate::listed::{are_token, has_group_form, is_name, is_reserved, target_in};
 use crate::token::{deprecated_of, kind_of, read_token};
 use crate::tree::{Child, Extends, Group, Members};
 use json_span::{Field, Fields, Node};
@@ -25,7 +25,7 @@ fn extends_of<'s>(
 ) -> Result<Option<Extends<'s>>, NoMemory>
     ensures { IfOk result (λ e. option_map extends_view e ≡ extends_of file.entry.now (fields_view fields.now)) }
 {
-    let Some(node) = under(fields, "$extends") else {
+    let Some(node) = fields.get("$extends") else {
         return Ok(None);
     };
     let Some(target) = target_in(alloc, &node.value)? else {

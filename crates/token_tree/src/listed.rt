@@ -3,7 +3,7 @@
 ghost use Rattle.std.specs.Prelude.{◌≡◌, List, ℕ, IfOk, Option, option_map};
 ghost use Rattle.json_span.specs.View.{json_view, node_view, fields_view};
 ghost use Rattle.token_tree.specs.Texts.{is_reserved, is_name};
-ghost use Rattle.token_tree.specs.Shape.{under, has, are_token, kind_in, mark_in, target_in, has_form, has_group_form, has_token_form, is_mark};
+ghost use Rattle.token_tree.specs.Shape.{has, are_token, kind_in, mark_in, target_in, has_form, has_group_form, has_token_form, is_mark};
 
 use crate::mark::Mark;
 use json_span::{Fields, Json, Node};
@@ -11,25 +11,10 @@ use name_path::{Kind, Path, RefStop, read_group};
 use std::alloc::Global;
 use tk_io::NoMemory;
 
-/// The value under a name, or none where the name is not there.
-pub(crate) fn under<'a, 's>(fields: &'a Fields<'s>, name: &str) -> Option<&'a Node<'s>>
-    ensures { option_map (λ n. node_view n.now) result ≡ under name.now (fields_view fields.entry.now) }
-{
-    for i in 0..fields.len() {
-        let Some(field) = fields.at(i) else {
-            continue;
-        };
-        if field.name.as_str() == name {
-            return Some(&field.node);
-        }
-    }
-    None
-}
-
 pub(crate) fn has(fields: &Fields<'_>, name: &str) -> bool
     ensures { result ≡ has name.now (fields_view fields.now) }
 {
-    under(fields, name).is_some()
+    fields.get(name).is_some()
 }
 
 /// Whether an object of these members is a token.

@@ -1,16 +1,16 @@
 //! Reading the definition of a token.
 
 ghost use Rattle.std.specs.Prelude.{◌≡◌, [], ℕ, Some, true, OnOk, IfOk, IfErr, option_map, codes};
-ghost use Rattle.json_span.specs.Tree.{Placed, tree_of};
+ghost use Rattle.json_span.specs.Tree.{Placed, tree_of, under};
 ghost use Rattle.json_span.specs.View.{node_view, field_view, fields_view};
 ghost use Rattle.token_tree.specs.Answer.{IsFirst, AreMembers};
 ghost use Rattle.token_tree.specs.Promise.{StandsIn};
-ghost use Rattle.token_tree.specs.Shape.{token_breaks, token_member_breaks, has_token_form, are_token, is_object, kind_of, description_of, deprecated_of, extensions_of, slice_of, value_of, def_of, under};
+ghost use Rattle.token_tree.specs.Shape.{token_breaks, token_member_breaks, has_token_form, are_token, is_object, kind_of, description_of, deprecated_of, extensions_of, slice_of, value_of, def_of};
 
 use crate::copying::copy_node;
 use crate::definition::TokenDef;
 use crate::fault::{Rule, ShapeFault};
-use crate::listed::{has, has_token_form, is_reserved, kind_in, mark_in, under};
+use crate::listed::{has, has_token_form, is_reserved, kind_in, mark_in};
 use crate::mark::Mark;
 use json_span::{Field, Fields, Node};
 use name_path::Kind;
@@ -51,7 +51,7 @@ fn check_token(fields: &Fields<'_>) -> Result<(), ShapeFault>
 pub(crate) fn kind_of(fields: &Fields<'_>) -> Option<Kind>
     ensures { result ≡ kind_of (fields_view fields.now) }
 {
-    let node = under(fields, "$type")?;
+    let node = fields.get("$type")?;
     kind_in(&node.value)
 }
 
@@ -59,7 +59,7 @@ pub(crate) fn kind_of(fields: &Fields<'_>) -> Option<Kind>
 pub(crate) fn deprecated_of<'s>(fields: &Fields<'s>) -> Result<Option<Mark<'s>>, NoMemory>
     ensures { IfOk result (λ m. m ≡ deprecated_of (fields_view fields.now)) }
 {
-    match under(fields, "$deprecated") {
+    match fields.get("$deprecated") {
         Some(node) => mark_in(&node.value),
         None => Ok(None),
     }
@@ -68,7 +68,7 @@ pub(crate) fn deprecated_of<'s>(fields: &Fields<'s>) -> Result<Option<Mark<'s>>,
 fn description_of<'s>(fields: &Fields<'s>) -> Result<Option<Text<'s>>, NoMemory>
     ensures { IfOk result (λ d. d ≡ description_of (fields_view fields.now)) }
 {
-    let Some(node) = under(fields, "$description") else {
+    let Some(node) = fields.get("$description") else {
         return Ok(None);
     };
     let Some(text) = node.value.as_text() else {
@@ -91,7 +91,7 @@ fn extensions_of<'s>(text: &'s str, fields: &Fields<'_>) -> Option<&'s str>
     requires sound { token_breaks (fields_view fields.now) ≡ [] }
     ensures { option_map (λ s. s.now) result ≡ extensions_of text.entry.now (fields_view fields.now) }
 {
-    let node = under(fields, "$extensions")?;
+    let node = fields.get("$extensions")?;
     Some(slice_of(text, node))
 }
 
@@ -100,10 +100,10 @@ fn value_of<'s>(alloc: Global, node: &Node<'s>, fields: &Fields<'s>) -> Result<N
     requires { AreMembers (node_view node.now) (fields_view fields.now) }
     ensures { IfOk result (λ n. node_view n ≡ value_of (node_view node.now)) }
 {
-    if let Some(value) = under(fields, "$ref") {
+    if let Some(value) = fields.get("$ref") {
         return copy_node(alloc, value);
     }
-    if let Some(value) = under(fields, "$value") {
+    if let Some(value) = fields.get("$value") {
         return copy_node(alloc, value);
     }
     copy_node(alloc, node)
