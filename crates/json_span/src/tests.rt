@@ -503,7 +503,10 @@ fn strings_and_lists(rt: HostRuntime) {
     assert!(rt; write_string("a\"\\\u{1}\u{1f}é", &mut out).is_ok());
     assert_eq!(rt; out.as_slice(), "\"a\\\"\\\\\\u0001\\u001fé\"".as_bytes());
     assert!(rt; write_string_bytes(b"/\"", &mut out).is_ok());
-    assert_eq!(rt; out.as_slice(), "\"a\\\"\\\\\\u0001\\u001fé\"\"/\\\"\"".as_bytes());
+    assert_eq!(rt;
+        out.as_slice(),
+        "\"a\\\"\\\\\\u0001\\u001fé\"\"/\\\"\"".as_bytes()
+    );
     let mut inside = Bytes::new(rt.alloc());
     assert!(rt; write_string_inside("\u{1f}a", &mut inside).is_ok());
     assert!(rt; inside.append(b".").is_ok());

@@ -5,7 +5,6 @@ use Rattle.json_span.specs.Tree.{Tree, Placed, placed, Elements, Members, Entry,
 use Rattle.json_span.specs.Parts.{IsPart, itself, inside, IsIn, in_array, in_object, IsElement, this_element, later_element, IsMember, this_member, later_member}
 use Rattle.token_tree.specs.Answer.{AreMembers, EachStands}
 use Rattle.token_tree.specs.Promise.{StandsIn}
-
 use Rattle.token_tree.proofs.Sound.{among}
 
 mutual

@@ -1,7 +1,6 @@
 use Rattle.std.proofs.Common.{Some, None, IfOk, ◌≡◌, refl, sym, subst, codes}
 use Rattle.json_span.specs.Tree.{under}
 use Rattle.json_span.specs.View.{node_view, fields_view}
-
 use Rattle.token_tree.proofs.Sound.{value_is}
 use Rattle.token_tree.proofs.token.value_of.Goals as goal
 
