@@ -1,8 +1,10 @@
-mod Ends
+pub mod Ends
 mod Frames
 mod Once
+pub mod Renamings
 mod Searches
-mod Sums
+pub mod Sums
 mod Turns
 pub mod Unique
+pub mod Within
 mod Work

@@ -3,10 +3,10 @@ use Rattle.std.proofs.Common.{◌≡◌, ℕ, List, [], ◌∷◌, refl, sym, ap
 use Rattle.ring.specs.Values.{Comes, comes, AllCome, none, more, total_step, IsTotal}
 
 mutual
-  pub same_value : {V : Type 0} (needs : ℕ → List ℕ) (step : ℕ → List V → V) (v : ℕ) {x y : V} → Comes needs step v x → Comes needs step v y → x ≡ y
+  pub same_value : {N V : Type 0} (needs : N → List N) (step : N → List V → V) (v : N) {x y : V} → Comes needs step v x → Comes needs step v y → x ≡ y
   same_value needs step v (comes a) (comes b) = ap (step v) (same_values needs step (needs v) a b)
 
-  pub same_values : {V : Type 0} (needs : ℕ → List ℕ) (step : ℕ → List V → V) (ws : List ℕ) {xs ys : List V} → AllCome needs step ws xs → AllCome needs step ws ys → xs ≡ ys
+  pub same_values : {N V : Type 0} (needs : N → List N) (step : N → List V → V) (ws : List N) {xs ys : List V} → AllCome needs step ws xs → AllCome needs step ws ys → xs ≡ ys
   same_values needs step [] none none = refl
   same_values needs step (w ∷ ws) (more {x} {xs} a as') (more {x = y} b bs) = ap (λ z. z ∷ xs) (same_value needs step w a b) ∙ ap (λ zs. y ∷ zs) (same_values needs step ws as' bs)
 

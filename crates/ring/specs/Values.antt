@@ -3,12 +3,12 @@ use Rattle.std.specs.Prelude.{◌≡◌, ℕ, List, [], ◌∷◌, ◌+◌, sum,
 
 -- A node's value is a step from the values of its needs, in their order.
 mutual
-  pub data Comes {V : Type 0} (needs : ℕ → List ℕ) (step : ℕ → List V → V) : ℕ → V → Type 0 where
-    comes : {v : ℕ} {xs : List V} → AllCome needs step (needs v) xs → Comes needs step v (step v xs)
+  pub data Comes {N V : Type 0} (needs : N → List N) (step : N → List V → V) : N → V → Type 0 where
+    comes : {v : N} {xs : List V} → AllCome needs step (needs v) xs → Comes needs step v (step v xs)
 
-  pub data AllCome {V : Type 0} (needs : ℕ → List ℕ) (step : ℕ → List V → V) : List ℕ → List V → Type 0 where
+  pub data AllCome {N V : Type 0} (needs : N → List N) (step : N → List V → V) : List N → List V → Type 0 where
     none : AllCome needs step [] []
-    more : {w : ℕ} {ws : List ℕ} {x : V} {xs : List V} → Comes needs step w x → AllCome needs step ws xs → AllCome needs step (w ∷ ws) (x ∷ xs)
+    more : {w : N} {ws : List N} {x : V} {xs : List V} → Comes needs step w x → AllCome needs step ws xs → AllCome needs step (w ∷ ws) (x ∷ xs)
 
 -- what a node has of its own, and the totals of what it needs
 abbrev pub total_step : List ℕ → ℕ → List ℕ → ℕ
