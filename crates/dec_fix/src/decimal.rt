@@ -1,8 +1,9 @@
 //! The type of decimals, and how one is made.
 
-ghost use Rattle.std.specs.Prelude.{◌≡◌, ◌^◌, ◌≤◌, ◌<◌};
+ghost use Rattle.std.specs.Prelude.{◌≡◌, ◌^◌, ◌≤◌, ◌<◌, pos};
 ghost use Rattle.std.specs.Result.{result_ok};
 ghost use Rattle.dec_fix.specs.Decimal.{signed, shortest, decimal_of, IsShort, IsDec};
+ghost use Rattle.dec_fix.specs.Arithmetic.{whole};
 ghost use Rattle.dec_fix.specs.Reading.{within};
 
 use std::marker::Model;
@@ -55,6 +56,13 @@ impl Dec {
         } else {
             Err(NotDec)
         }
+    }
+
+    /// A whole number.
+    pub fn whole(n: u16) -> Dec
+        ensures { result ≡ whole (pos n) }
+    {
+        Dec::made(false, u128::from(n), 0)
     }
 
     /// The number of this sign and size, where the places are as few as they can be.

@@ -185,6 +185,7 @@ fn order_and_whole_numbers(rt: HostRuntime) {
             assert_eq!(rt; number.whole_i32(), whole, "{text}");
         }
     }
+    assert_eq!(rt; Dec::read("65535"), Ok(Dec::whole(65535)));
 }
 
 #[test]
