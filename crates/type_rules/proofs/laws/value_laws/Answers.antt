@@ -1,0 +1,8 @@
+use Rattle.type_rules.proofs.Kept.{values_keep}
+use Rattle.type_rules.proofs.laws.value_laws.Goals as goal
+
+pub returns : goal.returns
+returns c = record {
+  kinds = λ kind v s e. (values_keep kind v s e).0;
+  keeps = λ kind v s e. (values_keep kind v s e).1;
+}

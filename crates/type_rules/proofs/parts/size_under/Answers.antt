@@ -1,0 +1,13 @@
+use Rattle.json_span.specs.PlainView.{plain_view, plain_fields_view}
+use Rattle.type_rules.specs.Value.{size_in}
+use Rattle.type_rules.proofs.Finding.{missing, member_ok, member_broken}
+use Rattle.type_rules.proofs.parts.size_under.Goals as goal
+
+pub returns-in_err-plain-clause-broken : goal.returns-in_err-plain-clause-broken
+returns-in_err-plain-clause-broken c = missing size_in c.args.name.now (plain_fields_view c.args.members.now) _ c.from_residual.result c.from_residual.ensures.1 c.in_err-plain.ensures.broken
+
+pub returns-clause-ok : goal.returns-clause-ok
+returns-clause-ok c = member_ok size_in c.args.name.now (plain_fields_view c.args.members.now) (plain_view c.in_ok-plain.plain.now) c.check_size.result c.under.result c.in_ok-plain.ensures.ok c.check_size.ensures.ok c.under.ensures.ok c.under.ensures.broken
+
+pub returns-clause-broken : goal.returns-clause-broken
+returns-clause-broken c = member_broken size_in c.args.name.now (plain_fields_view c.args.members.now) (plain_view c.in_ok-plain.plain.now) c.check_size.result c.under.result c.in_ok-plain.ensures.ok c.check_size.ensures.broken c.under.ensures.ok c.under.ensures.broken

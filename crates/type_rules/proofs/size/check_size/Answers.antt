@@ -1,0 +1,24 @@
+use Rattle.std.proofs.Common.{refl, codes}
+use Rattle.json_span.specs.PlainView.{plain_view, plain_fields_view}
+use Rattle.type_rules.specs.declared.fault.ValueRule.TheVariants.{DimensionUnit}
+use Rattle.type_rules.specs.Forms.{members_in, number_in, member}
+use Rattle.type_rules.specs.Words.{word_in, size_units}
+use Rattle.type_rules.specs.Value.{size_in}
+use Rattle.type_rules.proofs.Breaks.{stays}
+use Rattle.type_rules.proofs.size.check_size.Goals as goal
+
+pub returns-in_err-members-clause-broken : goal.returns-in_err-members-clause-broken
+unfolding size_in
+returns-in_err-members-clause-broken c = stays (members_in (plain_view c.args.plain.now)) _ _ _ c.from_residual.ensures.1 c.in_err-members.ensures.broken
+
+pub returns-in_err-value-clause-broken : goal.returns-in_err-value-clause-broken
+unfolding size_in
+returns-in_err-value-clause-broken c = rw c.in_ok-members.ensures.ok (stays (member number_in (codes "value") (plain_fields_view c.in_ok-members.members.now)) _ _ _ c.from_residual-in_err-value.ensures.1 c.in_err-value.ensures.broken)
+
+pub returns-in_err-unit-clause-broken : goal.returns-in_err-unit-clause-broken
+unfolding size_in
+returns-in_err-unit-clause-broken c = rw (c.in_ok-members.ensures.ok, c.in_ok-value.ensures.ok) (stays (member (word_in DimensionUnit size_units) (codes "unit") (plain_fields_view c.in_ok-members.members.now)) _ _ _ c.from_residual-in_err-unit.ensures.1 c.in_err-unit.ensures.broken)
+
+pub returns-clause-ok : goal.returns-clause-ok
+unfolding size_in
+returns-clause-ok c = rw (c.in_ok-members.ensures.ok, c.in_ok-value.ensures.ok, c.in_ok-unit.ensures.ok) refl

@@ -1,0 +1,17 @@
+use Rattle.json_span.specs.PlainView.{plain_view}
+use Rattle.type_rules.specs.Forms.{number_in}
+use Rattle.type_rules.specs.Value.{weight_of_number}
+use Rattle.type_rules.proofs.Breaks.{stays}
+use Rattle.type_rules.proofs.weight.weight_of_number.Goals as goal
+
+pub returns-in_err-number-clause-broken : goal.returns-in_err-number-clause-broken
+unfolding weight_of_number
+returns-in_err-number-clause-broken c = stays (number_in (plain_view c.args.plain.now)) _ _ _ c.from_residual.ensures.1 c.in_err-number.ensures.broken
+
+pub returns-clause-ok : goal.returns-clause-ok
+unfolding weight_of_number
+returns-clause-ok c = rw c.in_ok-number.ensures.ok c.ranged.ensures.ok
+
+pub returns-clause-broken : goal.returns-clause-broken
+unfolding weight_of_number
+returns-clause-broken c = rw c.in_ok-number.ensures.ok c.ranged.ensures.broken

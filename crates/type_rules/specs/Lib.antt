@@ -1,0 +1,9 @@
+pub mod Rules
+pub mod Checked
+pub mod Answer
+pub mod Forms
+pub mod Words
+pub mod Ranges
+pub mod Value
+pub mod Sound
+pub mod Laws

@@ -1,0 +1,187 @@
+-- The types of values (Design Tokens Format Module 2025.10): what a value is under each simple kind, or the first rule that it breaks. The parts
+-- are checked in the order of the lines.
+use Rattle.std.specs.Prelude.{ℕ, ◌==◌, ◌&&◌, List, [], ◌∷◌, map, length, codes, pos, Option, Some, None, Ok, if◌then◌else◌}
+use Rattle.std.specs.Char.{is_ascii_hexdigit, to_ascii_lowercase}
+use Rattle.std.specs.Fmt.{decimal}
+use Rattle.std.specs.List.{list_all}
+use Rattle.std.specs.Str.{bytes_eq}
+use Rattle.json_span.specs.PlainView.{Value}
+use Rattle.dec_fix.specs.Decimal.{Decimal}
+use Rattle.dec_fix.specs.Arithmetic.{whole}
+use Rattle.name_path.specs.declared.kind.Kind.{Kind}
+use Rattle.name_path.specs.declared.kind.Kind.TheVariants as kind
+use Rattle.type_rules.specs.declared.fault.ValueRule.TheVariants.{ValueShape, DimensionUnit, DurationUnit, BezierRange, WeightRange, WeightWord, ColorSpace, ColorRange, ColorAlpha, ColorHex}
+use Rattle.type_rules.specs.declared.range.Range.{Range}
+use Rattle.type_rules.specs.declared.range.Range.TheVariants.{Within}
+use Rattle.type_rules.specs.declared.space.Ranges.{Ranges}
+use Rattle.type_rules.specs.declared.space.Space.{Space}
+use Rattle.type_rules.specs.declared.color.Color.{Color}
+use Rattle.type_rules.specs.declared.components.Components.{Components}
+use Rattle.type_rules.specs.declared.size.Size.{Size}
+use Rattle.type_rules.specs.declared.time.Time.{Time}
+use Rattle.type_rules.specs.declared.curve.Curve.{Curve}
+use Rattle.type_rules.specs.declared.simple.Simple.{Simple}
+use Rattle.type_rules.specs.declared.simple.Simple.TheVariants as simple
+use Rattle.type_rules.specs.Checked.{Checked, broken, or_broken, under, ◌>>=◌}
+use Rattle.type_rules.specs.Forms.{string_in, number_in, text_in, items_in, members_in, if_text, items_of_length, member, member_or, item, each}
+use Rattle.type_rules.specs.Ranges.{ranged, ranges_of, share}
+use Rattle.type_rules.specs.Words.{word_in, meaning, size_units, time_units, weights, spaces}
+
+-- a length
+unfoldable pub size_in : Value → Checked Size
+size_in v = do
+  es ← members_in v
+  value ← member number_in (codes "value") es
+  unit ← member (word_in DimensionUnit size_units) (codes "unit") es
+  Ok (record { value = value; unit = unit })
+
+unfoldable pub time_in : Value → Checked Time
+time_in v = do
+  es ← members_in v
+  value ← member number_in (codes "value") es
+  unit ← member (word_in DurationUnit time_units) (codes "unit") es
+  Ok (record { value = value; unit = unit })
+
+-- four numbers; after their forms, the first and the third lie within 0 to 1
+unfoldable pub four_numbers : Value → Checked Curve
+four_numbers v = do
+  vs ← items_of_length 4 v
+  x1 ← item number_in 0 vs
+  y1 ← item number_in 1 vs
+  x2 ← item number_in 2 vs
+  y2 ← item number_in 3 vs
+  Ok (record { x1 = x1; y1 = y1; x2 = x2; y2 = y2 })
+
+unfoldable pub ranged_curve : Curve → Checked Curve
+ranged_curve c = do
+  x1 ← under (decimal 0) (ranged BezierRange share c.x1)
+  x2 ← under (decimal 2) (ranged BezierRange share c.x2)
+  Ok (record { x1 = x1; y1 = c.y1; x2 = x2; y2 = c.y2 })
+
+unfoldable pub curve_in : Value → Checked Curve
+curve_in v = do
+  c ← four_numbers v
+  ranged_curve c
+
+-- one text, or a list of one or more
+abbrev pub some_texts : List Value → Checked (List (List ℕ))
+some_texts [] = broken ValueShape
+some_texts (v ∷ vs) = each text_in 0 (v ∷ vs)
+
+unfoldable pub listed_families : Value → Checked (List (List ℕ))
+listed_families v = do
+  vs ← items_in v
+  some_texts vs
+
+unfoldable pub families_in : Value → Checked (List (List ℕ))
+families_in v = if_text (string_in v) (λ family. Ok (family ∷ [])) (listed_families v)
+
+-- a word, which stands for its number, or a number from 1 to 1000
+unfoldable pub weight_of_word : List ℕ → Checked Decimal
+weight_of_word word = do
+  n ← or_broken WeightWord (meaning weights word)
+  Ok (whole (pos n))
+
+unfoldable pub weight_of_number : Value → Checked Decimal
+weight_of_number v = do
+  number ← number_in v
+  ranged WeightRange (Within 1 1000) number
+
+unfoldable pub weight_in : Value → Checked Decimal
+weight_in v = if_text (string_in v) weight_of_word (weight_of_number v)
+
+-- a component of a colour: a number, or none by the word `none`
+abbrev pub component_of_word : List ℕ → Checked (Option Decimal)
+component_of_word word = if bytes_eq word (codes "none") then Ok None else broken ValueShape
+
+unfoldable pub component_of_number : Value → Checked (Option Decimal)
+component_of_number v = do
+  number ← number_in v
+  Ok (Some number)
+
+unfoldable pub component_in : Value → Checked (Option Decimal)
+component_in v = if_text (string_in v) component_of_word (component_of_number v)
+
+unfoldable pub three_components : Value → Checked Components
+three_components v = do
+  vs ← items_of_length 3 v
+  a ← item component_in 0 vs
+  b ← item component_in 1 vs
+  c ← item component_in 2 vs
+  Ok (record { first = a; second = b; third = c })
+
+-- a component that is none is in every range
+unfoldable pub ranged_component : Range → Option Decimal → Checked (Option Decimal)
+ranged_component range None = Ok None
+ranged_component range (Some d) = do
+  number ← ranged ColorRange range d
+  Ok (Some number)
+
+unfoldable pub ranged_components : Ranges → Components → Checked Components
+ranged_components ranges cs = do
+  a ← under (decimal 0) (ranged_component ranges.first cs.first)
+  b ← under (decimal 1) (ranged_component ranges.second cs.second)
+  c ← under (decimal 2) (ranged_component ranges.third cs.third)
+  Ok (record { first = a; second = b; third = c })
+
+-- three components; after their forms, each lies in its range
+unfoldable pub components_in : Space → Value → Checked Components
+components_in space v = do
+  cs ← three_components v
+  ranged_components (ranges_of space) cs
+
+unfoldable pub alpha_in : Value → Checked Decimal
+alpha_in v = do
+  alpha ← number_in v
+  ranged ColorAlpha share alpha
+
+-- '#' and six hexadecimal digits, of which the digits are kept in lower case
+abbrev pub hex_digits : List ℕ → Option (List ℕ)
+hex_digits [] = None
+hex_digits (mark ∷ digits) = if (mark == 35) && ((length digits == 6) && list_all is_ascii_hexdigit digits) then Some (map to_ascii_lowercase digits) else None
+
+unfoldable pub hex_in : Value → Checked (Option (List ℕ))
+hex_in v = do
+  text ← text_in v
+  digits ← or_broken ColorHex (hex_digits text)
+  Ok (Some digits)
+
+-- a colour; without an alpha it has the alpha 1
+unfoldable pub color_in : Value → Checked Color
+color_in v = do
+  es ← members_in v
+  space ← member (word_in ColorSpace spaces) (codes "colorSpace") es
+  cs ← member (components_in space) (codes "components") es
+  alpha ← member_or alpha_in (whole (pos 1)) (codes "alpha") es
+  hex ← member_or hex_in None (codes "hex") es
+  Ok (record { space = space; first = cs.first; second = cs.second; third = cs.third; alpha = alpha; hex = hex })
+
+-- The value under a kind. A kind whose values are made of values of other kinds has none here.
+unfoldable pub simple_in : Kind → Value → Checked Simple
+simple_in kind.Color v = do
+  color ← color_in v
+  Ok (simple.Color color)
+simple_in kind.Dimension v = do
+  size ← size_in v
+  Ok (simple.Dimension size)
+simple_in kind.FontFamily v = do
+  families ← families_in v
+  Ok (simple.FontFamily families)
+simple_in kind.FontWeight v = do
+  weight ← weight_in v
+  Ok (simple.FontWeight weight)
+simple_in kind.Duration v = do
+  time ← time_in v
+  Ok (simple.Duration time)
+simple_in kind.CubicBezier v = do
+  curve ← curve_in v
+  Ok (simple.CubicBezier curve)
+simple_in kind.Number v = do
+  number ← number_in v
+  Ok (simple.Number number)
+simple_in kind.StrokeStyle v = broken ValueShape
+simple_in kind.Border v = broken ValueShape
+simple_in kind.Transition v = broken ValueShape
+simple_in kind.Shadow v = broken ValueShape
+simple_in kind.Gradient v = broken ValueShape
+simple_in kind.Typography v = broken ValueShape

@@ -1,0 +1,82 @@
+//! Cubic Bézier curves.
+
+ghost use Rattle.std.specs.Prelude.{◌≡◌, Ok, IfOk, IfErr};
+ghost use Rattle.std.specs.Fmt.{decimal};
+ghost use Rattle.json_span.specs.PlainView.{plain_view, plain_items_view};
+ghost use Rattle.type_rules.specs.Answer.{IsBreak};
+ghost use Rattle.type_rules.specs.Checked.{under};
+ghost use Rattle.type_rules.specs.Forms.{item, number_in};
+ghost use Rattle.type_rules.specs.Ranges.{ranged, share};
+ghost use Rattle.type_rules.specs.Value.{four_numbers, ranged_curve, curve_in};
+
+use crate::fault::{ValueFault, ValueRule, at_item};
+use crate::forms::{check_number, item, items_of_length};
+use crate::range::{Range, ranged};
+use dec_fix::Dec;
+use json_span::{Plain, PlainItems};
+use std::alloc::Global;
+
+/// A cubic Bézier curve from (0, 0) to (1, 1) by its two control points. `x1` and `x2` are within 0 to 1.
+#[derive(Clone, Copy, Debug, PartialEq, Eq)]
+pub struct Curve {
+    pub x1: Dec,
+    pub y1: Dec,
+    pub x2: Dec,
+    pub y2: Dec,
+}
+
+fn number_at<'s>(alloc: Global, items: &PlainItems<'s>, i: usize) -> Result<Dec, ValueFault<'s>>
+    ensures ok { IfOk result (λ x. item number_in i (plain_items_view items.now) ≡ Ok x) }
+    ensures broken { IfErr result (IsBreak (item number_in i (plain_items_view items.now))) }
+{
+    let plain = item(alloc, items, i)?;
+    at_item(alloc, i, check_number(alloc, plain))
+}
+
+fn four_numbers<'s>(alloc: Global, plain: &Plain<'s>) -> Result<Curve, ValueFault<'s>>
+    ensures ok { IfOk result (λ curve. four_numbers (plain_view plain.now) ≡ Ok curve) }
+    ensures broken { IfErr result (IsBreak (four_numbers (plain_view plain.now))) }
+{
+    let items = items_of_length(alloc, 4, plain)?;
+    let x1 = number_at(alloc, items, 0)?;
+    let y1 = number_at(alloc, items, 1)?;
+    let x2 = number_at(alloc, items, 2)?;
+    let y2 = number_at(alloc, items, 3)?;
+    Ok(Curve { x1, y1, x2, y2 })
+}
+
+// The i-th number, where it lies within 0 to 1.
+fn share_at<'s>(alloc: Global, i: usize, number: Dec) -> Result<Dec, ValueFault<'s>>
+    ensures ok { IfOk result (λ x. under (decimal i) (ranged ValueRule.BezierRange share number) ≡ Ok x) }
+    ensures broken { IfErr result (IsBreak (under (decimal i) (ranged ValueRule.BezierRange share number))) }
+{
+    at_item(
+        alloc,
+        i,
+        ranged(alloc, ValueRule::BezierRange, Range::SHARE, number),
+    )
+}
+
+fn ranged_curve<'s>(alloc: Global, curve: Curve) -> Result<Curve, ValueFault<'s>>
+    ensures ok { IfOk result (λ c. ranged_curve curve ≡ Ok c) }
+    ensures broken { IfErr result (IsBreak (ranged_curve curve)) }
+{
+    let x1 = share_at(alloc, 0, curve.x1)?;
+    let x2 = share_at(alloc, 2, curve.x2)?;
+    Ok(Curve {
+        x1,
+        y1: curve.y1,
+        x2,
+        y2: curve.y2,
+    })
+}
+
+/// The curve that the value is: a list of exactly four numbers, of which, after the forms of all four, the first and the
+/// third lie within 0 to 1.
+pub fn check_curve<'s>(alloc: Global, plain: &Plain<'s>) -> Result<Curve, ValueFault<'s>>
+    ensures ok { IfOk result (λ curve. curve_in (plain_view plain.now) ≡ Ok curve) }
+    ensures broken { IfErr result (IsBreak (curve_in (plain_view plain.now))) }
+{
+    let curve = four_numbers(alloc, plain)?;
+    ranged_curve(alloc, curve)
+}

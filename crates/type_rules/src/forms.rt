@@ -1,0 +1,171 @@
+//! The JSON forms of values, and the members of objects.
+
+ghost use Rattle.std.specs.Prelude.{◌≡◌, Ok, IfOk, IfErr, option_map, slice_get};
+ghost use Rattle.json_span.specs.PlainView.{plain_view, plain_items_view, plain_fields_view};
+ghost use Rattle.type_rules.specs.Answer.{IsBreak};
+ghost use Rattle.type_rules.specs.Checked.{or_broken};
+ghost use Rattle.type_rules.specs.Forms.{spelling_in, string_in, array_in, object_in, number_in, text_in, items_in, members_in, items_of_length, named};
+
+use crate::fault::{ValueFault, ValueRule, broken};
+use dec_fix::{Dec, NotDec};
+use json_span::{Plain, PlainFields, PlainItems};
+use std::alloc::Global;
+use tk_io::Text;
+
+// The spelling of the number, where it is one.
+fn as_number<'s>(plain: &Plain<'s>) -> Option<&'s str>
+    ensures { option_map (λ d. d.now) result ≡ spelling_in (plain_view plain.now) }
+{
+    match plain {
+        Plain::Num(spelling) => Some(spelling),
+        _ => None,
+    }
+}
+
+/// The text, where the value is one.
+pub fn as_text<'a, 's>(plain: &'a Plain<'s>) -> Option<&'a Text<'s>>
+    ensures { option_map (λ t. t.now) result ≡ string_in (plain_view plain.entry.now) }
+{
+    match plain {
+        Plain::Str(text) => Some(text),
+        _ => None,
+    }
+}
+
+fn as_array<'a, 's>(plain: &'a Plain<'s>) -> Option<&'a PlainItems<'s>>
+    ensures { option_map (λ i. plain_items_view i.now) result ≡ array_in (plain_view plain.entry.now) }
+{
+    match plain {
+        Plain::Arr(items) => Some(items),
+        _ => None,
+    }
+}
+
+fn as_object<'a, 's>(plain: &'a Plain<'s>) -> Option<&'a PlainFields<'s>>
+    ensures { option_map (λ m. plain_fields_view m.now) result ≡ object_in (plain_view plain.entry.now) }
+{
+    match plain {
+        Plain::Obj(members) => Some(members),
+        _ => None,
+    }
+}
+
+/// The number that the value is. A number that is not within the bounds of those that are read breaks the rule on wide
+/// numbers, and every other value that on shapes.
+#[tactic(auto, unfolding(crate::specs::Forms::number_in))]
+pub fn check_number<'s>(alloc: Global, plain: &Plain<'s>) -> Result<Dec, ValueFault<'s>>
+    ensures ok { IfOk result (λ number. number_in (plain_view plain.now) ≡ Ok number) }
+    ensures broken { IfErr result (IsBreak (number_in (plain_view plain.now))) }
+{
+    let Some(spelling) = as_number(plain) else {
+        return Err(broken(alloc, ValueRule::ValueShape));
+    };
+    match Dec::read(spelling) {
+        Ok(number) => Ok(number),
+        Err(NotDec) => Err(broken(alloc, ValueRule::NumberWide)),
+    }
+}
+
+/// The text that the value is. Another value breaks the rule on shapes.
+#[tactic(auto, unfolding(crate::specs::Forms::text_in))]
+pub fn text_of<'a, 's>(alloc: Global, plain: &'a Plain<'s>) -> Result<&'a Text<'s>, ValueFault<'s>>
+    ensures ok { IfOk result (λ text. text_in (plain_view plain.entry.now) ≡ Ok text.now) }
+    ensures broken { IfErr result (IsBreak (text_in (plain_view plain.entry.now))) }
+{
+    match as_text(plain) {
+        Some(text) => Ok(text),
+        None => Err(broken(alloc, ValueRule::ValueShape)),
+    }
+}
+
+/// The items of the list that the value is. Another value breaks the rule on shapes.
+#[tactic(auto, unfolding(crate::specs::Forms::items_in))]
+pub fn items_of<'a, 's>(
+    alloc: Global,
+    plain: &'a Plain<'s>,
+) -> Result<&'a PlainItems<'s>, ValueFault<'s>>
+    ensures ok { IfOk result (λ items. items_in (plain_view plain.entry.now) ≡ Ok (plain_items_view items.now)) }
+    ensures broken { IfErr result (IsBreak (items_in (plain_view plain.entry.now))) }
+{
+    match as_array(plain) {
+        Some(items) => Ok(items),
+        None => Err(broken(alloc, ValueRule::ValueShape)),
+    }
+}
+
+/// The members of the object that the value is. Another value breaks the rule on shapes.
+#[tactic(auto, unfolding(crate::specs::Forms::members_in))]
+pub fn members_of<'a, 's>(
+    alloc: Global,
+    plain: &'a Plain<'s>,
+) -> Result<&'a PlainFields<'s>, ValueFault<'s>>
+    ensures ok { IfOk result (λ members. members_in (plain_view plain.entry.now) ≡ Ok (plain_fields_view members.now)) }
+    ensures broken { IfErr result (IsBreak (members_in (plain_view plain.entry.now))) }
+{
+    match as_object(plain) {
+        Some(members) => Ok(members),
+        None => Err(broken(alloc, ValueRule::ValueShape)),
+    }
+}
+
+/// The items of a list of this length. Another value breaks the rule on shapes.
+#[tactic(auto, unfolding(crate::specs::Forms::items_of_length))]
+pub(crate) fn items_of_length<'a, 's>(
+    alloc: Global,
+    len: usize,
+    plain: &'a Plain<'s>,
+) -> Result<&'a PlainItems<'s>, ValueFault<'s>>
+    ensures ok { IfOk result (λ items. items_of_length len (plain_view plain.entry.now) ≡ Ok (plain_items_view items.now)) }
+    ensures broken { IfErr result (IsBreak (items_of_length len (plain_view plain.entry.now))) }
+{
+    let items = items_of(alloc, plain)?;
+    if items.len() != len {
+        return Err(broken(alloc, ValueRule::ValueShape));
+    }
+    Ok(items)
+}
+
+/// The value of the first member of this name, or none.
+pub fn named<'a, 's>(members: &'a PlainFields<'s>, name: &str) -> Option<&'a Plain<'s>>
+    ensures { option_map (λ value. plain_view value.now) result ≡ named name.now (plain_fields_view members.entry.now) }
+{
+    for i in 0..members.len() {
+        let Some(member) = members.at(i) else {
+            continue;
+        };
+        if member.name.as_str() == name {
+            return Some(&member.value);
+        }
+    }
+    None
+}
+
+/// The value of the first member of this name. An object without one breaks the rule on shapes.
+pub fn required<'a, 's>(
+    alloc: Global,
+    members: &'a PlainFields<'s>,
+    name: &str,
+) -> Result<&'a Plain<'s>, ValueFault<'s>>
+    ensures ok { IfOk result (λ value. or_broken ValueRule.ValueShape (named name.now (plain_fields_view members.entry.now)) ≡ Ok (plain_view value.now)) }
+    ensures broken { IfErr result (IsBreak (or_broken ValueRule.ValueShape (named name.now (plain_fields_view members.entry.now)))) }
+{
+    match named(members, name) {
+        Some(value) => Ok(value),
+        None => Err(broken(alloc, ValueRule::ValueShape)),
+    }
+}
+
+/// The i-th item. A list without one breaks the rule on shapes.
+pub(crate) fn item<'a, 's>(
+    alloc: Global,
+    items: &'a PlainItems<'s>,
+    i: usize,
+) -> Result<&'a Plain<'s>, ValueFault<'s>>
+    ensures ok { IfOk result (λ value. or_broken ValueRule.ValueShape (slice_get (plain_items_view items.entry.now) i) ≡ Ok (plain_view value.now)) }
+    ensures broken { IfErr result (IsBreak (or_broken ValueRule.ValueShape (slice_get (plain_items_view items.entry.now) i))) }
+{
+    match items.at(i) {
+        Some(value) => Ok(value),
+        None => Err(broken(alloc, ValueRule::ValueShape)),
+    }
+}

@@ -1,0 +1,29 @@
+//! Laws over the definitions alone, for the layers above.
+
+ghost use Rattle.type_rules.specs.Laws.{KindsStay, ValuesKeep, ColorsKeep, SizesKeep, TimesKeep, CurvesKeep, FamiliesKeep, WeightsKeep, NumbersKeep, SharesAreParts, SpacesNamed, SizeUnitsNamed, TimeUnitsNamed, WeightsNamed};
+
+/// A value has the kind under which it is read, and lies in the ranges of the kind; its numbers are such as are read.
+pub fn value_laws()
+    ensures kinds { KindsStay }
+    ensures keeps { ValuesKeep }
+{}
+
+/// The same of parts of values of other kinds.
+pub fn part_laws()
+    ensures colors { ColorsKeep }
+    ensures sizes { SizesKeep }
+    ensures times { TimesKeep }
+    ensures curves { CurvesKeep }
+    ensures families { FamiliesKeep }
+    ensures weights { WeightsKeep }
+    ensures numbers { NumbersKeep }
+    ensures shares { SharesAreParts }
+{}
+
+/// What the words mean.
+pub fn word_laws()
+    ensures spaces { SpacesNamed }
+    ensures size_units { SizeUnitsNamed }
+    ensures time_units { TimeUnitsNamed }
+    ensures weights { WeightsNamed }
+{}

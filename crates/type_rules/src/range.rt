@@ -1,0 +1,55 @@
+//! The ranges of numbers.
+
+ghost use Rattle.std.specs.Prelude.{◌≡◌, Ok, IfOk, IfErr};
+ghost use Rattle.type_rules.specs.Answer.{IsBreak};
+ghost use Rattle.type_rules.specs.Ranges.{holds, ranged};
+
+use crate::fault::{ValueFault, ValueRule, broken};
+use dec_fix::Dec;
+use std::alloc::Global;
+
+/// A range of numbers, both ends included.
+#[derive(Clone, Copy, Debug)]
+pub(crate) enum Range {
+    Free,
+    AtLeast(u16),
+    Within(u16, u16),
+}
+
+impl Range {
+    /// From 0 to 1.
+    pub(crate) const SHARE: Range = Range::Within(0, 1);
+    /// From 0 to 100.
+    pub(crate) const PERCENT: Range = Range::Within(0, 100);
+    /// An angle in degrees.
+    pub(crate) const HUE: Range = Range::Within(0, 360);
+
+    fn holds(self, number: &Dec) -> bool
+        ensures { result ≡ holds self number.now }
+    {
+        match self {
+            Range::Free => true,
+            Range::AtLeast(low) => number.cmp_whole(low).is_ge(),
+            Range::Within(low, high) => {
+                number.cmp_whole(low).is_ge() && number.cmp_whole(high).is_le()
+            }
+        }
+    }
+}
+
+/// The number, where it lies in the range; else the rule is broken.
+#[tactic(auto, unfolding(crate::specs::Ranges::ranged))]
+pub(crate) fn ranged<'s>(
+    alloc: Global,
+    rule: ValueRule,
+    range: Range,
+    number: Dec,
+) -> Result<Dec, ValueFault<'s>>
+    ensures ok { IfOk result (λ n. ranged rule range number ≡ Ok n) }
+    ensures broken { IfErr result (IsBreak (ranged rule range number)) }
+{
+    if !range.holds(&number) {
+        return Err(broken(alloc, rule));
+    }
+    Ok(number)
+}
