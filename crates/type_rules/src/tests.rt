@@ -11,6 +11,7 @@ use name_path::Kind;
 use std::alloc::Global;
 use std::marker::Brand;
 use std::process::Abort;
+use std::str;
 use std::sync::ledger::{Blank, Ledger};
 use std::test::Fail;
 use tk_io::{Bytes, NoMemory, Steps, Text};
@@ -63,10 +64,17 @@ fn outer<'s>(alloc: Global, json: &Json<'s>) -> Result<Plain<'s>, NoMemory> {
     }
 }
 
-fn plain_by<'s, L: Ledger>(alloc: Global, text: &'s str, page: Blank) -> Result<Plain<'s>, NoMemory>
+fn plain_by<'s, L: Ledger>(
+    alloc: Global,
+    text: &'s [u8],
+    page: Blank,
+) -> Result<Plain<'s>, NoMemory>
     requires page { (page.name ≡ L.name) × (page.parts ≡ L.parts) × (0 < L.parts) }
 {
     let mut parses: Steps<L> = Steps::new(page);
+    let Ok(text) = str::from_utf8(text) else {
+        return Err(NoMemory);
+    };
     match read(alloc, text, &mut parses) {
         Ok(root) => outer(alloc, &root.value),
         Err(_) => Err(NoMemory),
@@ -75,7 +83,7 @@ fn plain_by<'s, L: Ledger>(alloc: Global, text: &'s str, page: Blank) -> Result<
 
 /// The value that a text says, where no list or object in it lies deeper than a list under a name.
 fn plain<'s>(alloc: Global, text: &'s str) -> Result<Plain<'s>, NoMemory> {
-    plain_by::<Brand>(alloc, text, Blank::new(1))
+    plain_by::<Brand>(alloc, text.as_bytes(), Blank::new(1))
 }
 
 fn put_number(out: &mut Bytes, number: &Dec) -> Result<(), NoMemory> {
