@@ -37,7 +37,7 @@ use Rattle.type_rules.specs.Sound.{kind_of, IsInRange, IsShare, IsHex, is_hex_di
 use Rattle.type_rules.proofs.WordFacts.{all_meanings, and_left, and_right}
 
 -- two checks, of which the second sees what the first found
-made : {A B P : Type 0} (p : Checked A) (f : A → Checked B) (b : B) → (p >>= f) ≡ Ok b → ((a : A) → p ≡ Ok a → f a ≡ Ok b → P) → P
+pub made : {A B P : Type 0} (p : Checked A) (f : A → Checked B) (b : B) → (p >>= f) ≡ Ok b → ((a : A) → p ≡ Ok a → f a ≡ Ok b → P) → P
 made (Ok a) f b e k = k a refl e
 made (Err x) f b e k = absurd (let h : ⊥ = cc in h)
 

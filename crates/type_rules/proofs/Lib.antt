@@ -4,3 +4,4 @@ pub mod Places
 pub mod Eaches
 pub mod WordFacts
 pub mod Kept
+pub mod Led

@@ -16,6 +16,7 @@ use Rattle.type_rules.specs.Forms.{number_in}
 use Rattle.type_rules.specs.Ranges.{holds, share}
 use Rattle.type_rules.specs.Words.{meaning, size_units, size_unit_name, time_units, time_unit_name, spaces, space_name, weights}
 use Rattle.type_rules.specs.Value.{color_in, size_in, time_in, curve_in, families_in, weight_in, simple_in}
+use Rattle.type_rules.specs.Trails.{BreaksLead}
 use Rattle.type_rules.specs.Sound.{kind_of, IsColor, IsSize, IsTime, IsCurve, IsFamilies, IsWeight, IsSimple}
 
 -- a value has the kind under which it is read, and keeps what values of the kind keep
@@ -24,6 +25,10 @@ KindsStay = (kind : Kind) (v : Value) (s : Simple) → simple_in kind v ≡ Ok s
 
 abbrev pub ValuesKeep : Type 0
 ValuesKeep = (kind : Kind) (v : Value) (s : Simple) → simple_in kind v ≡ Ok s → IsSimple s
+
+-- what a value breaks, it breaks at a part to which the steps lead
+abbrev pub ValuesBreakInside : Type 0
+ValuesBreakInside = (kind : Kind) → BreaksLead (simple_in kind)
 
 -- the same of parts
 abbrev pub ColorsKeep : Type 0
@@ -46,6 +51,9 @@ WeightsKeep = (v : Value) (d : Decimal) → weight_in v ≡ Ok d → IsWeight d
 
 abbrev pub NumbersKeep : Type 0
 NumbersKeep = (v : Value) (d : Decimal) → number_in v ≡ Ok d → IsExact d
+
+abbrev pub PartsBreakInside : Type 0
+PartsBreakInside = BreaksLead color_in × BreaksLead size_in × BreaksLead time_in × BreaksLead curve_in × BreaksLead families_in × BreaksLead weight_in × BreaksLead number_in
 
 -- what lies in the range from 0 to 1 is a part of 1
 abbrev pub SharesAreParts : Type 0

@@ -6,4 +6,5 @@ pub mod Words
 pub mod Ranges
 pub mod Value
 pub mod Sound
+pub mod Trails
 pub mod Laws

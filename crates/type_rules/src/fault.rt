@@ -144,12 +144,9 @@ fn index_text<'s>(alloc: Global, i: usize) -> Result<Text<'s>, NoMemory>
 fn outside_item<'s>(alloc: Global, i: usize, fault: ValueFault<'s>) -> ValueFault<'s>
     ensures { IsOutside (decimal i) fault.entry result }
 {
-    match fault {
-        ValueFault::Broken { rule, trail } => match index_text(alloc, i) {
-            Ok(step) => outside(alloc, step, ValueFault::Broken { rule, trail }),
-            Err(NoMemory) => ValueFault::NoMemory,
-        },
-        ValueFault::NoMemory => ValueFault::NoMemory,
+    match index_text(alloc, i) {
+        Ok(step) => outside(alloc, step, fault),
+        Err(NoMemory) => ValueFault::NoMemory,
     }
 }
 

@@ -1,11 +1,13 @@
 //! Laws over the definitions alone, for the layers above.
 
-ghost use Rattle.type_rules.specs.Laws.{KindsStay, ValuesKeep, ColorsKeep, SizesKeep, TimesKeep, CurvesKeep, FamiliesKeep, WeightsKeep, NumbersKeep, SharesAreParts, SpacesNamed, SizeUnitsNamed, TimeUnitsNamed, WeightsNamed};
+ghost use Rattle.type_rules.specs.Laws.{KindsStay, ValuesKeep, ValuesBreakInside, PartsBreakInside, ColorsKeep, SizesKeep, TimesKeep, CurvesKeep, FamiliesKeep, WeightsKeep, NumbersKeep, SharesAreParts, SpacesNamed, SizeUnitsNamed, TimeUnitsNamed, WeightsNamed};
 
 /// A value has the kind under which it is read, and lies in the ranges of the kind; its numbers are such as are read.
+/// Where a rule is broken, the steps lead from the value to a part of it.
 pub fn value_laws()
     ensures kinds { KindsStay }
     ensures keeps { ValuesKeep }
+    ensures breaks { ValuesBreakInside }
 {}
 
 /// The same of parts of values of other kinds.
@@ -18,6 +20,7 @@ pub fn part_laws()
     ensures weights { WeightsKeep }
     ensures numbers { NumbersKeep }
     ensures shares { SharesAreParts }
+    ensures breaks { PartsBreakInside }
 {}
 
 /// What the words mean.

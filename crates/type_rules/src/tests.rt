@@ -215,68 +215,53 @@ fn members<'s>(alloc: Global, rows: &[(&'s str, &'s str)]) -> Result<PlainFields
     Ok(members)
 }
 
+/// A part of each kind, of which the number stands twice.
+const PARTS: [(&str, &str); 8] = [
+    ("n", "2"),
+    ("n", "null"),
+    ("s", "{\"value\":2,\"unit\":\"rem\"}"),
+    ("t", "{\"value\":2,\"unit\":\"s\"}"),
+    ("b", "[0,2,1,2]"),
+    ("f", "\"Inter\""),
+    ("w", "\"bold\""),
+    (
+        "c",
+        "{\"colorSpace\":\"hsl\",\"components\":[0,\"none\",2]}",
+    ),
+];
+
 #[test]
 fn parts_under_names(rt: HostRuntime) -> Result<(), Fail> {
     let alloc = rt.alloc();
-    let members = members(
-        alloc,
-        &[
-            ("n", "2"),
-            ("n", "null"),
-            ("s", "{\"value\":2,\"unit\":\"rem\"}"),
-            ("t", "{\"value\":2,\"unit\":\"s\"}"),
-            ("b", "[0,2,1,2]"),
-            ("f", "\"Inter\""),
-            ("w", "\"bold\""),
-            (
-                "c",
-                "{\"colorSpace\":\"hsl\",\"components\":[0,\"none\",2]}",
-            ),
-        ],
-    )?;
-    let number = number_under(alloc, &members, "n")
-        .ok()
-        .expect(&rt, "the first n is a number");
-    assert_eq!(rt; Dec::read("2"), Ok(number));
-    let size = size_under(alloc, &members, "s")
-        .ok()
-        .expect(&rt, "s is a length");
+    let members = members(alloc, &PARTS)?;
+    let two = Dec::whole(2);
+    assert_eq!(rt; number_under(alloc, &members, "n").ok(), Some(two));
+    let size = Size {
+        value: two,
+        unit: SizeUnit::Rem,
+    };
+    assert_eq!(rt; size_under(alloc, &members, "s").ok(), Some(size));
+    let time = Time {
+        value: two,
+        unit: TimeUnit::S,
+    };
+    assert_eq!(rt; time_under(alloc, &members, "t").ok(), Some(time));
     assert_eq!(rt;
-        size,
-        Size {
-            value: number,
-            unit: SizeUnit::Rem
-        }
+        weight_under(alloc, &members, "w").ok(),
+        Some(Dec::whole(700))
     );
-    let time = time_under(alloc, &members, "t")
+    let ends = curve_under(alloc, &members, "b")
         .ok()
-        .expect(&rt, "t is a duration");
-    assert_eq!(rt;
-        time,
-        Time {
-            value: number,
-            unit: TimeUnit::S
-        }
-    );
-    let curve = curve_under(alloc, &members, "b")
-        .ok()
-        .expect(&rt, "b is a curve");
-    assert_eq!(rt; (curve.y1, curve.y2), (number, number));
+        .map(|curve| (curve.y1, curve.y2));
+    assert_eq!(rt; ends, Some((two, two)));
     let families = families_under(alloc, &members, "f")
         .ok()
-        .expect(&rt, "f is a family");
-    assert_eq!(rt; families.len(), 1);
-    let weight = weight_under(alloc, &members, "w")
-        .ok()
-        .expect(&rt, "w is a weight");
-    assert_eq!(rt; weight, Dec::whole(700));
+        .map(|families| families.len());
+    assert_eq!(rt; families, Some(1));
     let color = color_under(alloc, &members, "c")
         .ok()
-        .expect(&rt, "c is a colour");
-    assert_eq!(rt;
-        (color.space, color.second, color.third),
-        (Space::Hsl, None, Some(number))
-    );
+        .map(|color| (color.space, color.third));
+    assert_eq!(rt; color, Some((Space::Hsl, Some(two))));
     Ok(())
 }
 

@@ -1,4 +1,5 @@
 use Rattle.type_rules.proofs.Kept.{colors_keep, sizes_keep, times_keep, curves_keep, families_keep, weights_keep, numbers_keep, shares_are_parts}
+use Rattle.type_rules.proofs.Led.{colors_lead, sizes_lead, times_lead, curves_lead, families_lead, weights_lead, numbers_lead}
 use Rattle.type_rules.proofs.laws.part_laws.Goals as goal
 
 pub returns : goal.returns
@@ -11,4 +12,5 @@ returns c = record {
   weights = λ v x e. weights_keep v x e;
   numbers = λ v x e. numbers_keep v x e;
   shares = λ d t. shares_are_parts d t;
+  breaks = (colors_lead, sizes_lead, times_lead, curves_lead, families_lead, weights_lead, numbers_lead);
 }
