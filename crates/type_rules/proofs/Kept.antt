@@ -32,7 +32,7 @@ use Rattle.type_rules.specs.Checked.{Checked, broken, or_broken, under, ◌>>=�
 use Rattle.type_rules.specs.Forms.{string_in, spelling_in, number_in, text_in, items_in, members_in, if_text, items_of_length, named, member, member_if, member_or, item, each}
 use Rattle.type_rules.specs.Ranges.{holds, ranged, share, ranges_of}
 use Rattle.type_rules.specs.Words.{meaning, word_in, size_units, time_units, weights, spaces}
-use Rattle.type_rules.specs.Value.{size_in, time_in, four_numbers, ranged_curve, curve_in, some_texts, listed_families, families_in, weight_of_word, weight_of_number, weight_in, component_of_word, component_of_number, component_in, three_components, ranged_component, ranged_components, components_in, alpha_in, hex_digits, hex_in, color_in, simple_in}
+use Rattle.type_rules.specs.Value.{size_in, time_in, four_numbers, ranged_curve, curve_in, some_texts, listed_families, families_in, weight_of_word, weight_of_number, weight_in, component_of_word, component_of_number, component_in, three_components, ranged_component, ranged_components, components_in, alpha_in, hex_digits, hex_in, color_in, simple_value}
 use Rattle.type_rules.specs.Sound.{kind_of, IsInRange, IsShare, IsHex, is_hex_digit, IsColor, IsSize, IsTime, IsFamilies, IsWeight, IsCurve, IsSimple}
 use Rattle.type_rules.proofs.WordFacts.{all_meanings, and_left, and_right}
 
@@ -347,8 +347,8 @@ colors_keep v c e =
 
 -- values
 
-pub values_keep : (k : Kind) (v : Value) (s : Simple) → simple_in k v ≡ Ok s → (kind_of s ≡ k) × IsSimple s
-unfolding simple_in
+pub values_keep : (k : Kind) (v : Value) (s : Simple) → simple_value k v ≡ Ok s → (kind_of s ≡ k) × IsSimple s
+unfolding simple_value
 values_keep kind.Color v s e = made (color_in v) _ s e (λ x h e2. found (λ z. (kind_of z ≡ kind.Color) × IsSimple z) (simple.Color x) s e2 (refl, colors_keep v x h))
 values_keep kind.Dimension v s e = made (size_in v) _ s e (λ x h e2. found (λ z. (kind_of z ≡ kind.Dimension) × IsSimple z) (simple.Dimension x) s e2 (refl, sizes_keep v x h))
 values_keep kind.FontFamily v s e = made (families_in v) _ s e (λ x h e2. found (λ z. (kind_of z ≡ kind.FontFamily) × IsSimple z) (simple.FontFamily x) s e2 (refl, families_keep v x h))

@@ -21,7 +21,7 @@ use Rattle.type_rules.specs.Checked.{Checked, Break, broken, or_broken, outside,
 use Rattle.type_rules.specs.Forms.{spelling_in, string_in, array_in, object_in, number_in, text_in, items_in, members_in, if_text, items_of_length, named, member, member_if, member_or, item, each}
 use Rattle.type_rules.specs.Ranges.{holds, ranged, share, ranges_of}
 use Rattle.type_rules.specs.Words.{meaning, word_in, size_units, time_units, weights, spaces}
-use Rattle.type_rules.specs.Value.{size_in, time_in, four_numbers, ranged_curve, curve_in, some_texts, listed_families, families_in, weight_of_word, weight_of_number, weight_in, component_of_word, component_of_number, component_in, three_components, ranged_component, ranged_components, components_in, alpha_in, hex_digits, hex_in, color_in, simple_in}
+use Rattle.type_rules.specs.Value.{size_in, time_in, four_numbers, ranged_curve, curve_in, some_texts, listed_families, families_in, weight_of_word, weight_of_number, weight_in, component_of_word, component_of_number, component_in, three_components, ranged_component, ranged_components, components_in, alpha_in, hex_digits, hex_in, color_in, simple_value}
 use Rattle.type_rules.proofs.Kept.{made}
 use Rattle.type_rules.specs.Trails.{leads_nowhere, leads_by_name, leads_by_index, LeadsInto, BreaksLead}
 
@@ -321,8 +321,8 @@ colors_lead v b e =
 
 -- values
 
-pub values_lead : (k : Kind) → BreaksLead (simple_in k)
-unfolding simple_in
+pub values_lead : (k : Kind) → BreaksLead (simple_value k)
+unfolding simple_value
 values_lead kind.Color v b e = either (color_in v) _ b e (colors_lead v b) (λ x h e2. sound _ b e2)
 values_lead kind.Dimension v b e = either (size_in v) _ b e (sizes_lead v b) (λ x h e2. sound _ b e2)
 values_lead kind.FontFamily v b e = either (families_in v) _ b e (families_lead v b) (λ x h e2. sound _ b e2)

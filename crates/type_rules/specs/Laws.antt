@@ -15,20 +15,20 @@ use Rattle.type_rules.specs.declared.simple.Simple.{Simple}
 use Rattle.type_rules.specs.Forms.{number_in}
 use Rattle.type_rules.specs.Ranges.{holds, share}
 use Rattle.type_rules.specs.Words.{meaning, size_units, size_unit_name, time_units, time_unit_name, spaces, space_name, weights}
-use Rattle.type_rules.specs.Value.{color_in, size_in, time_in, curve_in, families_in, weight_in, simple_in}
+use Rattle.type_rules.specs.Value.{color_in, size_in, time_in, curve_in, families_in, weight_in, simple_value}
 use Rattle.type_rules.specs.Trails.{BreaksLead}
 use Rattle.type_rules.specs.Sound.{kind_of, IsColor, IsSize, IsTime, IsCurve, IsFamilies, IsWeight, IsSimple}
 
 -- a value has the kind under which it is read, and keeps what values of the kind keep
 abbrev pub KindsStay : Type 0
-KindsStay = (kind : Kind) (v : Value) (s : Simple) → simple_in kind v ≡ Ok s → kind_of s ≡ kind
+KindsStay = (kind : Kind) (v : Value) (s : Simple) → simple_value kind v ≡ Ok s → kind_of s ≡ kind
 
 abbrev pub ValuesKeep : Type 0
-ValuesKeep = (kind : Kind) (v : Value) (s : Simple) → simple_in kind v ≡ Ok s → IsSimple s
+ValuesKeep = (kind : Kind) (v : Value) (s : Simple) → simple_value kind v ≡ Ok s → IsSimple s
 
 -- what a value breaks, it breaks at a part to which the steps lead
 abbrev pub ValuesBreakInside : Type 0
-ValuesBreakInside = (kind : Kind) → BreaksLead (simple_in kind)
+ValuesBreakInside = (kind : Kind) → BreaksLead (simple_value kind)
 
 -- the same of parts
 abbrev pub ColorsKeep : Type 0

@@ -157,31 +157,31 @@ color_in v = do
   Ok (record { space = space; first = cs.first; second = cs.second; third = cs.third; alpha = alpha; hex = hex })
 
 -- The value under a kind. A kind whose values are made of values of other kinds has none here.
-unfoldable pub simple_in : Kind → Value → Checked Simple
-simple_in kind.Color v = do
+unfoldable pub simple_value : Kind → Value → Checked Simple
+simple_value kind.Color v = do
   color ← color_in v
   Ok (simple.Color color)
-simple_in kind.Dimension v = do
+simple_value kind.Dimension v = do
   size ← size_in v
   Ok (simple.Dimension size)
-simple_in kind.FontFamily v = do
+simple_value kind.FontFamily v = do
   families ← families_in v
   Ok (simple.FontFamily families)
-simple_in kind.FontWeight v = do
+simple_value kind.FontWeight v = do
   weight ← weight_in v
   Ok (simple.FontWeight weight)
-simple_in kind.Duration v = do
+simple_value kind.Duration v = do
   time ← time_in v
   Ok (simple.Duration time)
-simple_in kind.CubicBezier v = do
+simple_value kind.CubicBezier v = do
   curve ← curve_in v
   Ok (simple.CubicBezier curve)
-simple_in kind.Number v = do
+simple_value kind.Number v = do
   number ← number_in v
   Ok (simple.Number number)
-simple_in kind.StrokeStyle v = broken ValueShape
-simple_in kind.Border v = broken ValueShape
-simple_in kind.Transition v = broken ValueShape
-simple_in kind.Shadow v = broken ValueShape
-simple_in kind.Gradient v = broken ValueShape
-simple_in kind.Typography v = broken ValueShape
+simple_value kind.StrokeStyle v = broken ValueShape
+simple_value kind.Border v = broken ValueShape
+simple_value kind.Transition v = broken ValueShape
+simple_value kind.Shadow v = broken ValueShape
+simple_value kind.Gradient v = broken ValueShape
+simple_value kind.Typography v = broken ValueShape

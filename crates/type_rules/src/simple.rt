@@ -5,7 +5,7 @@ ghost use Rattle.json_span.specs.PlainView.{plain_view};
 ghost use Rattle.name_path.specs.Kinds.{is_simple_kind};
 ghost use Rattle.type_rules.specs.Answer.{IsBreak};
 ghost use Rattle.type_rules.specs.Sound.{kind_of};
-ghost use Rattle.type_rules.specs.Value.{simple_in};
+ghost use Rattle.type_rules.specs.Value.{simple_value};
 
 use crate::color::{Color, check_color};
 use crate::curve::{Curve, check_curve};
@@ -61,8 +61,8 @@ pub fn check_simple<'s>(
     plain: &Plain<'s>,
 ) -> Result<Simple<'s>, ValueFault<'s>>
     requires { is_simple_kind kind ≡ true }
-    ensures ok { IfOk result (λ simple. simple_in kind (plain_view plain.now) ≡ Ok simple) }
-    ensures broken { IfErr result (IsBreak (simple_in kind (plain_view plain.now))) }
+    ensures ok { IfOk result (λ simple. simple_value kind (plain_view plain.now) ≡ Ok simple) }
+    ensures broken { IfErr result (IsBreak (simple_value kind (plain_view plain.now))) }
 {
     match kind {
         Kind::Color => Ok(Simple::Color(check_color(alloc, plain)?)),
