@@ -1,0 +1,21 @@
+pub mod OneAnswer
+mod Counting
+mod Expands
+mod Finding
+mod Finds
+mod Flats
+mod Naming
+mod Numbers
+mod Options
+mod Overs
+mod Placing
+mod Puts
+mod Ready
+mod Reports
+mod Tables
+mod TokenViews
+mod Tokens
+mod Trees
+mod Turns
+mod Verdict
+mod Weights

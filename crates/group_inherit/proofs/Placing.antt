@@ -1,0 +1,151 @@
+-- Numbers by paths, and rows of numbers.
+use Rattle.std.proofs.Common.{◌≡◌, ℕ, zero, suc, ◌+◌, ◌<◌, ◌≤◌, Bool, true, false, cond, List, [], ◌∷◌, ◌++◌, Option, Some, None, option_and_then, option_map, is_some, inl, inr, refl, sym, ap, ◌∙◌, subst, map, length, get_or, arith, append-nil, append_assoc, Vec, option_to_list, slice_get, Ordering, Less, Equal, Greater, is_eq}
+use Rattle.std.proofs.lemmas.Bool.{cases_Bool, cases_eq, false≢true}
+use Rattle.std.proofs.lemmas.List.{map-append, map_push}
+use Rattle.std.proofs.lemmas.Option.{none-some, same_Some}
+use Rattle.std.specs.BTreeMap.{is_at}
+use Rattle.std.specs.Cmp.{tied_itself}
+use Rattle.std.specs.Cmp.Lexicographic.{lists_total, nat_list_cmp_total}
+use Rattle.std.specs.FinMap as map_of
+use Rattle.std.specs.FinMap.{slice_cmp-IsAntisymmetric, nat_cmp-IsAntisymmetric}
+use Rattle.std.specs.declared.alloc.Global.{Global}
+use Rattle.tk_io.specs.Order.{names_cmp}
+use Rattle.token_tree.specs.Tree.{Definition, Extension, Child, a_token, a_group, Group, Children, child, children_of}
+use Rattle.group_inherit.specs.declared.fault.TreeFault.{TreeFault}
+use Rattle.group_inherit.specs.declared.fault.TreeFault.TheVariants.{ExtendsTarget, ExtendsCycle, TooManyTokens, TooHigh, NoMemory}
+use Rattle.group_inherit.specs.Answer.{IsLostTarget}
+use Rattle.group_inherit.specs.Extension.{GroupPath, Lost, extension_of, target_path, names_of_groups, group_names, needs_of, lost_unless}
+use Rattle.group_inherit.specs.Numbering.{GroupAt, path_in, Places, ArePlaces, AreKnown, EachKnown, IsRow, EachRow, lost_by, lost_of, lost_nodes}
+use Rattle.group_inherit.proofs.Numbers.{Entries}
+
+tied : (r : Ordering) → is_eq r ≡ true → r ≡ Equal
+tied Less e = cc
+tied Equal e = refl
+tied Greater e = cc
+
+same_path_at : (p q : GroupPath) → is_at (names_cmp p) q ≡ true → p ≡ q
+same_path_at p q e = slice_cmp-IsAntisymmetric (slice_cmp-IsAntisymmetric nat_cmp-IsAntisymmetric) p q (tied (names_cmp p q) e)
+
+path_itself : (p : GroupPath) → is_at (names_cmp p) p ≡ true
+path_itself p = ap is_eq (tied_itself (lists_total nat_list_cmp_total) p)
+
+pub no_places : (nodes : List GroupAt) (m : Places) → m ≡ map_of.empty → ArePlaces nodes 0 m
+no_places nodes m e = record {
+  found = λ path v f. absurd (none-some v (sym (ap (λ (x : Places). map_of.get x path) e ∙ map_of.get-empty names_cmp path) ∙ f));
+  missing = λ path v f h k. absurd (omega (arith, h));
+}
+
+module _ (nodes : List GroupAt) (n : ℕ) (old new : Places) (p : GroupPath) (is : path_in nodes n ≡ p)
+    (at : (q : GroupPath) → map_of.get new q ≡ cond (is_at (names_cmp p) q) (Some n) (map_of.get old q)) where
+  at_it : (q : GroupPath) → is_at (names_cmp p) q ≡ true → map_of.get new q ≡ Some n
+  at_it q t = at q ∙ ap (λ b. cond b (Some n) (map_of.get old q)) t
+
+  at_other : (q : GroupPath) → is_at (names_cmp p) q ≡ false → map_of.get new q ≡ map_of.get old q
+  at_other q t = at q ∙ ap (λ b. cond b (Some n) (map_of.get old q)) t
+
+  pub one_place_more : ArePlaces nodes n old → ArePlaces nodes (n + 1) new
+  one_place_more o = record {
+    found = λ q v e. elim (cases_Bool (is_at (names_cmp p) q)) [
+      | inl t ↦
+          (let s : n ≡ v = same_Some n v (sym (at_it q t) ∙ e) in
+          (omega (arith, s), ap (path_in nodes) (sym s) ∙ (is ∙ same_path_at p q t)))
+      | inr t ↦
+          (let f = o.found q v (sym (at_other q t) ∙ e) in
+          (omega (arith, f.0), f.1))
+    ];
+    missing = λ q v e h k. elim (cases_Bool (is_at (names_cmp p) q)) [
+      | inl t ↦ none-some n (sym e ∙ at_it q t)
+      | inr t ↦ elim (cases_eq v n) [
+        | inl s ↦ false≢true (sym t ∙ (ap (λ (x : GroupPath). is_at (names_cmp p) x) (sym k ∙ (ap (path_in nodes) s ∙ is)) ∙ path_itself p))
+        | inr s ↦ o.missing q v (sym (at_other q t) ∙ e) (omega (arith, h, s)) k
+      ]
+    ];
+  }
+
+-- The child groups of a group, one after the other.
+
+pub record Kids (places : Places) (path : GroupPath) (all : List (Option ℕ)) (row : List ℕ) (left : Entries) : Type 0 where
+  pub numbers : map (λ (v : ℕ). Some v) row ++ map (λ (n : List ℕ). map_of.get places (path ++ n ∷ [])) (names_of_groups (children_of left)) ≡ all
+  pub known : AreKnown places path (children_of left)
+
+module _ (places : Places) (path : GroupPath) (all : List (Option ℕ)) where
+  pub kid_token : (row : List ℕ) (name : List ℕ) (c : Child) (left : Entries) (d : Definition) → c ≡ a_token d → Kids places path all row ((name, c) ∷ left) → Kids places path all row left
+  kid_token row name c left d is k =
+      let q : Kids places path all row ((name, a_token d) ∷ left) = subst (λ (x : Child). Kids places path all row ((name, x) ∷ left)) is k in
+      record { numbers = q.numbers; known = q.known.1 }
+
+  pub kid_known : (row : List ℕ) (name : List ℕ) (c : Child) (left : Entries) (g : Group) → c ≡ a_group g → Kids places path all row ((name, c) ∷ left) → (v : ℕ) × (map_of.get places (path ++ name ∷ []) ≡ Some v)
+  kid_known row name c left g is k =
+      let q : Kids places path all row ((name, a_group g) ∷ left) = subst (λ (x : Child). Kids places path all row ((name, x) ∷ left)) is k in
+      q.known.0
+
+  pub kid_group : (row more : List ℕ) (name : List ℕ) (c : Child) (left : Entries) (g : Group) (v : ℕ) → c ≡ a_group g → Some v ≡ map_of.get places (path ++ name ∷ []) → more ≡ row ++ v ∷ [] →
+      Kids places path all row ((name, c) ∷ left) → Kids places path all more left
+  kid_group row more name c left g v is found made k =
+      let q : Kids places path all row ((name, a_group g) ∷ left) = subst (λ (x : Child). Kids places path all row ((name, x) ∷ left)) is k in
+      let rest = map (λ (n : List ℕ). map_of.get places (path ++ n ∷ [])) (names_of_groups (children_of left)) in
+      let some = map (λ (x : ℕ). Some x) row in
+      record {
+        numbers =
+            ap (λ (xs : List ℕ). map (λ (x : ℕ). Some x) xs ++ rest) made
+            ∙ (ap (λ (xs : List (Option ℕ)). xs ++ rest) (map_push (λ (x : ℕ). Some x) row v)
+            ∙ (append_assoc some (Some v ∷ []) rest ∙ (ap (λ (o : Option ℕ). some ++ o ∷ rest) found ∙ q.numbers)));
+        known = q.known.1;
+      }
+
+-- The target behind the child groups.
+
+module _ (places : Places) (n : GroupAt) (row : List ℕ)
+    (children : map (λ (v : ℕ). Some v) row ≡ map (λ (name : List ℕ). map_of.get places (n.0 ++ name ∷ [])) (group_names n.1)) where
+  children_row : (names : List (List ℕ)) → map (λ (name : List ℕ). map_of.get places (n.0 ++ name ∷ [])) names ≡ map (map_of.get places) (map (λ (name : List ℕ). n.0 ++ name ∷ []) names)
+  children_row [] = refl
+  children_row (x ∷ xs) = ap (λ (os : List (Option ℕ)). map_of.get places (n.0 ++ x ∷ []) ∷ os) (children_row xs)
+
+  pub row_without : extension_of n.1 ≡ None → IsRow places n row × (lost_of places n ≡ [])
+  row_without e =
+      let kids = map (λ (name : List ℕ). n.0 ++ name ∷ []) (group_names n.1) in (
+        children ∙ (children_row (group_names n.1)
+            ∙ (ap (map (map_of.get places)) (sym (append-nil kids))
+            ∙ ap (λ (o : Option Extension). map (map_of.get places) (kids ++ option_to_list (option_map (λ x. x.target) o))) (sym e))),
+        ap (lost_by places n.0) e,
+      )
+
+  pub row_with : (x : Extension) (v : ℕ) (more : List ℕ) → extension_of n.1 ≡ Some x → map_of.get places x.target ≡ Some v → more ≡ row ++ v ∷ [] → IsRow places n more × (lost_of places n ≡ [])
+  row_with x v more e f made =
+      let kids = map (λ (name : List ℕ). n.0 ++ name ∷ []) (group_names n.1) in (
+        ap (map (λ (y : ℕ). Some y)) made
+            ∙ (map_push (λ (y : ℕ). Some y) row v
+            ∙ (ap (λ (os : List (Option ℕ)). os ++ Some v ∷ []) (children ∙ children_row (group_names n.1))
+            ∙ (ap (λ (o : Option ℕ). map (map_of.get places) kids ++ o ∷ []) (sym f)
+            ∙ (sym (map-append (map_of.get places) kids (x.target ∷ []))
+            ∙ ap (λ (o : Option Extension). map (map_of.get places) (kids ++ option_to_list (option_map (λ y. y.target) o))) (sym e))))),
+        ap (lost_by places n.0) e ∙ ap (λ (o : Option ℕ). lost_unless (is_some o) n.0 x) f,
+      )
+
+pub row_lost : (places : Places) (n : GroupAt) (x : Extension) → extension_of n.1 ≡ Some x → map_of.get places x.target ≡ None → lost_of places n ≡ (record { path = n.0; extension = x }) ∷ []
+row_lost places n x e f = ap (lost_by places n.0) e ∙ ap (λ (o : Option ℕ). lost_unless (is_some o) n.0 x) f
+
+-- Rows, one after the other.
+
+pub record Rowing (places : Places) (nodes : List GroupAt) (rows : List (Vec ℕ Global)) (left : List GroupAt) : Type 0 where
+  pub rows_are : (rest : List (Vec ℕ Global)) → EachRow places left rest → EachRow places nodes (rows ++ rest)
+  pub sound : lost_nodes places left ≡ lost_nodes places nodes
+  pub known : EachKnown places left
+
+pub one_row_more : (places : Places) (nodes : List GroupAt) (rows more : List (Vec ℕ Global)) (n : GroupAt) (left : List GroupAt) (row : Vec ℕ Global) → Rowing places nodes rows (n ∷ left) → IsRow places n row.items → lost_of places n ≡ [] → more ≡ rows ++ row ∷ [] → Rowing places nodes more left
+one_row_more places nodes rows more n left row r is none made = record {
+  rows_are = λ rest e. subst (λ (xs : List (Vec ℕ Global)). EachRow places nodes xs) (sym (ap (λ (xs : List (Vec ℕ Global)). xs ++ rest) made ∙ append_assoc rows (row ∷ []) rest)) (r.rows_are (row ∷ rest) (is, e));
+  sound = ap (λ (xs : List Lost). xs ++ lost_nodes places left) (sym none) ∙ r.sound;
+  known = r.known.1;
+}
+
+first_joined : (xs ys : List Lost) (l : Lost) → slice_get xs 0 ≡ Some l → slice_get (xs ++ ys) 0 ≡ Some l
+first_joined [] ys l e = absurd (none-some l e)
+first_joined (x ∷ xs) ys l e = e
+
+pub lost_first : (xs ys : List Lost) (f : TreeFault) → IsLostTarget xs f → IsLostTarget (xs ++ ys) f
+lost_first xs ys (ExtendsTarget path span) h = (h.0, first_joined xs ys _ h.1, h.2)
+lost_first xs ys (ExtendsCycle ring span) h = absurd h
+lost_first xs ys (TooManyTokens shown) h = absurd h
+lost_first xs ys (TooHigh height) h = absurd h
+lost_first xs ys NoMemory h = tt

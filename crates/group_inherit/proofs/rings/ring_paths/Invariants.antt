@@ -1,0 +1,8 @@
+use Rattle.std.proofs.Common.{◌≡◌, map, take}
+use Rattle.group_inherit.specs.NodeShown.{nodes_view}
+use Rattle.group_inherit.specs.Numbering.{path_in}
+use Rattle.group_inherit.proofs.rings.ring_paths.Given as goal
+
+-- the paths so far
+abbrev pub invariant-loop-v : goal.invariant-loop-v
+invariant-loop-v l = l.paths ≡ map (path_in (nodes_view l.nodes)) (take l.v-index l.ring)

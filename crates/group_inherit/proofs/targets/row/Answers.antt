@@ -1,0 +1,25 @@
+use Rattle.std.proofs.Common.{◌≡◌, ℕ, List, ap, sym, ◌∙◌, option_map, None, Some, refl, slice_get}
+use Rattle.std.specs.FinMap as map_of
+use Rattle.std.specs.Option.{option_copied}
+use Rattle.token_tree.specs.Shown.{extends_view}
+use Rattle.group_inherit.specs.Extension.{Lost}
+use Rattle.group_inherit.specs.NodeShown.{node_view}
+use Rattle.group_inherit.proofs.Placing.{row_without, row_with, row_lost}
+use Rattle.group_inherit.proofs.targets.row.Goals as goal
+
+pub returns-in_default-clause-ok : goal.returns-in_default-clause-ok
+returns-in_default-clause-ok c = (row_without c.args.places.now (node_view c.args.node.now) c.in_ok-row.row.items c.in_ok-row.ensures (ap (option_map extends_view) c.in_default.is)).0
+
+pub returns-in_default-get-clause-lost : goal.returns-in_default-get-clause-lost
+returns-in_default-get-clause-lost c =
+    let x = extends_view c.in-Some.extends in
+    let none : map_of.get c.args.places.now x.target ≡ None = sym c.get.ensures ∙ ap option_copied c.in_default-get.is in
+    let lost = row_lost c.args.places.now (node_view c.args.node.now) x (ap (option_map extends_view) c.in-Some.is) none in
+    let here : List (List ℕ) → Lost = λ p. record { path = p; extension = x } in
+    (x, ap (λ ls. slice_get ls 0) lost ∙ ap (λ p. Some (here p)) (sym c.in_ok-copy.ensures), c.span_of.ensures)
+
+pub returns-clause-ok : goal.returns-clause-ok
+returns-clause-ok c =
+    let x = extends_view c.in-Some.extends in
+    (row_with c.args.places.now (node_view c.args.node.now) c.in_ok-row.row.items c.in_ok-row.ensures x c.in-Some-get.target.now c.push.new.self.items (ap (option_map extends_view) c.in-Some.is)
+    (sym c.get.ensures ∙ ap option_copied c.in-Some-get.is) c.in_ok-push.ensures.items).0

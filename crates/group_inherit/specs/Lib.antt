@@ -1,0 +1,16 @@
+pub mod Answer
+pub mod Around
+pub mod Checking
+pub mod Codes
+pub mod Expansion
+pub mod Extension
+pub mod Flattening
+pub mod Laws
+pub mod Merging
+pub mod NodeShown
+pub mod Numbering
+pub mod Putting
+pub mod Shown
+pub mod Sizes
+pub mod Span
+pub mod Tables

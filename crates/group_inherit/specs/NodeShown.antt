@@ -1,0 +1,16 @@
+-- What numbered groups are seen as.
+use Rattle.std.specs.Prelude.{List, map}
+use Rattle.token_tree.specs.Shown.{group_view}
+use Rattle.token_tree.specs.Tree.{Group}
+use Rattle.group_inherit.specs.declared.numbered.Node.{Node}
+use Rattle.group_inherit.specs.Numbering.{GroupAt}
+
+abbrev pub node_view : Node → GroupAt
+node_view n = (n.path, group_view n.group.now)
+
+abbrev pub nodes_view : List Node → List GroupAt
+nodes_view nodes = map node_view nodes
+
+-- the groups alone
+abbrev pub groups_view : List Node → List Group
+groups_view nodes = map (λ n. group_view n.group.now) nodes

@@ -1,0 +1,107 @@
+-- The groups of a tree, numbered in path order from 0, which is the root.
+use Rattle.std.specs.Prelude.{◌≡◌, ◌<◌, ℕ, List, [], ◌∷◌, ◌++◌, length, map, Option, Some, None, is_some, slice_index_or}
+use Rattle.std.specs.FinMap as map_of
+use Rattle.std.specs.declared.alloc.Global.{Global}
+use Rattle.std.specs.declared.vec.Vec.{Vec}
+use Rattle.ring.specs.Graph.{needs_in}
+use Rattle.tk_io.specs.Order.{names_cmp}
+use Rattle.token_tree.specs.Tree.{Extension, Child, a_token, a_group, Group, group, Children, no_children, child}
+use Rattle.group_inherit.specs.Merging.{either, empty_group}
+use Rattle.group_inherit.specs.Extension.{GroupPath, groups_from, children_in, Lost, lost_unless, extension_of, needs_of, extension_to, head_or}
+
+-- a group with its path
+abbrev pub GroupAt : Type 0
+GroupAt = GroupPath × Group
+
+abbrev pub nowhere : GroupAt
+nowhere = ([], empty_group)
+
+-- the group of a number, where there is one
+abbrev pub group_in : List GroupAt → ℕ → Group
+group_in nodes v = (slice_index_or nodes v nowhere).1
+
+-- its path
+abbrev pub path_in : List GroupAt → ℕ → GroupPath
+path_in nodes v = (slice_index_or nodes v nowhere).0
+
+-- No two children of a group have one name.
+
+abbrev pub LacksName : List ℕ → Children → Type 0
+LacksName name no_children = Unit {0}
+LacksName name (child other c cs) = (name ≡ other → ⊥) × LacksName name cs
+
+abbrev mutual
+  pub AreNamed : Group → Type 0
+  AreNamed (group ps cs) = AreNamedAmong cs
+
+  pub AreNamedAmong : Children → Type 0
+  AreNamedAmong no_children = Unit {0}
+  AreNamedAmong (child name c cs) = LacksName name cs × AreNamedIn c × AreNamedAmong cs
+
+  pub AreNamedIn : Child → Type 0
+  AreNamedIn (a_token d) = Unit {0}
+  AreNamedIn (a_group g) = AreNamed g
+
+-- the groups of the tree whose root is the first
+pub record IsNumbering (nodes : List GroupAt) : Type 0 where
+  pub all : nodes ≡ groups_from [] (group_in nodes 0)
+  pub named : AreNamed (group_in nodes 0)
+
+-- numbers by paths
+abbrev pub Places : Type 0
+Places = map_of.FinMap names_cmp ℕ
+
+-- the numbers of paths, as far as the first n groups have them
+pub record ArePlaces (nodes : List GroupAt) (n : ℕ) (places : Places) : Type 0 where
+  pub found : (path : GroupPath) (v : ℕ) → map_of.get places path ≡ Some v → (v < n) × (path_in nodes v ≡ path)
+  pub missing : (path : GroupPath) (v : ℕ) → map_of.get places path ≡ None → v < n → path_in nodes v ≡ path → ⊥
+
+-- the child groups of a group at a path have numbers
+
+abbrev pub IsKnown : Places → GroupPath → Child → Type 0
+IsKnown places path (a_token d) = Unit {0}
+IsKnown places path (a_group g) = (v : ℕ) × (map_of.get places path ≡ Some v)
+
+abbrev pub AreKnown : Places → GroupPath → Children → Type 0
+AreKnown places path no_children = Unit {0}
+AreKnown places path (child name c cs) = IsKnown places (path ++ name ∷ []) c × AreKnown places path cs
+
+abbrev pub EachKnown : Places → List GroupAt → Type 0
+EachKnown places [] = Unit {0}
+EachKnown places (n ∷ ns) = AreKnown places n.0 (children_in n.1) × EachKnown places ns
+
+-- the row has the numbers of what the group needs
+abbrev pub IsRow : Places → GroupAt → List ℕ → Type 0
+IsRow places n row = map (λ v. Some v) row ≡ map (map_of.get places) (needs_of n.0 n.1)
+
+abbrev pub EachRow : Places → List GroupAt → List (Vec ℕ Global) → Type 0
+EachRow places [] [] = Unit {0}
+EachRow places [] (row ∷ rows) = ⊥
+EachRow places (n ∷ ns) [] = ⊥
+EachRow places (n ∷ ns) (row ∷ rows) = IsRow places n row.items × EachRow places ns rows
+
+-- targets that have no number
+
+abbrev pub lost_by : Places → GroupPath → Option Extension → List Lost
+lost_by places path None = []
+lost_by places path (Some e) = lost_unless (is_some (map_of.get places e.target)) path e
+
+abbrev pub lost_of : Places → GroupAt → List Lost
+lost_of places n = lost_by places n.0 (extension_of n.1)
+
+abbrev pub lost_nodes : Places → List GroupAt → List Lost
+lost_nodes places [] = []
+lost_nodes places (n ∷ ns) = lost_of places n ++ lost_nodes places ns
+
+-- by its numbers a row has what the group of its number needs
+abbrev pub AreRows : List GroupAt → List (Vec ℕ Global) → Type 0
+AreRows nodes rows = (v : ℕ) → v < length nodes → map (path_in nodes) (needs_in rows v) ≡ needs_of (path_in nodes v) (group_in nodes v)
+
+-- what the first of these numbered groups says of its target, where that is the group behind it; behind the last stands `first`
+abbrev pub extension_after : List GroupAt → ℕ → List ℕ → Option Extension
+extension_after nodes first [] = None
+extension_after nodes first (v ∷ vs) = either (extension_to (path_in nodes (head_or first vs)) (group_in nodes v)) (extension_after nodes first vs)
+
+abbrev pub extension_in : List GroupAt → List ℕ → Option Extension
+extension_in nodes [] = None
+extension_in nodes (first ∷ vs) = extension_after nodes first (first ∷ vs)

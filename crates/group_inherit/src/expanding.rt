@@ -1,0 +1,139 @@
+//! The expansion of groups, each after all that it needs.
+
+ghost use Rattle.std.specs.Prelude.{◌≡◌, ◌<◌, ◌≤◌, ℕ, [], map as map_list, length, drop, All, IfOk, slice_index_or};
+ghost use Rattle.std.specs.FinMap as map;
+ghost use Rattle.token_tree.specs.Tree.{children_of};
+ghost use Rattle.token_tree.specs.Shown.{child_view, members_view, group_view};
+ghost use Rattle.ring.specs.Routes.{In};
+ghost use Rattle.ring.specs.Order.{Follows};
+ghost use Rattle.ring.specs.Graph.{needs_in, IsGraph};
+ghost use Rattle.ring.specs.Values.{Comes};
+ghost use Rattle.group_inherit.specs.Expansion.{in_place, left_over, with_groups, behind_groups, expand, numbered, expand_at};
+ghost use Rattle.group_inherit.specs.Tables.{values_in};
+
+use crate::copying::{copy_child, copy_group, copy_marks};
+use crate::merging::over;
+use crate::numbered::Node;
+use std::alloc::Global;
+use tk_io::NoMemory;
+use token_tree::{Child, Group, Members};
+
+/// The expansion of each group of the order, in the place of its number; an empty group elsewhere. `rows[v]` lists what
+/// group v needs: its child groups, and then its target where it has one.
+pub(crate) fn expansions<'t, 's>(
+    alloc: Global,
+    nodes: &[Node<'t, 's>],
+    rows: &[Vec<usize>],
+    order: &[usize],
+) -> Result<Vec<Group<'s>>, NoMemory>
+    requires rows { length rows.now ≡ length nodes.now }
+    requires graph { IsGraph rows.now }
+    requires within { All (λ v. v < length nodes.now) order.now }
+    requires order { Follows (needs_in rows.now) [] order.now }
+    ensures long { IfOk result (λ table. length table.items ≡ length nodes.now) }
+    ensures known { IfOk result (λ table. (v : ℕ) → In v order.now → Comes (needs_in rows.now) (expand_at (map_list (λ n. group_view n.group.now) nodes.now)) v (numbered (map_list group_view table.items) v)) }
+{
+    let mut table = blank(alloc, nodes.len())?;
+    for v in order {
+        let group = expansion(
+            alloc,
+            nodes[*v].group,
+            table.as_slice(),
+            rows[*v].as_slice(),
+        )?;
+        table[*v] = group;
+    }
+    Ok(table)
+}
+
+fn empty_group<'s>(alloc: Global) -> Group<'s> {
+    Group {
+        kind: None,
+        deprecated: None,
+        extends: None,
+        members: Members::new(alloc),
+    }
+}
+
+// A table of empty groups.
+fn blank<'s>(alloc: Global, len: usize) -> Result<Vec<Group<'s>>, NoMemory>
+    ensures { IfOk result (λ table. length table.items ≡ len) }
+{
+    let mut table = Vec::new(alloc);
+    for _i in 0..len {
+        table.push(empty_group(alloc))?;
+    }
+    Ok(table)
+}
+
+// The expansion of a group from those of what it needs.
+fn expansion<'s>(
+    alloc: Global,
+    group: &Group<'s>,
+    table: &[Group<'s>],
+    row: &[usize],
+) -> Result<Group<'s>, NoMemory>
+    requires { All (λ w. w < length table.now) row.now }
+    ensures { IfOk result (λ g. group_view g ≡ expand (group_view group.now) (values_in table.now row.now)) }
+{
+    let (members, next) = expand_members(alloc, &group.members, table, row)?;
+    let deprecated = copy_marks(group.deprecated.as_ref())?;
+    let local = Group {
+        kind: group.kind,
+        deprecated,
+        extends: None,
+        members,
+    };
+    if next < row.len() {
+        return over(alloc, &local, &table[row[next]]);
+    }
+    Ok(local)
+}
+
+// The members with the expansions of the child groups in their place, and the place behind these in the row.
+fn expand_members<'s>(
+    alloc: Global,
+    members: &Members<'s>,
+    table: &[Group<'s>],
+    row: &[usize],
+) -> Result<(Members<'s>, usize), NoMemory>
+    requires { All (λ w. w < length table.now) row.now }
+    ensures members { IfOk result (λ made. members_view made.0 ≡ with_groups (children_of (map.entries (members_view members.now))) (values_in table.now row.now)) }
+    ensures left { IfOk result (λ made. values_in table.now (drop made.1 row.now) ≡ behind_groups (children_of (map.entries (members_view members.now))) (values_in table.now row.now)) }
+    ensures at { IfOk result (λ made. made.1 ≤ length row.now) }
+{
+    let mut expanded = Members::new(alloc);
+    let mut next = 0;
+    for (name, child) in members.entries(alloc)?.as_slice() {
+        let (child, behind) = expand_child(alloc, child, table, row, next)?;
+        expanded.put(name, child)?;
+        next = behind;
+    }
+    Ok((expanded, next))
+}
+
+// A token, or the expansion of the next child group, and the place behind it in the row.
+fn expand_child<'s>(
+    alloc: Global,
+    child: &Child<'s>,
+    table: &[Group<'s>],
+    row: &[usize],
+    next: usize,
+) -> Result<(Child<'s>, usize), NoMemory>
+    requires row { All (λ w. w < length table.now) row.now }
+    requires next { next ≤ length row.now }
+    ensures child { IfOk result (λ made. child_view made.0 ≡ in_place (child_view child.now) (values_in table.now (drop next row.now))) }
+    ensures left { IfOk result (λ made. values_in table.now (drop made.1 row.now) ≡ left_over (child_view child.now) (values_in table.now (drop next row.now))) }
+    ensures at { IfOk result (λ made. made.1 ≤ length row.now) }
+{
+    match child {
+        Child::Token(_) => Ok((copy_child(alloc, child)?, next)),
+        Child::Group(_) => {
+            if next < row.len() {
+                let expanded = copy_group(alloc, &table[row[next]])?;
+                return Ok((Child::Group(expanded), next + 1));
+            }
+            Ok((copy_child(alloc, child)?, next))
+        }
+    }
+}

@@ -1,0 +1,25 @@
+//! What groups inherit: one tree over another, the groups that groups extend, and the flat tree of all tokens (Format
+//! Module 2025.10, sections on groups and on `$extends`).
+#![tactic(auto)]
+
+mod checked;
+mod copying;
+mod entry;
+mod expanding;
+mod fault;
+mod flat;
+mod flattening;
+mod laws;
+mod merging;
+mod numbered;
+mod rings;
+mod sizes;
+mod targets;
+#[cfg(test)]
+mod tests;
+
+pub use entry::{Entry, Flat};
+pub use fault::{FileSpan, TreeFault};
+pub use flat::flatten;
+pub use laws::{one_answer, over_by_name};
+pub use merging::over;

@@ -1,0 +1,56 @@
+//! The groups of a tree in one list.
+
+ghost use Rattle.std.specs.Prelude.{◌≡◌, [], ◌++◌, IfOk, OnOk};
+ghost use Rattle.token_tree.specs.Shown.{group_view};
+ghost use Rattle.group_inherit.specs.Extension.{groups_from};
+ghost use Rattle.group_inherit.specs.NodeShown.{nodes_view};
+ghost use Rattle.group_inherit.specs.Numbering.{AreNamed};
+
+use name_path::Path;
+use std::alloc::Global;
+use tk_io::NoMemory;
+use token_tree::{Child, Group};
+
+/// A group of a tree, and its path.
+#[derive(Drop)]
+pub(crate) struct Node<'t, 's> {
+    pub group: &'t Group<'s>,
+    pub path: Path<'s>,
+}
+
+/// All groups of the tree in path order: the root first, and each group before those below it.
+pub(crate) fn numbered_groups<'t, 's>(
+    alloc: Global,
+    tree: &'t Group<'s>,
+) -> Result<Vec<Node<'t, 's>>, NoMemory>
+    ensures all { IfOk result (λ nodes. nodes_view nodes.items ≡ groups_from [] (group_view tree.entry.now)) }
+    ensures named { OnOk result (AreNamed (group_view tree.entry.now)) }
+{
+    let mut nodes = Vec::new(alloc);
+    let root = Path::new(alloc);
+    add_groups(alloc, &mut nodes, &root, tree)?;
+    Ok(nodes)
+}
+
+// Adds a group and those below it.
+fn add_groups<'t, 's>(
+    alloc: Global,
+    nodes: &mut Vec<Node<'t, 's>>,
+    path: &Path<'s>,
+    group: &'t Group<'s>,
+) -> Result<(), NoMemory>
+    ensures all { OnOk result (nodes_view nodes.new.items ≡ nodes_view nodes.old.items ++ groups_from path.now (group_view group.entry.now)) }
+    ensures named { OnOk result (AreNamed (group_view group.entry.now)) }
+{
+    let own = path.copy()?;
+    nodes.push(Node { group, path: own })?;
+    for (name, child) in group.members.entries(alloc)?.as_slice() {
+        let Child::Group(inner) = child else {
+            continue;
+        };
+        let mut below = path.copy()?;
+        below.push(name.copy()?)?;
+        add_groups(alloc, nodes, &below, inner)?;
+    }
+    Ok(())
+}

@@ -1,0 +1,115 @@
+//! Rings of groups that need each other.
+
+ghost use Rattle.std.specs.Prelude.{◌≡◌, ◌<◌, ℕ, Some, IfOk, IfErr, OnOk, All, length, map, option_map, slice_index_or, ◌+◌};
+ghost use Rattle.ring.specs.Graph.{needs_in, IsGraph};
+ghost use Rattle.ring.specs.Order.{IsOrder};
+ghost use Rattle.ring.specs.Routes.{HasNoRing};
+ghost use Rattle.token_tree.specs.Shown.{extends_view, group_view};
+ghost use Rattle.token_tree.specs.Tree.{Extension};
+ghost use Rattle.group_inherit.specs.Answer.{IsRingFault, IsReportOf};
+ghost use Rattle.group_inherit.specs.Extension.{extension_to};
+ghost use Rattle.group_inherit.specs.NodeShown.{nodes_view};
+ghost use Rattle.group_inherit.specs.Numbering.{AreRows, path_in, extension_in};
+
+use crate::fault::{TreeFault, span_of};
+use crate::numbered::Node;
+use name_path::{Path, Paths};
+use ring::{Found, ring_or_order};
+use std::alloc::Global;
+use tk_io::NoMemory;
+use token_tree::{Extends, Group};
+
+// What the group says of its target, where that is at the path.
+fn extension_to<'t, 's>(group: &'t Group<'s>, next: &Path<'s>) -> Option<&'t Extends<'s>>
+    ensures { option_map (λ e. extends_view e.now) result ≡ extension_to next.now (group_view group.entry.now) }
+{
+    match &group.extends {
+        None => None,
+        Some(extends) => {
+            if extends.target == *next {
+                return Some(extends);
+            }
+            None
+        }
+    }
+}
+
+// The number behind the i-th one; behind the last stands the first.
+fn next_in(ring: &[usize], i: usize) -> usize
+    requires { i < length ring.now }
+    ensures { result ≡ slice_index_or ring.now (i + 1) (slice_index_or ring.now 0 0) }
+{
+    if i + 1 < ring.len() {
+        return ring[i + 1];
+    }
+    ring[0]
+}
+
+// What the first of the ring's groups whose target is the ring's next group says of it.
+fn ring_extension<'t, 's>(nodes: &[Node<'t, 's>], ring: &[usize]) -> Option<&'t Extends<'s>>
+    requires { All (λ v. v < length nodes.now) ring.now }
+    ensures { option_map (λ e. extends_view e.now) result ≡ extension_in (nodes_view nodes.now) ring.now }
+{
+    for i in 0..ring.len() {
+        let next = next_in(ring, i);
+        let found = extension_to(nodes[ring[i]].group, &nodes[next].path);
+        if found.is_some() {
+            return found;
+        }
+    }
+    None
+}
+
+fn ring_paths<'s>(
+    alloc: Global,
+    nodes: &[Node<'_, 's>],
+    ring: &[usize],
+) -> Result<Paths<'s>, NoMemory>
+    requires { All (λ v. v < length nodes.now) ring.now }
+    ensures { IfOk result (λ paths. paths ≡ map (path_in (nodes_view nodes.now)) ring.now) }
+{
+    let mut paths = Paths::new(alloc);
+    for v in ring {
+        paths.push(nodes[*v].path.copy()?)?;
+    }
+    Ok(paths)
+}
+
+// The ring by its paths, and where it is reported.
+fn ring_fault<'s>(
+    alloc: Global,
+    nodes: &[Node<'_, 's>],
+    ring: &[usize],
+) -> Result<TreeFault<'s>, NoMemory>
+    requires within { All (λ v. v < length nodes.now) ring.now }
+    requires some { (e : Extension) × (extension_in (nodes_view nodes.now) ring.now ≡ Some e) }
+    ensures { IfOk result (IsReportOf (nodes_view nodes.now) ring.now) }
+{
+    let Some(extends) = ring_extension(nodes, ring) else {
+        unreachable!()
+    };
+    let paths = ring_paths(alloc, nodes, ring)?;
+    Ok(TreeFault::ExtendsCycle(paths, span_of(extends)))
+}
+
+/// The groups in an order in which each follows what it needs. Where there is none, the ring of the first closed route
+/// from the root is the fault.
+pub(crate) fn finish_order<'s>(
+    alloc: Global,
+    nodes: &[Node<'_, 's>],
+    rows: &[Vec<usize>],
+) -> Result<Vec<usize>, TreeFault<'s>>
+    requires graph { IsGraph rows.now }
+    requires some { 0 < length rows.now }
+    requires long { length rows.now ≡ length nodes.now }
+    requires rows { AreRows (nodes_view nodes.now) rows.now }
+    ensures no_ring { OnOk result (HasNoRing (needs_in rows.now) 0) }
+    ensures order { IfOk result (λ order. IsOrder (needs_in rows.now) 0 order.items) }
+    ensures within { IfOk result (λ order. All (λ v. v < length rows.now) order.items) }
+    ensures ring { IfErr result (IsRingFault (nodes_view nodes.now) (needs_in rows.now)) }
+{
+    match ring_or_order(alloc, rows, 0)? {
+        Found::Order(order) => Ok(order),
+        Found::Ring(ring) => Err(ring_fault(alloc, nodes, ring.as_slice())?),
+    }
+}

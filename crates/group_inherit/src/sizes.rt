@@ -1,0 +1,151 @@
+//! Counts and heights of groups.
+
+ghost use Rattle.std.specs.Prelude.{◌≡◌, ◌<◌, ◌≤◌, ℕ, [], IfOk, IfErr, OnOk, All, length, map, min, slice_index, ◌+◌, if◌then◌else◌};
+ghost use Rattle.ring.specs.Graph.{needs_in, IsGraph};
+ghost use Rattle.ring.specs.Order.{Follows};
+ghost use Rattle.ring.specs.Routes.{In};
+ghost use Rattle.token_tree.specs.Shown.{group_view};
+ghost use Rattle.group_inherit.specs.Extension.{children_in, group_names, how_many, tokens_height, height_of, needs_of};
+ghost use Rattle.group_inherit.specs.NodeShown.{nodes_view};
+ghost use Rattle.group_inherit.specs.Numbering.{AreRows};
+ghost use Rattle.group_inherit.specs.Sizes.{IsCountedIn, IsLowIn, IsHeight, IsCountFault, IsHeightFault};
+
+use crate::fault::TreeFault;
+use crate::numbered::Node;
+use ring::capped_totals;
+use std::alloc::Global;
+use tk_io::NoMemory;
+use token_tree::Group;
+
+const MOST_TOKENS: u64 = 16_384;
+
+const HIGHEST: u64 = 64;
+
+const LIMIT: u64 = 1_000_000;
+
+// How many members each group has.
+fn own_counts(alloc: Global, nodes: &[Node<'_, '_>]) -> Result<Vec<u64>, NoMemory>
+    ensures { IfOk result (λ own. own.items ≡ map (λ n. how_many (children_in n.1)) (nodes_view nodes.now)) }
+{
+    let mut own = Vec::new(alloc);
+    for node in nodes {
+        own.push(node.group.members.len() as u64)?;
+    }
+    Ok(own)
+}
+
+/// That the root has at most 16,384 members in all, overridden ones included.
+pub(crate) fn check_count<'s>(
+    alloc: Global,
+    nodes: &[Node<'_, 's>],
+    rows: &[Vec<usize>],
+    order: &[usize],
+) -> Result<(), TreeFault<'s>>
+    requires graph { IsGraph rows.now }
+    requires long { length rows.now ≡ length nodes.now }
+    requires within { All (λ v. v < length rows.now) order.now }
+    requires order { Follows (needs_in rows.now) [] order.now }
+    requires root { In 0 order.now }
+    ensures ok { OnOk result (IsCountedIn (nodes_view nodes.now) (needs_in rows.now)) }
+    ensures broken { IfErr result (IsCountFault (nodes_view nodes.now) (needs_in rows.now)) }
+{
+    let own = own_counts(alloc, nodes)?;
+    let counts = capped_totals(alloc, rows, order, own.as_slice())?;
+    let count = counts[0];
+    if count > MOST_TOKENS {
+        return Err(TreeFault::TooManyTokens(count));
+    }
+    Ok(())
+}
+
+// How many child groups a group has that needs so many groups.
+fn child_groups(group: &Group<'_>, needs: usize) -> usize
+    requires { needs ≡ length (needs_of [] (group_view group.now)) }
+    ensures { result ≡ length (group_names (group_view group.now)) }
+{
+    match &group.extends {
+        None => needs,
+        Some(_) => needs - 1,
+    }
+}
+
+// 1 where there is a token, so that there are more members than child groups.
+fn tokens_height(group: &Group<'_>, children: usize) -> u64
+    requires { children ≡ length (group_names (group_view group.now)) }
+    ensures { result ≡ tokens_height (children_in (group_view group.now)) }
+{
+    if children < group.members.len() {
+        return 1;
+    }
+    0
+}
+
+fn raised(height: u64, is_child: bool) -> u64
+    ensures { result ≡ if is_child then min (height + 1) 18446744073709551615 else height }
+{
+    if is_child {
+        return height.saturating_add(1);
+    }
+    height
+}
+
+// The height of a group, or a million where that is more, from those in the table of what it needs.
+fn height_at(group: &Group<'_>, needs: &[usize], table: &[u64]) -> u64
+    requires within { All (λ w. w < length table.now) needs.now }
+    requires long { length needs.now ≡ length (needs_of [] (group_view group.now)) }
+    ensures { result ≡ min (height_of (group_view group.now) (map (λ w. slice_index table.now w) needs.now)) 1000000 }
+{
+    let children = child_groups(group, needs.len());
+    let mut height = tokens_height(group, children);
+    for (i, need) in needs.iter().enumerate() {
+        height = height.max(raised(table[*need], i < children));
+    }
+    height.min(LIMIT)
+}
+
+// The height of each group of an order, or a million where that is more.
+fn capped_heights(
+    alloc: Global,
+    nodes: &[Node<'_, '_>],
+    rows: &[Vec<usize>],
+    order: &[usize],
+) -> Result<Vec<u64>, NoMemory>
+    requires graph { IsGraph rows.now }
+    requires long { length rows.now ≡ length nodes.now }
+    requires rows { AreRows (nodes_view nodes.now) rows.now }
+    requires within { All (λ v. v < length rows.now) order.now }
+    requires order { Follows (needs_in rows.now) [] order.now }
+    ensures long { IfOk result (λ table. length table.items ≡ length rows.now) }
+    ensures heights { IfOk result (λ table. (v : ℕ) → In v order.now → IsHeight (nodes_view nodes.now) (needs_in rows.now) v (slice_index table.items v)) }
+{
+    let mut table = vec![in alloc; 0; rows.len()]?;
+    for v in order {
+        table[*v] = height_at(nodes[*v].group, rows[*v].as_slice(), table.as_slice());
+    }
+    Ok(table)
+}
+
+/// That the root is at most 64 levels high.
+pub(crate) fn check_height<'s>(
+    alloc: Global,
+    nodes: &[Node<'_, 's>],
+    rows: &[Vec<usize>],
+    order: &[usize],
+) -> Result<(), TreeFault<'s>>
+    requires graph { IsGraph rows.now }
+    requires long { length rows.now ≡ length nodes.now }
+    requires rows { AreRows (nodes_view nodes.now) rows.now }
+    requires within { All (λ v. v < length rows.now) order.now }
+    requires order { Follows (needs_in rows.now) [] order.now }
+    requires root { In 0 order.now }
+    requires counted { IsCountedIn (nodes_view nodes.now) (needs_in rows.now) }
+    ensures ok { OnOk result (IsLowIn (nodes_view nodes.now) (needs_in rows.now)) }
+    ensures broken { IfErr result (IsHeightFault (nodes_view nodes.now) (needs_in rows.now)) }
+{
+    let heights = capped_heights(alloc, nodes, rows, order)?;
+    let height = heights[0];
+    if height > HIGHEST {
+        return Err(TreeFault::TooHigh(height));
+    }
+    Ok(())
+}

@@ -1,0 +1,107 @@
+//! What groups need of one another, by numbers.
+
+ghost use Rattle.std.specs.Prelude.{◌≡◌, [], ◌∷◌, ◌++◌, ℕ, Some, IfOk, OnOk, IfErr, length, map};
+ghost use Rattle.std.specs.FinMap as map_of;
+ghost use Rattle.token_tree.specs.Shown.{group_view};
+ghost use Rattle.group_inherit.specs.Answer.{IsLostTarget};
+ghost use Rattle.group_inherit.specs.Extension.{children_in, group_names};
+ghost use Rattle.group_inherit.specs.NodeShown.{node_view, nodes_view};
+ghost use Rattle.group_inherit.specs.Numbering.{ArePlaces, AreKnown, EachKnown, IsRow, EachRow, lost_of, lost_nodes};
+
+use crate::fault::{TreeFault, span_of};
+use crate::numbered::Node;
+use name_path::{Path, PathMap};
+use std::alloc::Global;
+use tk_io::{NoMemory, Text};
+use token_tree::Child;
+
+/// The number of each group by its path.
+pub(crate) fn places<'s>(
+    alloc: Global,
+    nodes: &[Node<'_, 's>],
+) -> Result<PathMap<'s, usize>, NoMemory>
+    ensures { IfOk result (λ places. ArePlaces (nodes_view nodes.now) (length nodes.now) places) }
+{
+    let mut places = PathMap::new(alloc);
+    for (i, node) in nodes.iter().enumerate() {
+        places.put(&node.path, i)?;
+    }
+    Ok(places)
+}
+
+// The number of a child group.
+fn child_number<'s>(
+    path: &Path<'s>,
+    name: &Text<'s>,
+    places: &PathMap<'s, usize>,
+) -> Result<usize, NoMemory>
+    requires { (v : ℕ) × (map_of.get places.now (path.now ++ name.now ∷ []) ≡ Some v) }
+    ensures { IfOk result (λ v. Some v ≡ map_of.get places.now (path.now ++ name.now ∷ [])) }
+{
+    let mut below = path.copy()?;
+    below.push(name.copy()?)?;
+    match places.get(&below) {
+        Some(number) => Ok(*number),
+        None => unreachable!(),
+    }
+}
+
+// The numbers of the child groups, in byte order of names.
+fn child_numbers<'s>(
+    alloc: Global,
+    node: &Node<'_, 's>,
+    places: &PathMap<'s, usize>,
+) -> Result<Vec<usize>, NoMemory>
+    requires { AreKnown places.now node.now.path (children_in (group_view node.now.group.now)) }
+    ensures { IfOk result (λ row. map (λ v. Some v) row.items ≡ map (λ name. map_of.get places.now (node.now.path ++ name ∷ [])) (group_names (group_view node.now.group.now))) }
+{
+    let mut row = Vec::new(alloc);
+    for (name, child) in node.group.members.entries(alloc)?.as_slice() {
+        let Child::Group(_) = child else {
+            continue;
+        };
+        row.push(child_number(&node.path, name, places)?)?;
+    }
+    Ok(row)
+}
+
+// The child groups by their numbers, and then the target.
+fn row<'s>(
+    alloc: Global,
+    node: &Node<'_, 's>,
+    places: &PathMap<'s, usize>,
+) -> Result<Vec<usize>, TreeFault<'s>>
+    requires { AreKnown places.now node.now.path (children_in (group_view node.now.group.now)) }
+    ensures ok { IfOk result (λ row. IsRow places.now (node_view node.now) row.items) }
+    ensures sound { OnOk result (lost_of places.now (node_view node.now) ≡ []) }
+    ensures lost { IfErr result (IsLostTarget (lost_of places.now (node_view node.now))) }
+{
+    let mut row = child_numbers(alloc, node, places)?;
+    let Some(extends) = &node.group.extends else {
+        return Ok(row);
+    };
+    let Some(target) = places.get(&extends.target) else {
+        return Err(TreeFault::ExtendsTarget(node.path.copy()?, span_of(extends)));
+    };
+    row.push(*target)?;
+    Ok(row)
+}
+
+/// What each group needs, by numbers: its child groups in byte order of names, and then its target. A target that is no
+/// group is a fault, and the first one in path order is answered.
+pub(crate) fn rows<'s>(
+    alloc: Global,
+    nodes: &[Node<'_, 's>],
+    places: &PathMap<'s, usize>,
+) -> Result<Vec<Vec<usize>>, TreeFault<'s>>
+    requires { EachKnown places.now (nodes_view nodes.now) }
+    ensures ok { IfOk result (λ rows. EachRow places.now (nodes_view nodes.now) rows.items) }
+    ensures sound { OnOk result (lost_nodes places.now (nodes_view nodes.now) ≡ []) }
+    ensures lost { IfErr result (IsLostTarget (lost_nodes places.now (nodes_view nodes.now))) }
+{
+    let mut rows = Vec::new(alloc);
+    for node in nodes {
+        rows.push(row(alloc, node, places)?)?;
+    }
+    Ok(rows)
+}
