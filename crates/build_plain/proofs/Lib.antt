@@ -1,7 +1,5 @@
-pub mod FileMaps
-pub mod Refusals
-pub mod Members
-pub mod Sheets
 pub mod Built
-pub mod Tokens
-pub mod PlainFiles
+pub mod FileMaps
+pub mod Printed
+pub mod Refusals
+pub mod Sheets

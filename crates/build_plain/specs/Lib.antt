@@ -1,4 +1,5 @@
 pub mod Laws
 pub mod Out
-pub mod Plain
+pub mod Pixels
 pub mod Refusal
+pub mod Sheet

@@ -4,7 +4,7 @@
 mod building;
 mod files;
 mod laws;
-mod plain;
+mod pixels;
 mod refusal;
 mod sheet;
 #[cfg(test)]
@@ -12,4 +12,4 @@ mod tests;
 
 pub use building::{BuildStop, build};
 pub use files::Files;
-pub use laws::{each_printed, each_token, one_build, plain_files};
+pub use laws::{each_printed, one_build, printed_trees};

@@ -1,10 +1,12 @@
 // What is printed of a refusal.
 ghost use Rattle.std.specs.Prelude.{◌≡◌, ◌+◌, ◌++◌, List, ℕ, IfOk, OnOk, codes, take};
 ghost use Rattle.std.specs.Fmt.{decimal};
-ghost use Rattle.build_plain.specs.Refusal.{rule_name, line_of, column_of, refusal_text};
+ghost use Rattle.build_plain.specs.Refusal.{shape_rule_name, rule_name, line_of, column_of, refusal_text, group_string, place_line, ring_line, ring_lines, count_line};
 
 use itoa::Buffer;
+use json_span::write_string_bytes;
 use lane_scan::{count_newlines, last_newline};
+use name_path::{Path, Paths, print_group};
 use std::alloc::Global;
 use tk_io::{Bytes, NoMemory};
 
@@ -19,6 +21,29 @@ pub enum Rule {
     JsonDuplicate,
     /// More than 64 brackets are open at once.
     JsonDepth,
+    /// The file is no tree of groups and tokens (Format Module 2025.10).
+    Shape(token_tree::Rule),
+    /// A group extends a group that is not there.
+    ExtendsTarget,
+    /// A group extends itself, by way of others.
+    ExtendsCycle,
+    /// The groups have more than 16,384 members with those that they inherit.
+    ExtendsCount,
+    /// The tree is more than 64 levels high with what its groups inherit.
+    ExtendsHeight,
+}
+
+fn shape_rule_name(rule: token_tree::Rule) -> &'static [u8]
+    ensures { result.now ≡ shape_rule_name rule }
+{
+    match rule {
+        token_tree::Rule::Root => b"shape-root",
+        token_tree::Rule::Name => b"shape-name",
+        token_tree::Rule::Member => b"shape-member",
+        token_tree::Rule::Property => b"shape-property",
+        token_tree::Rule::TokenChild => b"shape-token-child",
+        token_tree::Rule::RootToken => b"shape-root-token",
+    }
 }
 
 fn rule_name(rule: Rule) -> &'static [u8]
@@ -29,6 +54,11 @@ fn rule_name(rule: Rule) -> &'static [u8]
         Rule::JsonSyntax => b"json-syntax",
         Rule::JsonDuplicate => b"json-duplicate",
         Rule::JsonDepth => b"json-depth",
+        Rule::Shape(broken) => shape_rule_name(broken),
+        Rule::ExtendsTarget => b"extends-target",
+        Rule::ExtendsCycle => b"extends-cycle",
+        Rule::ExtendsCount => b"extends-count",
+        Rule::ExtendsHeight => b"extends-height",
     }
 }
 
@@ -117,4 +147,50 @@ pub fn refusal_text(
     append_place(&mut out, text, start)?;
     append_span(&mut out, start, end)?;
     Ok(out)
+}
+
+// A group, as the string of its pointer.
+fn append_group(out: &mut Bytes, group: &Path<'_>) -> Result<(), NoMemory>
+    ensures { OnOk result (out.new ≡ out.old ++ group_string group.now) }
+{
+    let mut pointer = out.fresh();
+    print_group(group, &mut pointer)?;
+    write_string_bytes(pointer.as_slice(), out)
+}
+
+/// The line of the group that is told.
+pub fn append_place_line(out: &mut Bytes, group: &Path<'_>) -> Result<(), NoMemory>
+    ensures { OnOk result (out.new ≡ out.old ++ place_line group.now) }
+{
+    out.append(b"place ")?;
+    append_group(out, group)?;
+    out.append(b"\n")
+}
+
+fn append_ring_line(out: &mut Bytes, group: &Path<'_>) -> Result<(), NoMemory>
+    ensures { OnOk result (out.new ≡ out.old ++ ring_line group.now) }
+{
+    out.append(b"ring ")?;
+    append_group(out, group)?;
+    out.append(b"\n")
+}
+
+/// A line for each group of a ring.
+pub fn append_ring_lines(out: &mut Bytes, ring: &Paths<'_>) -> Result<(), NoMemory>
+    ensures { OnOk result (out.new ≡ out.old ++ ring_lines ring.now) }
+{
+    for group in ring.as_slice() {
+        append_ring_line(out, group)?;
+    }
+    Ok(())
+}
+
+/// The line of a count.
+pub fn append_count_line(out: &mut Bytes, count: u64) -> Result<(), NoMemory>
+    ensures { OnOk result (out.new ≡ out.old ++ count_line count) }
+{
+    let mut buffer = Buffer::new();
+    out.append(b"count ")?;
+    out.append(buffer.format(count).as_bytes())?;
+    out.append(b"\n")
 }

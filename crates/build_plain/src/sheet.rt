@@ -1,62 +1,81 @@
-// The style sheet of a plain file.
-ghost use Rattle.std.specs.Prelude.{◌≡◌, ◌++◌, codes, IfOk, OnOk, flat_map};
-ghost use Rattle.std.specs.FinMap as map;
-ghost use Rattle.build_plain.specs.Out.{css_line, css_text};
+// The style sheet of a flat tree.
+ghost use Rattle.std.specs.Prelude.{◌≡◌, ◌++◌, Some, None, codes, cond, List, ℕ, IfOk, OnOk, flat_map, map, option_map};
+ghost use Rattle.group_inherit.specs.Flattening.{Flattened};
+ghost use Rattle.build_plain.specs.Sheet.{name_part, css_name, css_line, line_of_token, lines_of, sheet_text};
 
+use crate::pixels::{is_root, is_short_path, pixels_of};
 use dec_fix::Dec;
+use group_inherit::{Entry, Flat};
+use name_path::Path;
 use std::alloc::Global;
-use tk_io::{Bytes, NoMemory, TextMap};
+use tk_io::{Bytes, NoMemory};
+
+fn append_part(out: &mut Bytes, name: &str) -> Result<(), NoMemory>
+    ensures { OnOk result (out.new ≡ out.old ++ name_part name.now) }
+{
+    if is_root(name) {
+        return Ok(());
+    }
+    out.append(b"-")?;
+    out.append(name.as_bytes())
+}
+
+// The names of a path but `$root`, each after a '-'.
+fn append_parts(out: &mut Bytes, path: &Path<'_>) -> Result<(), NoMemory>
+    ensures { OnOk result (out.new ≡ out.old ++ flat_map name_part path.now) }
+{
+    for name in path.as_slice() {
+        append_part(out, name.as_str())?;
+    }
+    Ok(())
+}
 
 // The line of a token.
-fn append_line(out: &mut Bytes, group: &str, name: &str, number: &Dec) -> Result<(), NoMemory>
-    ensures { OnOk result (out.new ≡ out.old ++ css_line group.now (name.now, number.now)) }
+fn append_line(out: &mut Bytes, path: &Path<'_>, number: &Dec) -> Result<(), NoMemory>
+    ensures { OnOk result (out.new ≡ out.old ++ css_line path.now number.now) }
 {
-    out.append(b"  --")?;
-    out.append(group.as_bytes())?;
-    out.append(b"-")?;
-    out.append(name.as_bytes())?;
+    out.append(b"  -")?;
+    append_parts(out, path)?;
     out.append(b": ")?;
     number.write(out)?;
-    out.append(b"px;\n")?;
-    Ok(())
+    out.append(b"px;\n")
 }
 
-// The lines of a group's tokens.
-fn append_group(
-    alloc: Global,
-    out: &mut Bytes,
-    group: &str,
-    tokens: &TextMap<Dec>,
-) -> Result<(), NoMemory>
-    ensures { OnOk result (out.new ≡ out.old ++ flat_map (css_line group.now) (map.entries tokens.now)) }
+// Appends the line of a token, and says whether it has one.
+fn append_token(out: &mut Bytes, path: &Path<'_>, token: &Entry<'_>) -> Result<bool, NoMemory>
+    ensures { IfOk result (λ fits. cond fits (Some out.new) None ≡ option_map (λ line. out.old ++ line) (line_of_token (path.now, token.now))) }
 {
-    for (name, number) in tokens.entries(alloc)?.as_slice() {
-        append_line(out, group, name, number)?;
+    if !is_short_path(path) {
+        return Ok(false);
     }
-    Ok(())
+    let Some(number) = pixels_of(token) else {
+        return Ok(false);
+    };
+    append_line(out, path, &number)?;
+    Ok(true)
 }
 
-// The lines of all groups' tokens.
-fn append_groups(
-    alloc: Global,
-    out: &mut Bytes,
-    groups: &TextMap<TextMap<Dec>>,
-) -> Result<(), NoMemory>
-    ensures { OnOk result (out.new ≡ out.old ++ flat_map (λ g. flat_map (css_line g.0) (map.entries g.1)) (map.entries groups.now)) }
+// Appends the lines of all tokens, and says whether each has one.
+fn append_tokens(out: &mut Bytes, tokens: &[(&Path<'_>, &Entry<'_>)]) -> Result<bool, NoMemory>
+    ensures { IfOk result (λ fit. cond fit (Some out.new) None ≡ option_map (λ lines. out.old ++ lines) (lines_of (map {B = List (List ℕ) × Flattened} (λ e. (e.0.now, e.1.now)) tokens.now))) }
 {
-    for (group, tokens) in groups.entries(alloc)?.as_slice() {
-        append_group(alloc, out, group, tokens)?;
+    for (path, token) in tokens {
+        if !append_token(out, path, token)? {
+            return Ok(false);
+        }
     }
-    Ok(())
+    Ok(true)
 }
 
-/// The style sheet of the groups.
-pub fn css(alloc: Global, groups: &TextMap<TextMap<Dec>>) -> Result<Bytes, NoMemory>
-    ensures { IfOk result (λ b. b ≡ css_text groups.now) }
+/// The style sheet of a flat tree, or none where a token of it is not printed yet.
+pub fn css(alloc: Global, flat: &Flat<'_>) -> Result<Option<Bytes>, NoMemory>
+    ensures { IfOk result (λ sheet. sheet ≡ sheet_text flat.now) }
 {
     let mut out = Bytes::new(alloc);
     out.append(b":root {\n")?;
-    append_groups(alloc, &mut out, groups)?;
+    if !append_tokens(&mut out, flat.entries(alloc)?.as_slice())? {
+        return Ok(None);
+    }
     out.append(b"}\n")?;
-    Ok(out)
+    Ok(Some(out))
 }
