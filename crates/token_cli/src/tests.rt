@@ -14,7 +14,7 @@ struct Case {
     status: Status,
 }
 
-static CASES: [Case; 19] = [
+static CASES: [Case; 20] = [
     Case {
         word: "build",
         script: b"tokc-script 1\nput tokens.json 70\n{\"space\":{\"$type\":\"dimension\",\"s\":{\"$value\":{\"value\":4,\"unit\":\"px\"}}}}\n",
@@ -136,10 +136,17 @@ static CASES: [Case; 19] = [
     },
     Case {
         word: "build",
-        script: b"tokc-script 1\nput tokens.json 2\n[]\n",
+        script: b"tokc-script 1\nput tokens.json 34\n{\"$type\":\"color\",\"a\":{\"$value\":1}}\n",
         written: "tokc-stream 1\n",
         said: "tokc: not built yet\n",
         status: Status::NotYet,
+    },
+    Case {
+        word: "build",
+        script: b"tokc-script 1\nput tokens.json 30\n{\"a\":{\"b\":{\"$extends\":\"{a}\"}}}\n",
+        written: "tokc-stream 1\ncommit 1\nfile default/REFUSED 89\nrule extends-cycle\nfile tokens.json\nline 1 column 23\nbytes 22 27\nring \"#/a\"\nring \"#/a/b\"\n\ndone 1\n",
+        said: "",
+        status: Status::Refused,
     },
     Case {
         word: "stats",
