@@ -35,6 +35,20 @@ pub fn skip_blank(bytes: &[u8], from: usize) -> usize
     ensures passed { AllPass is_blank (slice_range bytes.now from result) }
     ensures stopped { result < length bytes.now → is_blank (slice_index bytes.now result) ≡ false }
 {
+    if from < bytes.len() && !is_blank(bytes[from]) {
+        return from;
+    }
+    skip_blank_lanes(bytes, from)
+}
+
+// Many bytes at a time.
+fn skip_blank_lanes(bytes: &[u8], from: usize) -> usize
+    requires { from ≤ length bytes.now }
+    ensures first { result ≡ from + prefix_len is_blank (drop from bytes.now) }
+    ensures within { result ≤ length bytes.now }
+    ensures passed { AllPass is_blank (slice_range bytes.now from result) }
+    ensures stopped { result < length bytes.now → is_blank (slice_index bytes.now result) ≡ false }
+{
     let mut at = from;
     while bytes.len() - at >= BLOCK {
         let before = before_mark(other_bits(bytes, at));

@@ -43,7 +43,7 @@ impl From<NoMemory> for ReadStop {
 }
 
 /// How many bytes are asked for at a time.
-const CHUNK: usize = 16384;
+const CHUNK: usize = 65536;
 
 /// Reads all bytes up to the end of the source, of which there may be at most `limit`. At most `limit + 1` are taken.
 ///

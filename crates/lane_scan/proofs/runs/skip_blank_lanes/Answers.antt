@@ -3,7 +3,7 @@ use Rattle.std.specs.List.{prefix_len}
 use Rattle.lane_scan.specs.Bytes.{is_blank}
 use Rattle.lane_scan.proofs.MarkLaws.{first_mark, position_or_len-not}
 use Rattle.lane_scan.proofs.RunLaws.{run_whole, run_stops, end_within, end_passed, end_stopped}
-use Rattle.lane_scan.proofs.runs.skip_blank.Goals as goal
+use Rattle.lane_scan.proofs.runs.skip_blank_lanes.Goals as goal
 
 pub returns-then-before-lt-BLOCK-clause-first : goal.returns-then-before-lt-BLOCK-clause-first
 returns-then-before-lt-BLOCK-clause-first c =

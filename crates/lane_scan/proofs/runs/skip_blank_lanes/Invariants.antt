@@ -1,7 +1,7 @@
 use Rattle.std.proofs.Common.{length, ◌-◌, ◌≡◌, ◌+◌, ◌≤◌, drop}
 use Rattle.std.specs.List.{prefix_len}
 use Rattle.lane_scan.specs.Bytes.{is_blank}
-use Rattle.lane_scan.proofs.runs.skip_blank.Given as goal
+use Rattle.lane_scan.proofs.runs.skip_blank_lanes.Given as goal
 
 abbrev pub invariant-loop-at : goal.invariant-loop-at
 invariant-loop-at l = record {
