@@ -1,5 +1,5 @@
--- What the source and the sink in memory are seen as, and how their calls are numbered.
-use Rattle.std.specs.Prelude.{◌≡◌, ◌<◌, ◌⊎◌, ℕ, ◌+◌, ◌-◌, ◌^◌, List, Contains, min}
+-- What the source and the sink in memory are seen as, and which writes fail.
+use Rattle.std.specs.Prelude.{◌≡◌, ◌<◌, ◌⊎◌, ℕ, List, Contains}
 
 -- a source: what it has left, which calls fail, and how many calls and faults there were
 pub record Feed : Type 0 where
@@ -16,10 +16,6 @@ pub record Tray : Type 0 where
   pub fails : List ℕ
   pub calls : ℕ
   pub faults : ℕ
-
--- the number of the next call, which stands still at the last one of its type
-abbrev pub following : ℕ → ℕ
-following calls = min (calls + 1) (2 ^ 64 - 1)
 
 -- a write fails where its number is listed, or where the piece is not empty and nothing is free
 abbrev pub MustFail : List ℕ → ℕ → ℕ → ℕ → Type 0

@@ -55,7 +55,9 @@ pub struct NullSink;
 
 impl NullSink {
     /// The sink.
-    pub fn new() -> NullSink {
+    pub fn new() -> NullSink
+        ensures { result ≡ record { } }
+    {
         NullSink
     }
 }

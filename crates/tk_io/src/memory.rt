@@ -1,8 +1,8 @@
 // A source and a sink in memory whose calls fail where they are told to.
 ghost use Rattle.std.specs.Prelude.{◌≡◌, [], ◌-◌, ◌≤◌, ◌<◌, ◌↔◌, Some, Contains, min, length, IsErr, IfOk, OnErr};
 ghost use Rattle.std.specs.Io.KnownBytes.{ReadConsumes, WriteAppends};
-ghost use Rattle.tk_io.specs.Causes.{HasCause};
-ghost use Rattle.tk_io.specs.Memory.{Feed, Tray, following, MustFail};
+ghost use Rattle.tk_io.specs.Causes.{HasCause, following};
+ghost use Rattle.tk_io.specs.Memory.{Feed, Tray, MustFail};
 
 use crate::{Failed, Sink, Source};
 use std::marker::Model;
@@ -48,6 +48,7 @@ impl<'a> Source for MemSource<'a> {
         ensures bound { IfOk result (λ n. n ≤ length buf.new) }
         ensures bytes { ReadConsumes (Some self.old.left) (Some self.new.left) result buf.new }
         ensures cause { HasCause self.old.faults self.new.faults result }
+        ensures once { OnErr result (self.new.faults ≡ following self.old.faults) }
         ensures number { self.new.calls ≡ following self.old.calls }
         ensures same { self.new.fails ≡ self.old.fails }
         ensures failed { IsErr result ↔ Contains self.old.fails (following self.old.calls) }
@@ -124,6 +125,7 @@ impl<'a> Sink for MemSink<'a> {
         ensures some { IfOk result (λ n. 0 < length piece.now → 0 < n) }
         ensures bytes { WriteAppends (Some self.old.written) (Some self.new.written) result piece.now }
         ensures cause { HasCause self.old.faults self.new.faults result }
+        ensures once { OnErr result (self.new.faults ≡ following self.old.faults) }
         ensures number { self.new.calls ≡ following self.old.calls }
         ensures same { (self.new.fails ≡ self.old.fails) × (self.new.most ≡ self.old.most) × (self.new.room ≡ self.old.room) }
         ensures failed { IsErr result ↔ MustFail self.old.fails (following self.old.calls) (length piece.now) (self.old.room - length self.old.written) }

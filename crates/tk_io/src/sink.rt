@@ -1,13 +1,13 @@
 // Where bytes go, and writing a piece whole.
-ghost use Rattle.std.specs.Prelude.{◌≡◌, List, ℕ, ◌+◌, ◌<◌, ◌≤◌, ◌++◌, Option, length, IfOk, OnOk, OnErr};
+ghost use Rattle.std.specs.Prelude.{◌≡◌, [], List, ℕ, ◌<◌, ◌≤◌, Option, length, Ok, IfOk, OnOk, OnErr};
 ghost use Rattle.std.specs.Io.KnownBytes.{Appends, WriteAppends};
 ghost use Rattle.tk_io.specs.Causes.{HasCause};
-ghost use Rattle.tk_io.specs.Writing.{AppendsFront};
+ghost use Rattle.tk_io.specs.Writing.{AppendsPart};
 
 use crate::Failed;
 
-/// Where bytes go. `written` is what was written, where the sink tells it; `faults` counts its failed writes, never
-/// falls, and stands still at 2^64 - 1.
+/// Where bytes go. `written` is what was written, where the sink tells it; `faults` counts its failed writes, rises at
+/// nothing else, and stands still at 2^64 - 1.
 pub trait Sink {
     ghost written: { Self → Option (List ℕ) };
 
@@ -25,10 +25,11 @@ pub trait Sink {
 /// Writes the whole piece; an empty one without a write.
 ///
 /// # Errors
-/// `Failed` only where the sink's faults rose; a front of the piece was appended then.
+/// `Failed` only where the sink's faults rose; a part of the piece was appended then, and not all of it.
 pub fn write_all<K: Sink>(out: &mut K, piece: &[u8]) -> Result<(), Failed>
     ensures whole { OnOk result (Appends (K.written out.old) (K.written out.new) piece.now) }
-    ensures part { OnErr result (AppendsFront (K.written out.old) (K.written out.new) piece.now) }
+    ensures part { OnErr result (AppendsPart (K.written out.old) (K.written out.new) piece.now) }
+    ensures empty { piece.now ≡ [] → (result ≡ Ok tt) × (out.new ≡ out.old) }
     ensures cause { HasCause (K.faults out.old) (K.faults out.new) result }
 {
     let mut rest = piece;

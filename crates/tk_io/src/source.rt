@@ -8,8 +8,8 @@ ghost use Rattle.tk_io.specs.declared.source.ReadStop.TheVariants.{NoMemory as O
 use crate::{Bytes, Failed, NoMemory};
 use std::alloc::Global;
 
-/// Where bytes come from. `left` is what the source has left, where it tells it; `faults` counts its failed reads,
-/// never falls, and stands still at 2^64 - 1.
+/// Where bytes come from. `left` is what the source has left, where it tells it; `faults` counts its failed reads, rises
+/// at nothing else, and stands still at 2^64 - 1.
 pub trait Source {
     ghost left: { Self → Option (List ℕ) };
 
