@@ -3,6 +3,8 @@ use Rattle.std.proofs.Common.{◌≡◌, ℕ, ◌+◌, ◌<◌, ◌≤◌, List,
 use Rattle.std.proofs.lemmas.Bool.Decides.{nat_tests}
 use Rattle.std.specs.Char.{encode_utf8, IsScalar}
 use Rattle.std.proofs.lemmas.Str.{encode_ascii}
+use Rattle.std.proofs.Math.Logic.{∥∥₁_elim}
+use Rattle.std.specs.Coded.{Coded-set, coded_ℕ, coded_bool, le_prop}
 use Rattle.json_span.specs.Escapes.{BeginsEscape, Stands}
 use Rattle.grammar.specs.Predict.{first}
 use Rattle.json_span.specs.Grammar.{hex, unescaped}
@@ -143,17 +145,51 @@ pair_stands t n l r e f h paired hl g s u x =
     let low : l ≡ two.low = hl two.low two.stands in
     (two.rest, two.content, two.same ∙ ap (λ z. encode_utf8 z ++ two.rest) (sym (g ∙ ap (λ z. joined_pair z l) same ∙ ap (joined_pair k.number) low)))
 
--- what is known of a text that begins an escape of four digits
-pub the_unit : (t : List ℕ) → BeginsEscape t → get_or t 1 0 ≡ 117 → (s : List ℕ) × (u : List ℕ) × IsUnit t s u
-the_unit t (s, u, x, e) f = (s, u, unit_in_escape t s u x e f)
+-- what is known of a text that begins an escape
+short_letter : (x c : ℕ) → short_of x ≡ Some c → x < 128
+short_letter x c e = grind (arith, nat_tests)
 
-pub the_short : (t : List ℕ) → BeginsEscape t → (get_or t 1 0 ≡ 117 → ⊥) → 2 ≤ length t
-the_short t (s, u, x, e) n = (short_in t s u x e n).long
+two_in : (t s u : List ℕ) → Content t s u → get_or t 0 0 ≡ 92 → 2 ≤ length t
+two_in _ _ _ (closes {c} e) h = absurd (not_both c e h)
+two_in _ _ _ (plain {c} e x) h = absurd (not_escape c h e)
+two_in _ _ _ (short b p x) h = omega arith
+two_in _ _ _ (scalar b f p q x) h = omega arith
+two_in _ _ _ (pair b f p q g i r v x) h = omega arith
 
-pub the_pair : (t : List ℕ) (n : ℕ) → BeginsEscape t → get_or t 1 0 ≡ 117 → ((m : ℕ) → unit_in t 2 ≡ Some m → n ≡ m) → is_high n ≡ true → (s : List ℕ) × (u : List ℕ) × (m : ℕ) × IsPair t s u m
-the_pair t n b f h paired =
-    let (s, u, k) = the_unit t b f in
-    (s, u, k.number, k.paired (sym (ap is_high (h k.number k.stands)) ∙ paired))
+pub two_long : (t : List ℕ) → BeginsEscape t → 2 ≤ length t
+two_long t b = ∥∥₁_elim b le_prop (λ (s, u, x, e). two_in t s u x e)
+
+pub letter_small : (t : List ℕ) → BeginsEscape t → (get_or t 1 0 ≡ 117 → ⊥) → get_or t 1 0 < 128
+letter_small t b n = ∥∥₁_elim b le_prop (λ (s, u, x, e). let k = short_in t s u x e n in short_letter (get_or t 1 0) k.character k.stands)
+
+pub begins_escape : (t : List ℕ) → BeginsEscape t → get_or t 0 0 ≡ 92
+begins_escape t b = ∥∥₁_elim b (Coded-set coded_ℕ (get_or t 0 0) 92) (λ (s, u, x, e). e)
+
+pub unit_long : (t : List ℕ) → BeginsEscape t → get_or t 1 0 ≡ 117 → 6 ≤ length t
+unit_long t b f = ∥∥₁_elim b le_prop (λ (s, u, x, e). (unit_in_escape t s u x e f).long)
+
+pub fourth_small : (t : List ℕ) → BeginsEscape t → get_or t 1 0 ≡ 117 → get_or t 5 0 < 128
+fourth_small t b f = ∥∥₁_elim b le_prop (λ (s, u, x, e).
+    let k = unit_in_escape t s u x e f in
+    fourth_ascii (get_or t 2 0) (get_or t 3 0) (get_or t 4 0) (get_or t 5 0) k.number k.stands)
+
+-- of two escapes, where the first one's number is that of a high surrogate
+module _ (t : List ℕ) (n : ℕ) (b : BeginsEscape t) (f : get_or t 1 0 ≡ 117) (h : (m : ℕ) → unit_in t 2 ≡ Some m → n ≡ m) (paired : is_high n ≡ true) where
+  pair_of : {s u : List ℕ} → (k : IsUnit t s u) → IsPair t s u k.number
+  pair_of k = k.paired (sym (ap is_high (h k.number k.stands)) ∙ paired)
+
+  pub pair_long : 12 ≤ length t
+  pair_long = ∥∥₁_elim b le_prop (λ (s, u, x, e). (pair_of (unit_in_escape t s u x e f)).long)
+
+  pub low_small : get_or t 11 0 < 128
+  low_small = ∥∥₁_elim b le_prop (λ (s, u, x, e).
+      let p = pair_of (unit_in_escape t s u x e f) in
+      fourth_ascii (get_or t 8 0) (get_or t 9 0) (get_or t 10 0) (get_or t 11 0) p.low p.stands)
+
+  pub low_is_low : (low : ℕ) → ((m : ℕ) → unit_in t 8 ≡ Some m → low ≡ m) → is_low low ≡ true
+  low_is_low low g = ∥∥₁_elim b (Coded-set coded_bool (is_low low) true) (λ (s, u, x, e).
+      let p = pair_of (unit_in_escape t s u x e f) in
+      ap is_low (g p.low p.stands) ∙ p.is_low_one)
 
 pub scalar_joined : (h l : ℕ) → is_high h ≡ true → is_low l ≡ true → IsScalar (joined_pair h l)
 scalar_joined h l p q = scalar_pair h l p q

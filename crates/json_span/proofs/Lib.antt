@@ -9,7 +9,6 @@ pub mod Views
 pub mod EscapeFacts
 pub mod Shorts
 pub mod Contents
-pub mod SameContents
 pub mod Boundaries
 pub mod Strings
 pub mod Exists
@@ -17,6 +16,7 @@ pub mod Scalars
 pub mod Begins
 pub mod Lists
 pub mod MemberLists
+pub mod Spans
 pub mod Gives
 pub mod Rfc
 pub mod Refusal
@@ -34,3 +34,6 @@ pub mod SaidCut
 pub mod Composing
 pub mod Insides
 pub mod Unders
+pub mod Lying
+pub mod Fitting
+pub mod Matching

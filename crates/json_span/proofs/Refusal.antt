@@ -1,5 +1,5 @@
 -- Where the reader stops, the text has no reading, and its longest front ends.
-use Rattle.std.proofs.Common.{◌≡◌, ℕ, ◌<◌, ◌≤◌, List, length, drop, refl, sym, ap, ◌∙◌, subst, inl, inr}
+use Rattle.std.proofs.Common.{◌≡◌, ℕ, ◌<◌, ◌≤◌, List, [], length, drop, refl, ap, ◌∙◌, subst, inl, inr}
 use Rattle.std.proofs.lemmas.List.{drop_all}
 use Rattle.grammar.specs.Grammar.{named, Reads}
 use Rattle.grammar.specs.Predict.{on_both, at_first, at_second}
@@ -12,11 +12,12 @@ use Rattle.json_span.specs.Steered.{rules, ahead, json}
 use Rattle.json_span.specs.Tree.{Placed}
 use Rattle.json_span.specs.Reading.{Value, Shows}
 use Rattle.json_span.specs.Scan.{Reaches, Halts}
-use Rattle.json_span.specs.Flaw.{first_flaw}
-use Rattle.json_span.specs.View.{node_view}
-use Rattle.json_span.specs.Building.{Gives, end_of_built, flaw_view}
-use Rattle.json_span.specs.Answer.{IsAnswer, IsRefusal, fault_of, shows, flawed, stops}
-use Rattle.json_span.specs.declared.tree.Node.{Node}
+use Rattle.json_span.specs.Skipping.{StopsAt}
+use Rattle.json_span.specs.declared.stop.Stop.{Stop}
+use Rattle.json_span.specs.declared.stop.Stop.TheVariants as stopped
+use Rattle.json_span.specs.declared.table.Span.{Span}
+use Rattle.json_span.specs.Building.{Gives, IsTableOf, end_of_built, flaw_view}
+use Rattle.json_span.specs.Answer.{IsAnswer, IsRefusal, fault_of, fault_of_stop, flawed, stops}
 use Rattle.json_span.specs.declared.build.Built.{Built}
 use Rattle.json_span.specs.declared.build.Built.TheVariants.{Whole, Flawed}
 use Rattle.json_span.specs.declared.build.Flaw as declared
@@ -32,8 +33,12 @@ refused text (Dup start end) h = h
 refused text (Deep start end) h = h
 
 module _ (text : List ℕ) (start : ℕ) (b : Reaches ws text 0 start) where
-  pub bad_value : (stop : ℕ) → Halts (named value) text start stop → Refuses grammar json_text text stop
+  bad_value : (stop : ℕ) → Halts (named value) text start stop → Refuses grammar json_text text stop
   bad_value stop x = refusal text stop (x.within_text, inl (at_second b.steers (at_first x.stuck)))
+
+  pub no_value : (s : Stop) → StopsAt (named value) text start s → IsRefusal text (fault_of_stop s)
+  no_value (stopped.Syntax stop) x = bad_value stop x
+  no_value stopped.NoMemory x = tt
 
   pub more_behind : (end last : ℕ) → Reaches (named value) text start end → Reaches ws text end last → last < length text → Refuses grammar json_text text last
   more_behind end last v c lt = refusal text last (c.within_text, inr (on_both b.steers (on_both v.steers c.steers), lt))
@@ -47,18 +52,17 @@ module _ (text : List ℕ) (start : ℕ) (b : Reaches ws text 0 start) where
     subst (Reads rules ws (drop end text)) (drop_all last text le) (reads rules ahead honest_json c.steers),
   )
 
-  pub whole_answer : (built : Built) (n : Node) (end last : ℕ) → built ≡ Whole n → Gives text start 64 built → end ≡ end_of_built built → Reaches ws text end last → length text ≤ last → IsAnswer text (shows (node_view n))
-  whole_answer built n end last e g h c le =
-      let w = subst (Gives text start 64) e g in
+  pub whole_answer : (nodes : List Span) (built : Built) (close end last : ℕ) → built ≡ Whole close → Gives text start 64 0 0 [] nodes built → end ≡ end_of_built built → Reaches ws text end last → length text ≤ last → IsTableOf text nodes
+  whole_answer nodes built close end last e g h c le =
+      let w = subst (Gives text start 64 0 0 [] nodes) e g in
       let c2 = subst (λ z. Reaches ws text z last) (h ∙ ap end_of_built e) c in
-      let v = subst (λ z. Value (length text) (drop start text) z (drop n.end text)) (sym w.kept) w.value in
-      (shown n.end last (node_view n) v c2 le, ap first_flaw w.kept ∙ w.flaw)
+      (w.tree, (shown close last w.tree w.value c2 le, w.flaw), w.kept.0)
 
-  pub flawed_answer : (built : Built) (f : declared.Flaw) (last_of end last : ℕ) → built ≡ Flawed f last_of → Gives text start 64 built → end ≡ end_of_built built → Reaches ws text end last → length text ≤ last → IsRefusal text (fault_of f)
-  flawed_answer built f last_of end last e g h c le =
-      let w = subst (Gives text start 64) e g in
+  pub flawed_answer : (nodes : List Span) (built : Built) (f : declared.Flaw) (last_of end last : ℕ) → built ≡ Flawed f last_of → Gives text start 64 0 0 [] nodes built → end ≡ end_of_built built → Reaches ws text end last → length text ≤ last → IsRefusal text (fault_of f)
+  flawed_answer nodes built f last_of end last e g h c le =
+      let w = subst (Gives text start 64 0 0 [] nodes) e g in
       let c2 = subst (λ z. Reaches ws text z last) (h ∙ ap end_of_built e) c in
       refused text f (w.tree, shown last_of last w.tree w.value c2 le, w.flaw)
 
-  pub more_answer : (built : Built) (end last : ℕ) → Gives text start 64 built → end ≡ end_of_built built → Reaches ws text end last → last < length text → IsAnswer text (stops last)
-  more_answer built end last g h c lt = more_behind (end_of_built built) last g.reads (subst (λ z. Reaches ws text z last) h c) lt
+  pub more_answer : (nodes : List Span) (built : Built) (end last : ℕ) → Gives text start 64 0 0 [] nodes built → end ≡ end_of_built built → Reaches ws text end last → last < length text → IsAnswer text (stops last)
+  more_answer nodes built end last g h c lt = more_behind (end_of_built built) last g.reads (subst (λ z. Reaches ws text z last) h c) lt

@@ -17,7 +17,8 @@ use Rattle.json_span.specs.Grammar.{unescaped, char, one, string}
 use Rattle.json_span.specs.Steered.{rules, table, ahead}
 use Rattle.json_span.specs.Characters.{Content, closes, plain, short, scalar, pair}
 use Rattle.json_span.specs.Reading.{StringAt}
-use Rattle.json_span.specs.Escapes.{Stands}
+use Rattle.std.proofs.Math.Logic.{∥∥₁_elim, ∥∥₁_prop}
+use Rattle.json_span.specs.Escapes.{HasContent, BeginsEscape, Stands}
 use Rattle.json_span.specs.Scan.{Reaches, Halts}
 use Rattle.json_span.specs.declared.bytes.Class.TheVariants.{One}
 use Rattle.json_span.proofs.Steered.{honest_json}
@@ -164,6 +165,16 @@ ends_here _ _ _ (pair {e = b} e h p q i j r v x) f g = absurd (is_other b e g)
 -- a slice up to the end of the text
 pub rest_slice : (text bytes : List ℕ) (at : ℕ) → bytes ≡ text → take (length bytes - at) (drop at bytes) ≡ drop at text
 rest_slice text bytes at e = take_rest bytes at ∙ ap (drop at) e
+
+-- behind a run of plain bytes a backslash begins an escape
+pub escape_begins : (text bytes : List ℕ) (from at stop : ℕ) → bytes ≡ text → HasContent (drop from text) → ((s u : List ℕ) → Content (drop from text) s u → (rest : List ℕ) × Content (drop at text) rest u) → Reaches (many unescaped) text at stop → scan.Sees text (within 92 92) stop true →
+    BeginsEscape (take (length bytes - stop) (drop stop bytes))
+escape_begins text bytes from at stop e has left x sees = ∥∥₁_elim has ∥∥₁_prop (λ (s, u, k).
+    let (rest, k1) = left s u k in
+    let (rest2, k2, e2) = plain_takes text at stop x rest u k1 in
+    let lt : stop < length text = content_within text rest2 u stop k2 in
+    let first_ : get_or (drop stop text) 0 0 ≡ 92 = ap (λ z. get_or z 0 0) (byte_at text 92 stop lt sees) in
+    rw (rest_slice text bytes stop e) (∣ (rest2, u, k2, first_) ∣₁))
 
 pub bytes_reach : (text bytes : List ℕ) (at end : ℕ) → bytes ≡ text → ((i : ℕ) → get_or text i 0 < 256) → end ≡ at + prefix_len (λ x. not (is_special x)) (drop at bytes) → end ≤ length bytes → Reaches (many unescaped) text at end
 bytes_reach text bytes at end e small first_ within_ = reach_plain text at end small (first_ ∙ ap (λ z. at + prefix_len (λ x. not (is_special x)) (drop at z)) e) (subst (λ z. end ≤ length z) e within_)

@@ -7,6 +7,8 @@ use Rattle.json_span.specs.Reading.{Shows}
 use Rattle.json_span.specs.Flaw.{Flaw, equal_names, too_deep, first_flaw}
 use Rattle.json_span.specs.declared.build.Flaw as declared
 use Rattle.json_span.specs.declared.build.Flaw.TheVariants as found
+use Rattle.json_span.specs.declared.stop.Stop.{Stop}
+use Rattle.json_span.specs.declared.stop.Stop.TheVariants as stopped
 use Rattle.json_span.specs.declared.reader.JsonFault.{JsonFault}
 use Rattle.json_span.specs.declared.reader.JsonFault.TheVariants.{Syntax, Dup, Deep, NoMemory}
 
@@ -33,3 +35,7 @@ IsRefusal text NoMemory = Unit {0}
 abbrev pub fault_of : declared.Flaw → JsonFault
 fault_of (found.Dup start end) = Dup start end
 fault_of (found.Deep start end) = Deep start end
+
+abbrev pub fault_of_stop : Stop → JsonFault
+fault_of_stop (stopped.Syntax at) = Syntax at
+fault_of_stop stopped.NoMemory = NoMemory

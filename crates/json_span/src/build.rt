@@ -5,22 +5,20 @@ ghost use Rattle.grammar.specs.Grammar.{named};
 ghost use Rattle.grammar.specs.Predict.{begins, first};
 ghost use Rattle.json_span.specs.Grammar.{value};
 ghost use Rattle.json_span.specs.Steered.{ahead, list_of, square, curly};
-ghost use Rattle.json_span.specs.Kinds.{bracket_of, rule_of_scalar};
+ghost use Rattle.json_span.specs.Kinds.{bracket_of};
 ghost use Rattle.json_span.specs.Scan.{Reaches};
 ghost use Rattle.json_span.specs.Skipping.{StopsAt};
-ghost use Rattle.json_span.specs.View.{json_view};
-ghost use Rattle.json_span.specs.Building.{IsScalarValue, GoesOn, Gives, Opens, HaltsBehind, empty_tree, end_of_built};
+ghost use Rattle.json_span.specs.Building.{GoesOn, Gives, Opens, HaltsBehind, IsSmall, end_of_built};
 
 use crate::bytes::{Class, has, row_end};
-use crate::kind::{Bracket, Kind, Scalar, kind_at};
+use crate::kind::{Bracket, Kind, kind_at};
 use crate::scan::{blanks_end, number_end};
 use crate::skip::{colon_end, list_end, scalar_end, value_end};
 use crate::stop::Stop;
+use crate::table::Span;
 use crate::text::read_string;
-use crate::tree::{Field, Fields, Items, Json, Node};
 use std::alloc::Global;
 use std::collections::BTreeSet;
-use tk_io::Text;
 
 /// A flaw of a text that the grammar reads, with the offsets of a name's string or of a bracket.
 #[derive(Clone, Copy, Debug)]
@@ -32,20 +30,20 @@ pub(crate) enum Flaw {
 }
 
 /// A value that was read to its end.
-#[derive(Drop)]
-pub(crate) enum Built<'s> {
-    Whole(Node<'s>),
+#[derive(Clone, Copy, Debug)]
+pub(crate) enum Built {
+    Whole(usize),
     /// The first flaw in it, and its end.
     Flawed(Flaw, usize),
 }
 
-impl<'s> Built<'s> {
+impl Built {
     /// The offset behind the value.
     pub(crate) fn end(&self) -> usize
         ensures { result ≡ end_of_built self.now }
     {
         match self {
-            Built::Whole(node) => node.end,
+            Built::Whole(end) => *end,
             Built::Flawed(_, end) => *end,
         }
     }
@@ -58,55 +56,6 @@ enum Next {
     Item(usize),
     /// Behind the bracket that closes the list.
     Closed(usize),
-}
-
-/// A value, and the offset behind it.
-#[derive(Drop)]
-struct Plain<'s> {
-    value: Json<'s>,
-    end: usize,
-}
-
-// The value that holds no others.
-fn read_scalar<'s>(
-    alloc: Global,
-    text: &'s str,
-    at: usize,
-    scalar: Scalar,
-) -> Result<Plain<'s>, Stop>
-    requires within { at ≤ length text.now }
-    requires begins { begins (first ahead (rule_of_scalar scalar)) (drop at text.now) ≡ true }
-    ensures ok { IfOk result (λ r. IsScalarValue scalar text.entry.now at r.value r.end) }
-    ensures stop { IfErr result (λ e. StopsAt (rule_of_scalar scalar) text.entry.now at e) }
-{
-    match scalar {
-        Scalar::False => Ok(Plain {
-            end: scalar_end(text, at, scalar)?,
-            value: Json::Bool(false),
-        }),
-        Scalar::Null => Ok(Plain {
-            end: scalar_end(text, at, scalar)?,
-            value: Json::Null,
-        }),
-        Scalar::True => Ok(Plain {
-            end: scalar_end(text, at, scalar)?,
-            value: Json::Bool(true),
-        }),
-        Scalar::Number => {
-            let end = number_end(text, at)?;
-            Ok(Plain {
-                value: Json::number(&text[at..end]),
-                end,
-            })
-        }
-        Scalar::String => {
-            let quoted = read_string(alloc, text, at)?;
-            Ok(Plain {
-                end: quoted.end,
-                value: Json::string(quoted.text),
-            })
-        }
-    }
 }
 
 // Reads on behind a value of a list.
@@ -125,43 +74,57 @@ fn next_of(text: &str, at: usize, bracket: Bracket) -> Result<Next, usize>
 
 /// Builds the value that stands there; `room` says how many brackets may open in it.
 #[cycle(value)]
-pub(crate) fn build_value<'s>(
+pub(crate) fn build_value(
     alloc: Global,
-    text: &'s str,
+    text: &str,
     at: usize,
     room: u32,
-) -> Result<Built<'s>, Stop>
-    requires { at ≤ length text.now }
-    ensures ok { IfOk result (λ b. Gives text.entry.now at room b) }
-    ensures stop { IfErr result (λ e. StopsAt (named value) text.entry.now at e) }
+    name: u32,
+    name_end: u32,
+    nodes: &mut Vec<Span>,
+) -> Result<Built, Stop>
+    requires within { at ≤ length text.now }
+    requires small { IsSmall text.now at nodes.old.items }
+    ensures ok { IfOk result (λ b. Gives text.now at room name name_end nodes.old.items nodes.new.items b) }
+    ensures stop { IfErr result (λ e. StopsAt (named value) text.now at e) }
 {
     match kind_at(text, at) {
         Some(Kind::Scalar(scalar)) => {
-            let plain = read_scalar(alloc, text, at, scalar)?;
-            Ok(Built::Whole(Node {
-                value: plain.value,
-                start: at,
-                end: plain.end,
-            }))
+            let end = scalar_end(text, at, scalar)?;
+            let next = (nodes.len() + 1) as u32;
+            nodes.push(Span {
+                name,
+                name_end,
+                start: at as u32,
+                end: end as u32,
+                next,
+            })?;
+            Ok(Built::Whole(end))
         }
-        Some(Kind::List(bracket)) => build_list(alloc, text, at, bracket, room),
+        Some(Kind::List(bracket)) => {
+            build_list(alloc, text, at, bracket, room, name, name_end, nodes)
+        }
         None => Err(Stop::Syntax(at)),
     }
 }
 
 // Builds a list.
 #[cycle(value)]
-fn build_list<'s>(
+fn build_list(
     alloc: Global,
-    text: &'s str,
+    text: &str,
     at: usize,
     bracket: Bracket,
     room: u32,
-) -> Result<Built<'s>, Stop>
+    name: u32,
+    name_end: u32,
+    nodes: &mut Vec<Span>,
+) -> Result<Built, Stop>
     requires within { at < length text.now }
     requires opens { begins (first ahead (list_of (bracket_of bracket))) (drop at text.now) ≡ true }
-    ensures ok { IfOk result (λ b. Gives text.entry.now at room b) }
-    ensures stop { IfErr result (λ e. StopsAt (named value) text.entry.now at e) }
+    requires small { IsSmall text.now at nodes.old.items }
+    ensures ok { IfOk result (λ b. Gives text.now at room name name_end nodes.old.items nodes.new.items b) }
+    ensures stop { IfErr result (λ e. StopsAt (named value) text.now at e) }
 {
     if room == 0 {
         let end = value_end(alloc, text, at)?;
@@ -169,61 +132,69 @@ fn build_list<'s>(
     }
     let inner = blanks_end(text, at + 1);
     if has(text, inner, bracket.close()) {
-        return Ok(Built::Whole(Node {
-            value: empty_list(alloc, bracket),
-            start: at,
-            end: inner + 1,
-        }));
+        let end = inner + 1;
+        let next = (nodes.len() + 1) as u32;
+        nodes.push(Span {
+            name,
+            name_end,
+            start: at as u32,
+            end: end as u32,
+            next,
+        })?;
+        return Ok(Built::Whole(end));
     }
     match bracket {
-        Bracket::Square => build_array(alloc, text, at, inner, room - 1),
-        Bracket::Curly => build_object(alloc, text, at, inner, room - 1),
-    }
-}
-
-// A list of no values.
-fn empty_list<'s>(alloc: Global, bracket: Bracket) -> Json<'s>
-    ensures { json_view result ≡ empty_tree (bracket_of bracket) }
-{
-    match bracket {
-        Bracket::Square => Json::array(Items::new(alloc)),
-        Bracket::Curly => Json::object(Fields::new(alloc)),
+        Bracket::Square => { build_array(alloc, text, at, inner, room - 1, name, name_end, nodes) }
+        Bracket::Curly => { build_object(alloc, text, at, inner, room - 1, name, name_end, nodes) }
     }
 }
 
 // Builds an array of one element or more, the first of which begins at `inner`.
 #[cycle(value)]
-fn build_array<'s>(
+fn build_array(
     alloc: Global,
-    text: &'s str,
+    text: &str,
     at: usize,
     inner: usize,
     room: u32,
-) -> Result<Built<'s>, Stop>
-    requires { Opens square text.now at inner }
-    ensures ok { IfOk result (λ b. Gives text.entry.now at (room + 1) b) }
-    ensures stop { IfErr result (λ e. StopsAt (named value) text.entry.now at e) }
+    name: u32,
+    name_end: u32,
+    nodes: &mut Vec<Span>,
+) -> Result<Built, Stop>
+    requires opens { Opens square text.now at inner }
+    requires small { IsSmall text.now at nodes.old.items }
+    ensures ok { IfOk result (λ b. Gives text.now at (room + 1) name name_end nodes.old.items nodes.new.items b) }
+    ensures stop { IfErr result (λ e. StopsAt (named value) text.now at e) }
 {
-    let mut items = Items::new(alloc);
+    let index = nodes.len();
+    nodes.push(Span {
+        name,
+        name_end,
+        start: at as u32,
+        end: 0,
+        next: 0,
+    })?;
     let mut next = inner;
     loop {
-        let node = match build_value(alloc, text, next, room)? {
-            Built::Whole(node) => node,
+        let behind = match build_value(alloc, text, next, room, 0, 0, nodes)? {
+            Built::Whole(end) => end,
             Built::Flawed(flaw, end) => {
                 let end = list_end(alloc, text, end, Bracket::Square)?;
                 return Ok(Built::Flawed(flaw, end));
             }
         };
-        let behind = node.end;
-        items.push(node)?;
         match next_of(text, behind, Bracket::Square)? {
             Next::Item(item) => next = item,
             Next::Closed(end) => {
-                return Ok(Built::Whole(Node {
-                    value: Json::array(items),
-                    start: at,
-                    end,
-                }));
+                let last = nodes.len() as u32;
+                nodes[index] = Span {
+                    name,
+                    name_end,
+                    start: at as u32,
+                    end: end as u32,
+                    next: last,
+                };
+                return Ok(Built::Whole(end));
             }
         }
     }
@@ -231,50 +202,67 @@ fn build_array<'s>(
 
 // Builds an object of one member or more, the first of which begins at `inner`.
 #[cycle(value)]
-fn build_object<'s>(
+fn build_object(
     alloc: Global,
-    text: &'s str,
+    text: &str,
     at: usize,
     inner: usize,
     room: u32,
-) -> Result<Built<'s>, Stop>
-    requires { Opens curly text.now at inner }
-    ensures ok { IfOk result (λ b. Gives text.entry.now at (room + 1) b) }
-    ensures stop { IfErr result (λ e. StopsAt (named value) text.entry.now at e) }
+    name: u32,
+    name_end: u32,
+    nodes: &mut Vec<Span>,
+) -> Result<Built, Stop>
+    requires opens { Opens curly text.now at inner }
+    requires small { IsSmall text.now at nodes.old.items }
+    ensures ok { IfOk result (λ b. Gives text.now at (room + 1) name name_end nodes.old.items nodes.new.items b) }
+    ensures stop { IfErr result (λ e. StopsAt (named value) text.now at e) }
 {
-    let mut fields = Fields::new(alloc);
+    let index = nodes.len();
+    nodes.push(Span {
+        name,
+        name_end,
+        start: at as u32,
+        end: 0,
+        next: 0,
+    })?;
     let mut names = BTreeSet::new(alloc);
     let mut next = inner;
     loop {
-        let name = read_string(alloc, text, next)?;
-        let value = colon_end(text, name.end)?;
-        if !names.insert(name.text.copy()?)? {
+        let own = read_string(alloc, text, next)?;
+        let own_end = own.end;
+        let value = colon_end(text, own_end)?;
+        if !names.insert(own.text)? {
             let end = value_end(alloc, text, value)?;
             let end = list_end(alloc, text, end, Bracket::Curly)?;
-            return Ok(Built::Flawed(Flaw::Dup(next, name.end), end));
+            return Ok(Built::Flawed(Flaw::Dup(next, own_end), end));
         }
-        let node = match build_value(alloc, text, value, room)? {
-            Built::Whole(node) => node,
+        let behind = match build_value(
+            alloc,
+            text,
+            value,
+            room,
+            next as u32,
+            own_end as u32,
+            nodes,
+        )? {
+            Built::Whole(end) => end,
             Built::Flawed(flaw, end) => {
                 let end = list_end(alloc, text, end, Bracket::Curly)?;
                 return Ok(Built::Flawed(flaw, end));
             }
         };
-        let behind = node.end;
-        fields.push(Field {
-            name: name.text,
-            start: next,
-            end: name.end,
-            node,
-        })?;
         match next_of(text, behind, Bracket::Curly)? {
             Next::Item(item) => next = item,
             Next::Closed(end) => {
-                return Ok(Built::Whole(Node {
-                    value: Json::object(fields),
-                    start: at,
-                    end,
-                }));
+                let last = nodes.len() as u32;
+                nodes[index] = Span {
+                    name,
+                    name_end,
+                    start: at as u32,
+                    end: end as u32,
+                    next: last,
+                };
+                return Ok(Built::Whole(end));
             }
         }
     }

@@ -3,7 +3,6 @@
 ghost use Rattle.std.specs.Prelude.{◌≡◌, [], ◌∷◌, ◌++◌, length, slice_get, option_map, OnOk, OnErr};
 ghost use Rattle.json_span.specs.PlainView.{plain_view, plain_field_view, plain_items_view, plain_fields_view};
 
-use crate::tree::item_at;
 use std::alloc::Global;
 use tk_io::{NoMemory, Text};
 
@@ -39,6 +38,13 @@ pub struct PlainFields<'s> {
 pub struct PlainField<'s> {
     pub name: Text<'s>,
     pub value: Plain<'s>,
+}
+
+// The i-th of some items.
+fn item_at<T>(items: &[T], i: usize) -> Option<&T>
+    ensures { option_map (λ x. x.now) result ≡ slice_get items.now i }
+{
+    items.get(i)
 }
 
 impl<'s> PlainItems<'s> {

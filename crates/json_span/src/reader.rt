@@ -1,16 +1,19 @@
 //! Reading a JSON text.
 
-ghost use Rattle.std.specs.Prelude.{◌≡◌, ◌+◌, IfOk, IfErr};
+ghost use Rattle.std.specs.Prelude.{◌≡◌, ◌+◌, ◌<◌, ◌^◌, length, IfOk, IfErr};
 ghost use Rattle.json_span.specs.Tree.{Placed};
 ghost use Rattle.json_span.specs.Reading.{Shows};
 ghost use Rattle.json_span.specs.View.{node_view};
 ghost use Rattle.json_span.specs.Answer.{IsAnswer, IsRefusal, fault_of, shows};
+ghost use Rattle.json_span.specs.Building.{IsTableOf};
 
 use crate::build::{Built, Flaw, build_value};
+use crate::node::Node;
 use crate::scan::blanks_end;
 use crate::stop::Stop;
-use crate::tree::Node;
+use crate::table::{Document, Span};
 use std::alloc::Global;
+use std::rc::Rc;
 use std::sync::ledger::Ledger;
 use tk_io::Steps;
 
@@ -26,8 +29,24 @@ pub enum JsonFault {
     NoMemory,
 }
 
+impl From<Stop> for JsonFault {
+    ghost use Rattle.json_span.specs.Answer.{fault_of_stop};
+
+    ghost from_gives = { λ s e. e ≡ fault_of_stop s };
+
+    fn from(stop: Stop) -> JsonFault {
+        match stop {
+            Stop::Syntax(at) => JsonFault::Syntax(at),
+            Stop::NoMemory => JsonFault::NoMemory,
+        }
+    }
+}
+
 /// How many brackets may be open at once.
 const MOST_OPEN: u32 = 64;
+
+/// How long a text may be whose offsets are counted in 32 bits.
+const LONGEST: usize = u32::MAX as usize;
 
 fn fault_of(flaw: Flaw) -> JsonFault
     ensures { result ≡ fault_of flaw }
@@ -38,24 +57,44 @@ fn fault_of(flaw: Flaw) -> JsonFault
     }
 }
 
-fn read_text<'s>(alloc: Global, text: &'s str) -> Result<Node<'s>, JsonFault>
+// The value whose table this is.
+fn root<'s>(alloc: Global, text: &'s str, nodes: Vec<Span>) -> Result<Node<'s>, JsonFault>
+    requires { IsTableOf text.now nodes.items }
+    ensures found { IfOk result (λ n. IsAnswer text.entry.now (shows (node_view n))) }
+    ensures refused { IfErr result (λ e. IsRefusal text.entry.now e) }
+{
+    match Rc::new(alloc, Document { text, nodes }) {
+        Ok(document) => Ok(Node::new(document, 0)),
+        Err(_) => Err(JsonFault::NoMemory),
+    }
+}
+
+fn read_short<'s>(alloc: Global, text: &'s str) -> Result<Node<'s>, JsonFault>
+    requires { length text.now < 2 ^ 32 }
     ensures found { IfOk result (λ n. IsAnswer text.entry.now (shows (node_view n))) }
     ensures refused { IfErr result (λ e. IsRefusal text.entry.now e) }
 {
     let start = blanks_end(text, 0);
-    let built = match build_value(alloc, text, start, MOST_OPEN) {
-        Ok(built) => built,
-        Err(Stop::Syntax(at)) => return Err(JsonFault::Syntax(at)),
-        Err(Stop::NoMemory) => return Err(JsonFault::NoMemory),
-    };
+    let mut nodes = Vec::new(alloc);
+    let built = build_value(alloc, text, start, MOST_OPEN, 0, 0, &mut nodes)?;
     let last = blanks_end(text, built.end());
     if last < text.len() {
         return Err(JsonFault::Syntax(last));
     }
     match built {
-        Built::Whole(node) => Ok(node),
+        Built::Whole(_) => root(alloc, text, nodes),
         Built::Flawed(flaw, _) => Err(fault_of(flaw)),
     }
+}
+
+fn read_text<'s>(alloc: Global, text: &'s str) -> Result<Node<'s>, JsonFault>
+    ensures found { IfOk result (λ n. IsAnswer text.entry.now (shows (node_view n))) }
+    ensures refused { IfErr result (λ e. IsRefusal text.entry.now e) }
+{
+    if text.len() > LONGEST {
+        return Err(JsonFault::NoMemory);
+    }
+    read_short(alloc, text)
 }
 
 /// The one value that the text shows (RFC 8259), each part at the slice from its first to its last byte. It is one
@@ -65,7 +104,7 @@ fn read_text<'s>(alloc: Global, text: &'s str) -> Result<Node<'s>, JsonFault>
 ///
 /// [`JsonFault::Syntax`] exactly where the grammar does not read the text. Of a text that it reads, [`JsonFault::Dup`]
 /// or [`JsonFault::Deep`], whichever stands first: names of one object must differ once their escapes are read, and at
-/// most 64 brackets may be open at once.
+/// most 64 brackets may be open at once. [`JsonFault::NoMemory`], also for a text of 4 GiB or more.
 pub fn read<'s, L: Ledger>(
     alloc: Global,
     text: &'s str,

@@ -1,13 +1,8 @@
-use Rattle.std.proofs.Common.{◌≡◌, [], true, false, sym, ap, ◌∙◌, subst, arith, rules, Ok, not}
+use Rattle.std.proofs.Common.{[], true, false, refl, sym, subst, arith, rules, Ok}
 use Rattle.std.proofs.lemmas.Result.{err_from_is_err_and}
-use Rattle.std.specs.BTreeSet.{contains, Updates}
-use Rattle.tk_io.specs.Order.{text_cmp}
-use Rattle.json_span.specs.Tree.{Entry}
-use Rattle.json_span.specs.ListsLeft.{HasNames}
 use Rattle.json_span.specs.Steered.{square, curly}
 use Rattle.json_span.specs.Kinds.{bracket_of}
 use Rattle.json_span.specs.Scan.{rule_of}
-use Rattle.json_span.specs.View.{items_view, fields_view, node_view}
 use Rattle.json_span.specs.Building.{Opens, Gives, GoesOn}
 use Rattle.json_span.specs.declared.kind.Bracket.TheVariants.{Square, Curly}
 use Rattle.json_span.specs.declared.kind.Kind.TheVariants.{Scalar}
@@ -19,136 +14,139 @@ use Rattle.json_span.proofs.MemberLists as members
 use Rattle.json_span.proofs.Gives as gives
 use Rattle.json_span.proofs.build.+value.Goals as goal
 
-pub build_array-loop-items-init : goal.build_array-loop-items-init
-build_array-loop-items-init t c = record {
-  within = c.requires.1.1.blanks.within_text;
-  leads = list.open_leads c.args.text.now Square c.args.at c.args.inner c.requires.1.1;
-  elements = rw c.new-items.ensures (list.elements_start c.args.text.now c.args.room c.args.inner);
+pub build_array-loop-end-init : goal.build_array-loop-end-init
+build_array-loop-end-init t c = record {
+  within = c.requires.1.1.0.blanks.within_text;
+  leads = list.open_leads c.args.text.now Square c.args.at c.args.inner c.requires.1.1.0;
+  elements = record { items = []; left = list.elements_start c.args.text.now c.args.room c.args.inner; made = c.in_ok-push.ensures.items };
+  index = search rules;
+  small = gives.opened_small c.args.text.now c.args.at c.args.inner c.args.nodes.now.items _ _ c.requires.1.1.1 c.requires.1.1.0.blanks c.in_ok-push.ensures.items;
 }
 
-pub build_array-returns-in_err-node-clause-stop : goal.build_array-returns-in_err-node-clause-stop
-build_array-returns-in_err-node-clause-stop t c =
+pub build_array-returns-in_err-end-clause-stop : goal.build_array-returns-in_err-end-clause-stop
+build_array-returns-in_err-end-clause-stop t c =
     let T = c.args.text.now in
-    let l = c.loop-items in
+    let l = c.loop-end in
     let nothing = skip.reach_nothing T l.next l.invariant.within in
-    let p = err_from_is_err_and c.from_residual.result c.from_residual.ensures.1 in
-    rw (p.1, p.2) (list.bad_value T square c.args.at l.next l.invariant.leads l.next c.in_err-node.field-0.0 nothing c.in_err-node.ensures.stop)
+    let p = err_from_is_err_and c.from_residual-in_err-end.result c.from_residual-in_err-end.ensures.1 in
+    rw (p.1, p.2) (list.bad_value T square c.args.at l.next l.invariant.leads l.next c.in_err-end.field-0.0 nothing c.in_err-end.ensures.stop)
 
 pub build_array-returns-in_err-end-in-Flawed-clause-stop : goal.build_array-returns-in_err-end-in-Flawed-clause-stop
 build_array-returns-in_err-end-in-Flawed-clause-stop t c =
     let T = c.args.text.now in
-    let l = c.loop-items in
+    let l = c.loop-end in
     let nothing = skip.reach_nothing T l.next l.invariant.within in
-    let b = subst (Gives T l.next c.args.room) c.in-Flawed.is c.in_ok-node.ensures.ok in
+    let b = subst (Gives T l.next c.args.room 0 0 l.nodes.items c.build_value.new.nodes.items) c.in-Flawed.is c.in_ok-end.ensures.ok in
     let p = err_from_is_err_and c.from_residual-in_err-end-in-Flawed.result c.from_residual-in_err-end-in-Flawed.ensures.1 in
     rw (p.1, p.2) (list.bad_rest T square c.args.at l.next l.invariant.leads l.next c.in-Flawed.end c.in_err-end-in-Flawed.field-0.0 nothing b.reads c.in_err-end-in-Flawed.ensures.stop)
 
 pub build_array-returns-in-Flawed-clause-ok : goal.build_array-returns-in-Flawed-clause-ok
 build_array-returns-in-Flawed-clause-ok t c =
     let T = c.args.text.now in
-    let l = c.loop-items in
+    let l = c.loop-end in
     let nothing = skip.reach_nothing T l.next l.invariant.within in
-    let b = subst (Gives T l.next c.args.room) c.in-Flawed.is c.in_ok-node.ensures.ok in
-    gives.array_flawed T c.args.at c.args.inner c.args.room c.requires.1.1 l.next l.invariant.leads (items_view l.items) l.invariant.elements l.invariant.within c.in-Flawed.flaw c.in-Flawed.end c.in_ok-end-in-Flawed.end b c.in_ok-end-in-Flawed.ensures.end
+    let b = subst (Gives T l.next c.args.room 0 0 l.nodes.items c.build_value.new.nodes.items) c.in-Flawed.is c.in_ok-end.ensures.ok in
+    gives.array_flawed T c.args.at c.args.inner c.args.room c.args.name c.args.name_end c.args.nodes.now.items l.nodes.items c.build_value.new.nodes.items c.requires.1.1.0 l.next l.invariant.leads l.invariant.elements.items l.invariant.elements.left l.invariant.within c.in-Flawed.flaw c.in-Flawed.end c.in_ok-end-in-Flawed.end b c.in_ok-end-in-Flawed.ensures.end
 
 pub build_array-returns-in_err-item-clause-stop : goal.build_array-returns-in_err-item-clause-stop
 build_array-returns-in_err-item-clause-stop t c =
     let T = c.args.text.now in
-    let l = c.loop-items in
+    let l = c.loop-end in
     let nothing = skip.reach_nothing T l.next l.invariant.within in
-    let b = subst (Gives T l.next c.args.room) c.in-Whole.is c.in_ok-node.ensures.ok in
+    let b = subst (Gives T l.next c.args.room 0 0 l.nodes.items c.build_value.new.nodes.items) c.in-Whole.is c.in_ok-end.ensures.ok in
     let p = err_from_is_err_and c.from_residual-in_err-item.result c.from_residual-in_err-item.ensures.1 in
-    rw (p.1, p.2) (list.bad_rest T square c.args.at l.next l.invariant.leads l.next c.in-Whole.node.end (Syntax c.in_err-item.field-0.0) nothing b.reads c.in_err-item.ensures.stop)
+    rw (p.1, p.2) (list.bad_rest T square c.args.at l.next l.invariant.leads l.next c.in-Whole.end (Syntax c.in_err-item.field-0.0) nothing b.reads c.in_err-item.ensures.stop)
 
-pub build_array-loop-items-preserved : goal.build_array-loop-items-preserved
-build_array-loop-items-preserved t c =
+pub build_array-loop-end-preserved : goal.build_array-loop-end-preserved
+build_array-loop-end-preserved t c =
     let T = c.args.text.now in
-    let l = c.loop-items in
+    let l = c.loop-end in
     let nothing = skip.reach_nothing T l.next l.invariant.within in
-    let b = subst (Gives T l.next c.args.room) c.in-Whole.is c.in_ok-node.ensures.ok in
-    let comma = subst (GoesOn square T c.in-Whole.node.end) c.in-Item.is c.in_ok-item.ensures.ok in
-    let (h, leads, left, more) = gives.array_next T c.args.at c.args.inner c.args.room c.requires.1.1 l.next l.invariant.leads (items_view l.items) l.invariant.elements l.invariant.within c.in-Whole.node c.in-Item.item b comma (items_view c.push.new.self) c.in_ok-push.ensures.ok in
-    record { within = h; leads = leads; elements = left }
+    let b = subst (Gives T l.next c.args.room 0 0 l.nodes.items c.build_value.new.nodes.items) c.in-Whole.is c.in_ok-end.ensures.ok in
+    let comma = subst (GoesOn square T c.in-Whole.end) c.in-Item.is c.in_ok-item.ensures.ok in
+    let (h, leads, left, more) = gives.array_next T c.args.at c.args.inner c.args.room c.args.name c.args.name_end c.args.nodes.now.items l.nodes.items c.build_value.new.nodes.items c.requires.1.1.0 l.next l.invariant.leads l.invariant.elements.items l.invariant.elements.left l.invariant.within l.invariant.elements.made c.in-Whole.end b c.in-Item.item comma in
+    record { within = h; leads = leads; elements = left; index = search rules; small = record { short = l.invariant.small.short; places = omega (arith, b.kept.1, list.past_comma T c.in-Whole.end c.in-Item.item comma) } }
 
-pub build_array-loop-items-smaller : goal.build_array-loop-items-smaller
-build_array-loop-items-smaller t c =
+pub build_array-loop-end-smaller : goal.build_array-loop-end-smaller
+build_array-loop-end-smaller t c =
     let T = c.args.text.now in
-    let l = c.loop-items in
+    let l = c.loop-end in
     let nothing = skip.reach_nothing T l.next l.invariant.within in
-    let b = subst (Gives T l.next c.args.room) c.in-Whole.is c.in_ok-node.ensures.ok in
-    let comma = subst (GoesOn square T c.in-Whole.node.end) c.in-Item.is c.in_ok-item.ensures.ok in
-    let (h, leads, left, more) = gives.array_next T c.args.at c.args.inner c.args.room c.requires.1.1 l.next l.invariant.leads (items_view l.items) l.invariant.elements l.invariant.within c.in-Whole.node c.in-Item.item b comma (items_view c.push.new.self) c.in_ok-push.ensures.ok in
+    let b = subst (Gives T l.next c.args.room 0 0 l.nodes.items c.build_value.new.nodes.items) c.in-Whole.is c.in_ok-end.ensures.ok in
+    let comma = subst (GoesOn square T c.in-Whole.end) c.in-Item.is c.in_ok-item.ensures.ok in
+    let (h, leads, left, more) = gives.array_next T c.args.at c.args.inner c.args.room c.args.name c.args.name_end c.args.nodes.now.items l.nodes.items c.build_value.new.nodes.items c.requires.1.1.0 l.next l.invariant.leads l.invariant.elements.items l.invariant.elements.left l.invariant.within l.invariant.elements.made c.in-Whole.end b c.in-Item.item comma in
     omega arith
 
 pub build_array-returns-in-Closed-clause-ok : goal.build_array-returns-in-Closed-clause-ok
 build_array-returns-in-Closed-clause-ok t c =
     let T = c.args.text.now in
-    let l = c.loop-items in
+    let l = c.loop-end in
     let nothing = skip.reach_nothing T l.next l.invariant.within in
-    let b = subst (Gives T l.next c.args.room) c.in-Whole.is c.in_ok-node.ensures.ok in
-    let close = subst (GoesOn square T c.in-Whole.node.end) c.in-Closed.is c.in_ok-item.ensures.ok in
-    gives.array_whole T c.args.at c.args.inner c.args.room c.requires.1.1 l.next l.invariant.leads (items_view l.items) l.invariant.elements l.invariant.within c.in-Whole.node c.array.result (items_view c.push.new.self) c.in-Closed.end b close c.in_ok-push.ensures.ok c.array.ensures
+    let b = subst (Gives T l.next c.args.room 0 0 l.nodes.items c.build_value.new.nodes.items) c.in-Whole.is c.in_ok-end.ensures.ok in
+    let close = subst (GoesOn square T c.in-Whole.end) c.in-Closed.is c.in_ok-item.ensures.ok in
+    gives.array_whole T c.args.at c.args.inner c.args.room c.args.name c.args.name_end c.args.nodes.now.items l.nodes.items c.build_value.new.nodes.items c.requires.1.1.0 l.next l.invariant.leads l.invariant.elements.items l.invariant.elements.left l.invariant.within l.invariant.elements.made c.in-Whole.end b _ c.in-Closed.end close (search rules)
 
 pub build_list-returns-then-room-eq0-clause-ok : goal.build_list-returns-then-room-eq0-clause-ok
-build_list-returns-then-room-eq0-clause-ok t c = gives.gives_deep (bracket_of c.args.bracket) c.args.text.now c.args.at c.args.room c.in_ok-end.end c.if-room-eq0.true (omega (arith, c.requires.1.1.0)) c.requires.1.1.1 c.in_ok-end.ensures.end
+build_list-returns-then-room-eq0-clause-ok t c = gives.gives_deep (bracket_of c.args.bracket) c.args.text.now c.args.at c.args.room c.args.name c.args.name_end c.in_ok-end.end c.args.nodes.now.items c.args.nodes.now.items c.if-room-eq0.true (omega (arith, c.requires.1.1.0)) c.requires.1.1.1.0 c.in_ok-end.ensures.end
 
 pub build_list-returns-then-has-clause-ok : goal.build_list-returns-then-has-clause-ok
 build_list-returns-then-has-clause-ok t c =
     let T = c.args.text.now in
-    gives.gives_empty c.args.bracket T c.args.at c.blanks_end-inner.result c.args.room c.empty_list.result c.if-room-eq0.false c.requires.1.1.0 c.requires.1.1.1 c.blanks_end-inner.ensures c.if-has.ensures.bound
-    (skip.close_sees T [] c.args.bracket (rule_of c.close.result) c.blanks_end-inner.result true c.close.ensures (sym c.if-has.ensures.test)) c.empty_list.ensures
+    gives.gives_empty c.args.bracket T c.args.at c.blanks_end-inner.result c.args.room c.args.name c.args.name_end c.args.nodes.now.items c.push.new.self.items c.requires.1.1.1.1 c.if-room-eq0.false c.requires.1.1.0 c.requires.1.1.1.0 c.blanks_end-inner.ensures c.if-has.ensures.bound
+    (skip.close_sees T [] c.args.bracket (rule_of c.close.result) c.blanks_end-inner.result true c.close.ensures (sym c.if-has.ensures.test)) (search rules)
 
 pub build_list-build_array-requires : goal.build_list-build_array-requires
 build_list-build_array-requires t c =
     let T = c.args.text.now in
     let o : Opens (bracket_of c.args.bracket) T c.args.at c.blanks_end-inner.result = record {
       bound = c.requires.1.1.0;
-      opens = c.requires.1.1.1;
+      opens = c.requires.1.1.1.0;
       blanks = c.blanks_end-inner.ensures;
       some = skip.close_sees T [] c.args.bracket (rule_of c.close.result) c.blanks_end-inner.result false c.close.ensures (sym c.if-has.ensures.test);
     } in
-    (search rules, subst (λ z. Opens (bracket_of z) T c.args.at c.blanks_end-inner.result) c.in-Square.is o)
+    (search rules, (subst (λ z. Opens (bracket_of z) T c.args.at c.blanks_end-inner.result) c.in-Square.is o, c.requires.1.1.1.1))
 
 pub build_list-build_object-requires : goal.build_list-build_object-requires
 build_list-build_object-requires t c =
     let T = c.args.text.now in
     let o : Opens (bracket_of c.args.bracket) T c.args.at c.blanks_end-inner.result = record {
       bound = c.requires.1.1.0;
-      opens = c.requires.1.1.1;
+      opens = c.requires.1.1.1.0;
       blanks = c.blanks_end-inner.ensures;
       some = skip.close_sees T [] c.args.bracket (rule_of c.close.result) c.blanks_end-inner.result false c.close.ensures (sym c.if-has.ensures.test);
     } in
-    (search rules, subst (λ z. Opens (bracket_of z) T c.args.at c.blanks_end-inner.result) c.in-Curly.is o)
+    (search rules, (subst (λ z. Opens (bracket_of z) T c.args.at c.blanks_end-inner.result) c.in-Curly.is o, c.requires.1.1.1.1))
 
 pub build_object-loop-names-init : goal.build_object-loop-names-init
 build_object-loop-names-init t c = record {
-  within = c.requires.1.1.blanks.within_text;
-  leads = list.open_leads c.args.text.now Curly c.args.at c.args.inner c.requires.1.1;
-  members = rw c.new-fields.ensures (members.members_start c.args.text.now c.args.room c.args.inner);
-  names = members.no_names c.new-names.result (fields_view c.new-fields.result) c.new-names.ensures.empty c.new-fields.ensures;
+  within = c.requires.1.1.0.blanks.within_text;
+  leads = list.open_leads c.args.text.now Curly c.args.at c.args.inner c.requires.1.1.0;
+  members = record { fields = []; left = members.members_start c.args.text.now c.args.room c.args.inner; made = c.in_ok-push.ensures.items; names = members.no_names c.new-names.result [] c.new-names.ensures.empty refl };
+  index = search rules;
+  small = gives.opened_small c.args.text.now c.args.at c.args.inner c.args.nodes.now.items _ _ c.requires.1.1.1 c.requires.1.1.0.blanks c.in_ok-push.ensures.items;
 }
 
-pub build_object-returns-in_err-name-clause-stop : goal.build_object-returns-in_err-name-clause-stop
-build_object-returns-in_err-name-clause-stop t c =
+pub build_object-returns-in_err-own-clause-stop : goal.build_object-returns-in_err-own-clause-stop
+build_object-returns-in_err-own-clause-stop t c =
     let T = c.args.text.now in
     let l = c.loop-names in
-    let p = err_from_is_err_and c.from_residual.result c.from_residual.ensures.1 in
-    rw (p.1, p.2) (list.bad_name T c.args.at l.next l.invariant.leads c.in_err-name.field-0.0 c.in_err-name.ensures.stop)
+    let p = err_from_is_err_and c.from_residual-in_err-own.result c.from_residual-in_err-own.ensures.1 in
+    rw (p.1, p.2) (list.bad_name T c.args.at l.next l.invariant.leads c.in_err-own.field-0.0 c.in_err-own.ensures.stop)
 
 pub build_object-returns-in_err-value-clause-stop : goal.build_object-returns-in_err-value-clause-stop
 build_object-returns-in_err-value-clause-stop t c =
     let T = c.args.text.now in
     let l = c.loop-names in
-    let name = c.in_ok-name.name in
+    let name = c.in_ok-own.own in
     let p = err_from_is_err_and c.from_residual-in_err-value.result c.from_residual-in_err-value.ensures.1 in
-    rw (p.1, p.2) (list.bad_colon T c.args.at l.next name.end l.invariant.leads c.in_err-value.field-0.0 c.in_ok-name.ensures.reads c.in_err-value.ensures)
+    rw (p.1, p.2) (list.bad_colon T c.args.at l.next name.end l.invariant.leads c.in_err-value.field-0.0 c.in_ok-own.ensures.reads c.in_err-value.ensures)
 
 pub build_object-returns-in_err-end-clause-stop : goal.build_object-returns-in_err-end-clause-stop
 build_object-returns-in_err-end-clause-stop t c =
     let T = c.args.text.now in
     let l = c.loop-names in
-    let name = c.in_ok-name.name in
-    let before = gives.name_before T c.args.at c.args.inner c.args.room c.requires.1.1 l.next l.invariant.leads (fields_view l.fields) l.invariant.members l.invariant.within name.text name.end c.in_ok-value.value c.in_ok-name.ensures.reads c.in_ok-name.ensures.characters c.in_ok-value.ensures in
+    let name = c.in_ok-own.own in
+    let before = gives.name_before T c.args.at c.args.inner c.args.room c.args.name c.args.name_end c.args.nodes.now.items l.nodes.items l.nodes.items c.requires.1.1.0 l.next l.invariant.leads l.invariant.members.fields l.invariant.members.left l.invariant.within name.text name.end c.in_ok-value.value c.in_ok-own.ensures.reads c.in_ok-own.ensures.characters c.in_ok-value.ensures in
     let p = err_from_is_err_and c.from_residual-in_err-end.result c.from_residual-in_err-end.ensures.1 in
     rw (p.1, p.2) (list.bad_value T curly c.args.at l.next l.invariant.leads c.in_ok-value.value c.in_err-end.field-0.0 before c.in_err-end.ensures.stop)
 
@@ -156,8 +154,8 @@ pub build_object-returns-in_err-end-2-clause-stop : goal.build_object-returns-in
 build_object-returns-in_err-end-2-clause-stop t c =
     let T = c.args.text.now in
     let l = c.loop-names in
-    let name = c.in_ok-name.name in
-    let before = gives.name_before T c.args.at c.args.inner c.args.room c.requires.1.1 l.next l.invariant.leads (fields_view l.fields) l.invariant.members l.invariant.within name.text name.end c.in_ok-value.value c.in_ok-name.ensures.reads c.in_ok-name.ensures.characters c.in_ok-value.ensures in
+    let name = c.in_ok-own.own in
+    let before = gives.name_before T c.args.at c.args.inner c.args.room c.args.name c.args.name_end c.args.nodes.now.items l.nodes.items l.nodes.items c.requires.1.1.0 l.next l.invariant.leads l.invariant.members.fields l.invariant.members.left l.invariant.within name.text name.end c.in_ok-value.value c.in_ok-own.ensures.reads c.in_ok-own.ensures.characters c.in_ok-value.ensures in
     let p = err_from_is_err_and c.from_residual-in_err-end-2.result c.from_residual-in_err-end-2.ensures.1 in
     rw (p.1, p.2) (list.bad_rest T curly c.args.at l.next l.invariant.leads c.in_ok-value.value c.in_ok-end.end c.in_err-end-2.field-0.0 before c.in_ok-end.ensures.end c.in_err-end-2.ensures.stop)
 
@@ -165,27 +163,26 @@ pub build_object-returns-then-not-branch-clause-ok : goal.build_object-returns-t
 build_object-returns-then-not-branch-clause-ok t c =
     let T = c.args.text.now in
     let l = c.loop-names in
-    let name = c.in_ok-name.name in
-    let key : c.in_ok-copy.field-0 ≡ name.text = c.in_ok-copy.ensures in
-    let again = members.is_again l.names (fields_view l.fields) name.text c.in_ok-insert.field-0 l.invariant.names (c.in_ok-insert.ensures.added ∙ ap (λ z. not (contains text_cmp l.names z)) key) c.if-not-branch.true in
-    gives.object_again T c.args.at c.args.inner c.args.room c.requires.1.1 l.next l.invariant.leads (fields_view l.fields) l.invariant.members l.invariant.within name.text name.end c.in_ok-value.value c.in_ok-name.ensures.reads c.in_ok-name.ensures.characters c.in_ok-value.ensures c.in_ok-end.end c.in_ok-end-2.end again c.in_ok-end.ensures.end c.in_ok-end-2.ensures.end
+    let name = c.in_ok-own.own in
+    let again = members.is_again l.names l.invariant.members.fields name.text c.in_ok-insert.field-0 l.invariant.members.names (c.in_ok-insert.ensures.added) c.if-not-branch.true in
+    gives.object_again T c.args.at c.args.inner c.args.room c.args.name c.args.name_end c.args.nodes.now.items l.nodes.items l.nodes.items c.requires.1.1.0 l.next l.invariant.leads l.invariant.members.fields l.invariant.members.left l.invariant.within name.text name.end c.in_ok-value.value c.in_ok-own.ensures.reads c.in_ok-own.ensures.characters c.in_ok-value.ensures c.in_ok-end.end c.in_ok-end-2.end again c.in_ok-end.ensures.end c.in_ok-end-2.ensures.end
 
-pub build_object-returns-in_err-node-clause-stop : goal.build_object-returns-in_err-node-clause-stop
-build_object-returns-in_err-node-clause-stop t c =
+pub build_object-returns-in_err-end-3-clause-stop : goal.build_object-returns-in_err-end-3-clause-stop
+build_object-returns-in_err-end-3-clause-stop t c =
     let T = c.args.text.now in
     let l = c.loop-names in
-    let name = c.in_ok-name.name in
-    let before = gives.name_before T c.args.at c.args.inner c.args.room c.requires.1.1 l.next l.invariant.leads (fields_view l.fields) l.invariant.members l.invariant.within name.text name.end c.in_ok-value.value c.in_ok-name.ensures.reads c.in_ok-name.ensures.characters c.in_ok-value.ensures in
-    let p = err_from_is_err_and c.from_residual-in_err-node.result c.from_residual-in_err-node.ensures.1 in
-    rw (p.1, p.2) (list.bad_value T curly c.args.at l.next l.invariant.leads c.in_ok-value.value c.in_err-node.field-0.0 before c.in_err-node.ensures.stop)
+    let name = c.in_ok-own.own in
+    let before = gives.name_before T c.args.at c.args.inner c.args.room c.args.name c.args.name_end c.args.nodes.now.items l.nodes.items l.nodes.items c.requires.1.1.0 l.next l.invariant.leads l.invariant.members.fields l.invariant.members.left l.invariant.within name.text name.end c.in_ok-value.value c.in_ok-own.ensures.reads c.in_ok-own.ensures.characters c.in_ok-value.ensures in
+    let p = err_from_is_err_and c.from_residual-in_err-end-3.result c.from_residual-in_err-end-3.ensures.1 in
+    rw (p.1, p.2) (list.bad_value T curly c.args.at l.next l.invariant.leads c.in_ok-value.value c.in_err-end-3.field-0.0 before c.in_err-end-3.ensures.stop)
 
 pub build_object-returns-in_err-end-in-Flawed-clause-stop : goal.build_object-returns-in_err-end-in-Flawed-clause-stop
 build_object-returns-in_err-end-in-Flawed-clause-stop t c =
     let T = c.args.text.now in
     let l = c.loop-names in
-    let name = c.in_ok-name.name in
-    let before = gives.name_before T c.args.at c.args.inner c.args.room c.requires.1.1 l.next l.invariant.leads (fields_view l.fields) l.invariant.members l.invariant.within name.text name.end c.in_ok-value.value c.in_ok-name.ensures.reads c.in_ok-name.ensures.characters c.in_ok-value.ensures in
-    let b = subst (Gives T c.in_ok-value.value c.args.room) c.in-Flawed.is c.in_ok-node.ensures.ok in
+    let name = c.in_ok-own.own in
+    let before = gives.name_before T c.args.at c.args.inner c.args.room c.args.name c.args.name_end c.args.nodes.now.items l.nodes.items c.build_value.new.nodes.items c.requires.1.1.0 l.next l.invariant.leads l.invariant.members.fields l.invariant.members.left l.invariant.within name.text name.end c.in_ok-value.value c.in_ok-own.ensures.reads c.in_ok-own.ensures.characters c.in_ok-value.ensures in
+    let b = subst (Gives T c.in_ok-value.value c.args.room l.next name.end l.nodes.items c.build_value.new.nodes.items) c.in-Flawed.is c.in_ok-end-3.ensures.ok in
     let p = err_from_is_err_and c.from_residual-in_err-end-in-Flawed.result c.from_residual-in_err-end-in-Flawed.ensures.1 in
     rw (p.1, p.2) (list.bad_rest T curly c.args.at l.next l.invariant.leads c.in_ok-value.value c.in-Flawed.end c.in_err-end-in-Flawed.field-0.0 before b.reads c.in_err-end-in-Flawed.ensures.stop)
 
@@ -193,75 +190,66 @@ pub build_object-returns-in-Flawed-clause-ok : goal.build_object-returns-in-Flaw
 build_object-returns-in-Flawed-clause-ok t c =
     let T = c.args.text.now in
     let l = c.loop-names in
-    let name = c.in_ok-name.name in
-    let key : c.in_ok-copy.field-0 ≡ name.text = c.in_ok-copy.ensures in
-    let new = members.is_new l.names (fields_view l.fields) name.text c.in_ok-insert.field-0 l.invariant.names (c.in_ok-insert.ensures.added ∙ ap (λ z. not (contains text_cmp l.names z)) key) c.if-not-branch.false in
-    let b = subst (Gives T c.in_ok-value.value c.args.room) c.in-Flawed.is c.in_ok-node.ensures.ok in
-    gives.object_flawed T c.args.at c.args.inner c.args.room c.requires.1.1 l.next l.invariant.leads (fields_view l.fields) l.invariant.members l.invariant.within name.text name.end c.in_ok-value.value c.in_ok-name.ensures.reads c.in_ok-name.ensures.characters c.in_ok-value.ensures c.in-Flawed.flaw c.in-Flawed.end c.in_ok-end-in-Flawed.end new b c.in_ok-end-in-Flawed.ensures.end
+    let name = c.in_ok-own.own in
+    let new = members.is_new l.names l.invariant.members.fields name.text c.in_ok-insert.field-0 l.invariant.members.names (c.in_ok-insert.ensures.added) c.if-not-branch.false in
+    let b = subst (Gives T c.in_ok-value.value c.args.room l.next name.end l.nodes.items c.build_value.new.nodes.items) c.in-Flawed.is c.in_ok-end-3.ensures.ok in
+    gives.object_flawed T c.args.at c.args.inner c.args.room c.args.name c.args.name_end c.args.nodes.now.items l.nodes.items c.build_value.new.nodes.items c.requires.1.1.0 l.next l.invariant.leads l.invariant.members.fields l.invariant.members.left l.invariant.within name.text name.end c.in_ok-value.value c.in_ok-own.ensures.reads c.in_ok-own.ensures.characters c.in_ok-value.ensures c.in-Flawed.flaw c.in-Flawed.end c.in_ok-end-in-Flawed.end new b c.in_ok-end-in-Flawed.ensures.end
 
 pub build_object-returns-in_err-item-clause-stop : goal.build_object-returns-in_err-item-clause-stop
 build_object-returns-in_err-item-clause-stop t c =
     let T = c.args.text.now in
     let l = c.loop-names in
-    let name = c.in_ok-name.name in
-    let before = gives.name_before T c.args.at c.args.inner c.args.room c.requires.1.1 l.next l.invariant.leads (fields_view l.fields) l.invariant.members l.invariant.within name.text name.end c.in_ok-value.value c.in_ok-name.ensures.reads c.in_ok-name.ensures.characters c.in_ok-value.ensures in
-    let b = subst (Gives T c.in_ok-value.value c.args.room) c.in-Whole.is c.in_ok-node.ensures.ok in
+    let name = c.in_ok-own.own in
+    let before = gives.name_before T c.args.at c.args.inner c.args.room c.args.name c.args.name_end c.args.nodes.now.items l.nodes.items c.build_value.new.nodes.items c.requires.1.1.0 l.next l.invariant.leads l.invariant.members.fields l.invariant.members.left l.invariant.within name.text name.end c.in_ok-value.value c.in_ok-own.ensures.reads c.in_ok-own.ensures.characters c.in_ok-value.ensures in
+    let b = subst (Gives T c.in_ok-value.value c.args.room l.next name.end l.nodes.items c.build_value.new.nodes.items) c.in-Whole.is c.in_ok-end-3.ensures.ok in
     let p = err_from_is_err_and c.from_residual-in_err-item.result c.from_residual-in_err-item.ensures.1 in
-    rw (p.1, p.2) (list.bad_rest T curly c.args.at l.next l.invariant.leads c.in_ok-value.value c.in-Whole.node.end (Syntax c.in_err-item.field-0.0) before b.reads c.in_err-item.ensures.stop)
+    rw (p.1, p.2) (list.bad_rest T curly c.args.at l.next l.invariant.leads c.in_ok-value.value c.in-Whole.end (Syntax c.in_err-item.field-0.0) before b.reads c.in_err-item.ensures.stop)
 
 pub build_object-loop-names-preserved : goal.build_object-loop-names-preserved
 build_object-loop-names-preserved t c =
     let T = c.args.text.now in
     let l = c.loop-names in
-    let name = c.in_ok-name.name in
-    let key : c.in_ok-copy.field-0 ≡ name.text = c.in_ok-copy.ensures in
-    let new = members.is_new l.names (fields_view l.fields) name.text c.in_ok-insert.field-0 l.invariant.names (c.in_ok-insert.ensures.added ∙ ap (λ z. not (contains text_cmp l.names z)) key) c.if-not-branch.false in
-    let b = subst (Gives T c.in_ok-value.value c.args.room) c.in-Whole.is c.in_ok-node.ensures.ok in
-    let comma = subst (GoesOn curly T c.in-Whole.node.end) c.in-Item.is c.in_ok-item.ensures.ok in
-    let (h, leads, left, more) = gives.object_next T c.args.at c.args.inner c.args.room c.requires.1.1 l.next l.invariant.leads (fields_view l.fields) l.invariant.members l.invariant.within name.text name.end c.in_ok-value.value c.in_ok-name.ensures.reads c.in_ok-name.ensures.characters c.in_ok-value.ensures c.in-Whole.node c.in-Item.item new b comma (fields_view c.push.new.self) c.in_ok-push.ensures.ok in
-    let e : Entry = record { name = name.text; start = l.next; end = name.end; value = node_view c.in-Whole.node } in
-    record {
-      within = h;
-      leads = leads;
-      members = left;
-      names = subst (HasNames c.insert.new.self) (sym c.in_ok-push.ensures.ok) (members.names_more l.names c.insert.new.self (fields_view l.fields) e l.invariant.names (subst (λ z. Updates text_cmp l.names c.insert.new.self z true) key c.in_ok-insert.ensures.updates));
-    }
+    let name = c.in_ok-own.own in
+    let new = members.is_new l.names l.invariant.members.fields name.text c.in_ok-insert.field-0 l.invariant.members.names (c.in_ok-insert.ensures.added) c.if-not-branch.false in
+    let b = subst (Gives T c.in_ok-value.value c.args.room l.next name.end l.nodes.items c.build_value.new.nodes.items) c.in-Whole.is c.in_ok-end-3.ensures.ok in
+    let comma = subst (GoesOn curly T c.in-Whole.end) c.in-Item.is c.in_ok-item.ensures.ok in
+    let (h, leads, left, more) = gives.object_next T c.args.at c.args.inner c.args.room c.args.name c.args.name_end c.args.nodes.now.items l.nodes.items c.build_value.new.nodes.items c.requires.1.1.0 l.next l.invariant.leads l.invariant.members.fields l.invariant.members.left l.invariant.within name.text name.end c.in_ok-value.value c.in_ok-own.ensures.reads c.in_ok-own.ensures.characters c.in_ok-value.ensures l.invariant.members.made c.in-Whole.end new b c.in-Item.item comma l.names c.insert.new.self l.invariant.members.names c.in_ok-insert.ensures.updates in
+    record { within = h; leads = leads; members = left; index = search rules; small = record { short = l.invariant.small.short; places = omega (arith, b.kept.1, list.past_comma T c.in-Whole.end c.in-Item.item comma) } }
 
 pub build_object-loop-names-smaller : goal.build_object-loop-names-smaller
 build_object-loop-names-smaller t c =
     let T = c.args.text.now in
     let l = c.loop-names in
-    let name = c.in_ok-name.name in
-    let key : c.in_ok-copy.field-0 ≡ name.text = c.in_ok-copy.ensures in
-    let new = members.is_new l.names (fields_view l.fields) name.text c.in_ok-insert.field-0 l.invariant.names (c.in_ok-insert.ensures.added ∙ ap (λ z. not (contains text_cmp l.names z)) key) c.if-not-branch.false in
-    let b = subst (Gives T c.in_ok-value.value c.args.room) c.in-Whole.is c.in_ok-node.ensures.ok in
-    let comma = subst (GoesOn curly T c.in-Whole.node.end) c.in-Item.is c.in_ok-item.ensures.ok in
-    let (h, leads, left, more) = gives.object_next T c.args.at c.args.inner c.args.room c.requires.1.1 l.next l.invariant.leads (fields_view l.fields) l.invariant.members l.invariant.within name.text name.end c.in_ok-value.value c.in_ok-name.ensures.reads c.in_ok-name.ensures.characters c.in_ok-value.ensures c.in-Whole.node c.in-Item.item new b comma (fields_view c.push.new.self) c.in_ok-push.ensures.ok in
+    let name = c.in_ok-own.own in
+    let new = members.is_new l.names l.invariant.members.fields name.text c.in_ok-insert.field-0 l.invariant.members.names (c.in_ok-insert.ensures.added) c.if-not-branch.false in
+    let b = subst (Gives T c.in_ok-value.value c.args.room l.next name.end l.nodes.items c.build_value.new.nodes.items) c.in-Whole.is c.in_ok-end-3.ensures.ok in
+    let comma = subst (GoesOn curly T c.in-Whole.end) c.in-Item.is c.in_ok-item.ensures.ok in
+    let (h, leads, left, more) = gives.object_next T c.args.at c.args.inner c.args.room c.args.name c.args.name_end c.args.nodes.now.items l.nodes.items c.build_value.new.nodes.items c.requires.1.1.0 l.next l.invariant.leads l.invariant.members.fields l.invariant.members.left l.invariant.within name.text name.end c.in_ok-value.value c.in_ok-own.ensures.reads c.in_ok-own.ensures.characters c.in_ok-value.ensures l.invariant.members.made c.in-Whole.end new b c.in-Item.item comma l.names c.insert.new.self l.invariant.members.names c.in_ok-insert.ensures.updates in
     omega arith
 
 pub build_object-returns-in-Closed-clause-ok : goal.build_object-returns-in-Closed-clause-ok
 build_object-returns-in-Closed-clause-ok t c =
     let T = c.args.text.now in
     let l = c.loop-names in
-    let name = c.in_ok-name.name in
-    let key : c.in_ok-copy.field-0 ≡ name.text = c.in_ok-copy.ensures in
-    let new = members.is_new l.names (fields_view l.fields) name.text c.in_ok-insert.field-0 l.invariant.names (c.in_ok-insert.ensures.added ∙ ap (λ z. not (contains text_cmp l.names z)) key) c.if-not-branch.false in
-    let b = subst (Gives T c.in_ok-value.value c.args.room) c.in-Whole.is c.in_ok-node.ensures.ok in
-    let close = subst (GoesOn curly T c.in-Whole.node.end) c.in-Closed.is c.in_ok-item.ensures.ok in
-    gives.object_whole T c.args.at c.args.inner c.args.room c.requires.1.1 l.next l.invariant.leads (fields_view l.fields) l.invariant.members l.invariant.within name.text name.end c.in_ok-value.value c.in_ok-name.ensures.reads c.in_ok-name.ensures.characters c.in_ok-value.ensures c.in-Whole.node c.object.result (fields_view c.push.new.self) c.in-Closed.end new b close c.in_ok-push.ensures.ok c.object.ensures
+    let name = c.in_ok-own.own in
+    let new = members.is_new l.names l.invariant.members.fields name.text c.in_ok-insert.field-0 l.invariant.members.names (c.in_ok-insert.ensures.added) c.if-not-branch.false in
+    let b = subst (Gives T c.in_ok-value.value c.args.room l.next name.end l.nodes.items c.build_value.new.nodes.items) c.in-Whole.is c.in_ok-end-3.ensures.ok in
+    let close = subst (GoesOn curly T c.in-Whole.end) c.in-Closed.is c.in_ok-item.ensures.ok in
+    gives.object_whole T c.args.at c.args.inner c.args.room c.args.name c.args.name_end c.args.nodes.now.items l.nodes.items c.build_value.new.nodes.items c.requires.1.1.0 l.next l.invariant.leads l.invariant.members.fields l.invariant.members.left l.invariant.within name.text name.end c.in_ok-value.value c.in_ok-own.ensures.reads c.in_ok-own.ensures.characters c.in_ok-value.ensures l.invariant.members.made c.in-Whole.end new b _ c.in-Closed.end close (search rules)
 
-pub build_value-returns-in_err-plain-in-Some-Scalar-clause-stop : goal.build_value-returns-in_err-plain-in-Some-Scalar-clause-stop
-build_value-returns-in_err-plain-in-Some-Scalar-clause-stop t c =
+pub build_value-returns-in_ok-push-in-Some-Scalar-clause-ok : goal.build_value-returns-in_ok-push-in-Some-Scalar-clause-ok
+build_value-returns-in_ok-push-in-Some-Scalar-clause-ok t c =
     let T = c.args.text.now in
+    let end = c.in_ok-end-in-Some-Scalar.end in
+    gives.gives_scalar c.in-Some-Scalar.scalar T c.args.at c.args.room c.args.name c.args.name_end c.args.nodes.now.items c.push.new.self.items end c.requires.1.1.0 c.requires.1.1.1 c.in_ok-end-in-Some-Scalar.ensures
+    (value_scan T c.args.at (Scalar c.in-Some-Scalar.scalar) (Ok end) (rw c.in-Some-Scalar.field-0-is at c.in-Some-Scalar.ensures.found) c.in_ok-end-in-Some-Scalar.ensures) (search rules)
+
+pub build_value-returns-in_err-end-in-Some-Scalar-clause-stop : goal.build_value-returns-in_err-end-in-Some-Scalar-clause-stop
+build_value-returns-in_err-end-in-Some-Scalar-clause-stop t c =
+    let T = c.args.text.now in
+    let stop = c.in_err-end-in-Some-Scalar.field-0.0 in
     let p = err_from_is_err_and c.from_residual.result c.from_residual.ensures.1 in
-    rw (p.1, p.2) (value_stops T c.args.at (Scalar c.in-Some-Scalar.scalar) c.in_err-plain-in-Some-Scalar.field-0.0 (rw c.in-Some-Scalar.field-0-is at c.in-Some-Scalar.ensures.found) c.in_err-plain-in-Some-Scalar.ensures.stop)
-
-pub build_value-returns-in_ok-plain-in-Some-Scalar-clause-ok : goal.build_value-returns-in_ok-plain-in-Some-Scalar-clause-ok
-build_value-returns-in_ok-plain-in-Some-Scalar-clause-ok t c =
-    let T = c.args.text.now in
-    let r = c.in_ok-plain-in-Some-Scalar.plain in
-    gives.gives_scalar c.in-Some-Scalar.scalar T c.args.at c.args.room r.value r.end c.requires.1.1 c.in_ok-plain-in-Some-Scalar.ensures.ok
-    (value_scan T c.args.at (Scalar c.in-Some-Scalar.scalar) (Ok r.end) (rw c.in-Some-Scalar.field-0-is at c.in-Some-Scalar.ensures.found) c.in_ok-plain-in-Some-Scalar.ensures.ok.reads)
+    rw (p.1, p.2) (value_stops T c.args.at (Scalar c.in-Some-Scalar.scalar) (Syntax stop) (rw c.in-Some-Scalar.field-0-is at c.in-Some-Scalar.ensures.found) c.in_err-end-in-Some-Scalar.ensures)
 
 pub build_value-returns-in-None-clause-stop : goal.build_value-returns-in-None-clause-stop
-build_value-returns-in-None-clause-stop t c = no_value c.args.text.now c.args.at c.requires.1.1 c.in-None.ensures.none
+build_value-returns-in-None-clause-stop t c = no_value c.args.text.now c.args.at c.requires.1.1.0 c.in-None.ensures.none

@@ -1,8 +1,8 @@
-use Rattle.std.proofs.Common.{◌≤◌, ◌+◌, ◌-◌, ◌*◌, [], length, true}
+use Rattle.std.proofs.Common.{◌≡◌, ◌≤◌, ◌+◌, ◌-◌, ◌*◌, [], length, true}
 use Rattle.json_span.specs.Steered.{square, curly}
 use Rattle.json_span.specs.Skipping.{left_of, Leads}
-use Rattle.json_span.specs.ListsLeft.{list_left, ElementsLeft, MembersLeft, HasNames}
-use Rattle.json_span.specs.View.{items_view, fields_view}
+use Rattle.json_span.specs.Building.{IsSmall}
+use Rattle.json_span.specs.ListsLeft.{list_left, ArrayLeft, ObjectLeft}
 use Rattle.json_span.proofs.build.+value.Given as goal
 
 abbrev pub decreases-build_value : goal.decreases-build_value
@@ -18,22 +18,25 @@ abbrev pub decreases-build_object : goal.decreases-build_object
 decreases-build_object l = 3 * l.room + 3
 
 -- what is left makes the whole list
-abbrev pub invariant-build_array-loop-items : goal.invariant-build_array-loop-items
-invariant-build_array-loop-items l = record {
+abbrev pub invariant-build_array-loop-end : goal.invariant-build_array-loop-end
+invariant-build_array-loop-end l = record {
   within : l.next ≤ length l.text;
   leads : Leads l.text (left_of true []) l.at (list_left square) l.next;
-  elements : ElementsLeft l.text l.room l.inner l.next (items_view l.items);
+  elements : ArrayLeft l.text l.room l.at l.inner l.next l.name l.name_end l.fn.nodes.items l.nodes.items;
+  index : l.index ≡ length l.fn.nodes.items;
+  small : IsSmall l.text l.next l.nodes.items;
 }
 
-abbrev pub decreases-build_array-loop-items : goal.decreases-build_array-loop-items
-decreases-build_array-loop-items l = length l.text - l.next
+abbrev pub decreases-build_array-loop-end : goal.decreases-build_array-loop-end
+decreases-build_array-loop-end l = length l.text - l.next
 
 abbrev pub invariant-build_object-loop-names : goal.invariant-build_object-loop-names
 invariant-build_object-loop-names l = record {
   within : l.next ≤ length l.text;
   leads : Leads l.text (left_of true []) l.at (list_left curly) l.next;
-  members : MembersLeft l.text l.room l.inner l.next (fields_view l.fields);
-  names : HasNames l.names (fields_view l.fields);
+  members : ObjectLeft l.text l.room l.at l.inner l.next l.name l.name_end l.fn.nodes.items l.nodes.items l.names;
+  index : l.index ≡ length l.fn.nodes.items;
+  small : IsSmall l.text l.next l.nodes.items;
 }
 
 abbrev pub decreases-build_object-loop-names : goal.decreases-build_object-loop-names

@@ -1,4 +1,4 @@
-use Rattle.std.proofs.Common.{◌≡◌, ℕ, ◌-◌, ◌<◌, ◌++◌, List, take, drop, length, get_or, sym, ap, ◌∙◌}
+use Rattle.std.proofs.Common.{◌≡◌, ℕ, ◌-◌, ◌++◌, List, take, drop, length, sym, ap, ◌∙◌}
 use Rattle.std.specs.Prelude.{slice_range}
 use Rattle.std.specs.String.{string_bytes}
 use Rattle.std.specs.Char.{encode_utf8}
@@ -25,12 +25,7 @@ read_escape-escaped-requires c =
     let plain = c.plain_end-plain.result in
     let at = c.loop-characters.at in
     let x = c.plain_end-plain.ensures.plain in
-    let (s, u, k) = c.requires.content in
-    let (rest, k1, e1) = c.loop-characters.invariant.2 s u k in
-    let (rest2, k2, e2) = string.plain_takes T at plain x rest u k1 in
-    let lt : plain < length T = string.content_within T rest2 u plain k2 in
-    let first : get_or (drop plain T) 0 0 ≡ 92 = ap (λ z. get_or z 0 0) (string.byte_at T 92 plain lt (sym c.if-not-has.ensures.test)) in
-    rw (string.rest_slice T B plain c.as_bytes.ensures.value) (rest2, u, k2, first)
+    string.escape_begins T B c.args.from at plain c.as_bytes.ensures.value c.requires.content (λ s u k. let (rest, k1, e1) = c.loop-characters.invariant.2 s u k in (rest, k1)) x (sym c.if-not-has.ensures.test)
 
 pub loop-characters-preserved : goal.loop-characters-preserved
 loop-characters-preserved c =

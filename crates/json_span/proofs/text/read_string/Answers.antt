@@ -50,7 +50,7 @@ pub decode-requires-clause-content : goal.decode-requires-clause-content
 decode-requires-clause-content c =
     let x = c.in_ok-end.ensures in
     let (s, k) = string.has_content c.args.text.now (c.args.at + 1) c.in_ok-end.end x in
-    (s, drop c.in_ok-end.end c.args.text.now, k)
+    ∣ (s, drop c.in_ok-end.end c.args.text.now, k) ∣₁
 
 pub returns-clause-reads : goal.returns-clause-reads
 returns-clause-reads c =

@@ -1,0 +1,53 @@
+//! The elements of arrays.
+
+ghost use Rattle.std.specs.Prelude.{◌≡◌};
+ghost use Rattle.json_span.specs.Table.{AllStanding, AllLie};
+ghost use Rattle.json_span.specs.Once.{all_standing_prop};
+
+use crate::node_ref::{NodeRef, span_at};
+use crate::table::Document;
+use std::rc::Rc;
+
+/// The elements of an array that are still to come, in written order.
+#[derive(Clone, Copy)]
+pub struct Items<'d, 's> {
+    document: &'d Rc<Document<'s>>,
+    at: usize,
+    stop: usize,
+    pub ghost stand: { AllStanding document.now.value.text.now document.now.value.nodes.items at stop } by { all_standing_prop document.now.value.text.now document.now.value.nodes.items at stop },
+}
+
+impl<'d, 's> Items<'d, 's> {
+    ghost use Rattle.json_span.specs.Tree.{Elements, elements_in};
+    ghost use Rattle.json_span.specs.View.{items_view};
+
+    // The values from this place to the other.
+    pub(crate) fn new(document: &'d Rc<Document<'s>>, at: usize, stop: usize) -> Items<'d, 's>
+        requires { AllStanding document.now.value.text.now document.now.value.nodes.items at stop }
+        ensures { (ns : Elements) → AllLie document.entry.now.value.text.now document.entry.now.value.nodes.items at stop ns → items_view result ≡ elements_in ns }
+    {
+        Items { document, at, stop }
+    }
+}
+
+impl<'d, 's> Iterator for Items<'d, 's> {
+    ghost use Rattle.std.specs.Iterator.{YieldsFirstBy, item_count};
+    ghost use Rattle.json_span.specs.View.{ref_view, items_view};
+
+    type Item = NodeRef<'d, 's>;
+
+    ghost next_gives = { YieldsFirstBy ref_view items_view };
+
+    ghost remaining = { item_count items_view };
+
+    /// The next element, and none behind the last one.
+    fn next(&mut self) -> Option<NodeRef<'d, 's>> {
+        if self.at >= self.stop {
+            return None;
+        }
+        let node = NodeRef::new(self.document, self.at);
+        let next = span_at(self.document, self.at).next as usize;
+        *self = Items::new(self.document, next, self.stop);
+        Some(node)
+    }
+}
