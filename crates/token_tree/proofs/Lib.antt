@@ -1,4 +1,5 @@
-pub mod NameMaps
+pub mod SortedLists
+pub mod NameLists
 pub mod Names
 pub mod Targets
 pub mod Steps

@@ -1,6 +1,8 @@
 //! Marks of deprecation.
 
-use tk_io::Text;
+ghost use Rattle.std.specs.Prelude.{◌≡◌, IfOk};
+
+use tk_io::{NoMemory, Text};
 
 /// What `$deprecated` says: `false`, `true`, or a text that gives the reason.
 #[derive(Drop)]
@@ -8,4 +10,17 @@ pub enum Mark<'s> {
     No,
     Yes,
     Because(Text<'s>),
+}
+
+impl<'s> Mark<'s> {
+    /// The same mark, which shares the text.
+    pub fn copy(&self) -> Result<Mark<'s>, NoMemory>
+        ensures { IfOk result (λ m. m ≡ self.now) }
+    {
+        match self {
+            Mark::No => Ok(Mark::No),
+            Mark::Yes => Ok(Mark::Yes),
+            Mark::Because(text) => Ok(Mark::Because(text.copy()?)),
+        }
+    }
 }

@@ -1,19 +1,20 @@
 //! Groups and their members.
 
-ghost use Rattle.std.specs.Prelude.{◌≡◌, List, ℕ, Some, IfOk, OnOk, OnErr, cond, map as map_list};
+ghost use Rattle.std.specs.Prelude.{◌≡◌, ◌==◌, List, ℕ, Some, IfOk, OnOk, OnErr, cond, map as map_list};
 ghost use Rattle.std.specs.BTreeMap.{is_at};
 ghost use Rattle.std.specs.FinMap as map;
 ghost use Rattle.std.specs.List.{slice_get};
 ghost use Rattle.std.specs.Option.{option_map};
 ghost use Rattle.tk_io.specs.Order.{text_cmp};
 ghost use Rattle.token_tree.specs.Tree.{Child as ChildData};
-ghost use Rattle.token_tree.specs.Shown.{child_view, members_view};
+ghost use Rattle.token_tree.specs.Shown.{extends_view, child_view, member_view, members_view, group_view};
 
 use crate::definition::TokenDef;
+use crate::entries::{copy_list, place, put_member};
 use crate::mark::Mark;
 use name_path::{Kind, Path};
 use std::alloc::Global;
-use std::collections::BTreeMap;
+use std::marker::Model;
 use std::rc::Rc;
 use tk_io::{NoMemory, Text};
 
@@ -43,19 +44,55 @@ pub struct Extends<'s> {
     pub end: usize,
 }
 
-/// The members of a group, seen as a finite map from name to token or group, in byte order of names.
+/// The members of a group, seen as a finite map from name to token or group, in byte order of names. Copies share them.
 #[derive(Drop)]
 #[cycle(group)]
 pub struct Members<'s> {
-    entries: BTreeMap<Text<'s>, Child<'s>>,
+    alloc: Global,
+    // In ascending order of names, no two of which are equal; none where there is no member.
+    entries: Option<Rc<Vec<Member<'s>>>>,
 }
 
-/// A member of a group. Trees share their tokens.
+/// A member of a group under its name.
+#[derive(Drop)]
+#[cycle(group)]
+pub struct Member<'s> {
+    pub name: Text<'s>,
+    pub child: Child<'s>,
+}
+
+/// A token or a group. Trees share their tokens, and the members of their groups.
 #[derive(Drop)]
 #[cycle(group)]
 pub enum Child<'s> {
     Token(Rc<TokenDef<'s>>),
     Group(Group<'s>),
+}
+
+impl<'s> Model for Members<'s> {
+    ghost use Rattle.token_tree.specs.Tree.{Named};
+    ghost use Rattle.token_tree.specs.TreeCodes.{coded_named};
+
+    ghost Value = { Named };
+
+    ghost coded = { coded_named };
+
+    ghost use Rattle.std.specs.Prelude.{T};
+    ghost use Rattle.std.specs.FinMap.{is_sorted};
+    ghost use Rattle.tk_io.specs.Order.{text_cmp};
+    ghost use Rattle.token_tree.specs.Listed.{named_in, entries_in};
+
+    ghost view = { named_in };
+
+    ghost invariant = { λ m. T (is_sorted text_cmp (entries_in m)) };
+
+    ghost use Rattle.token_tree.specs.Sizes.{named_size};
+
+    ghost size = { named_size };
+
+    ghost use Rattle.token_tree.specs.Falls.{falls};
+
+    ghost size_decreases = { falls };
 }
 
 impl<'s> Members<'s> {
@@ -64,7 +101,18 @@ impl<'s> Members<'s> {
         ensures { members_view result ≡ map.empty }
     {
         Members {
-            entries: BTreeMap::new(alloc),
+            alloc,
+            entries: None,
+        }
+    }
+
+    /// The members in byte order of names.
+    pub fn as_slice(&self) -> &[Member<'s>]
+        ensures { map_list member_view result.now ≡ map.entries (members_view self.now) }
+    {
+        match &self.entries {
+            Some(shared) => shared.as_slice(),
+            None => Default::default(),
         }
     }
 
@@ -72,44 +120,138 @@ impl<'s> Members<'s> {
     pub fn len(&self) -> usize
         ensures { result ≡ map.len (members_view self.now) }
     {
-        self.entries.len()
+        self.as_slice().len()
+    }
+
+    /// Whether there is no member.
+    pub fn is_empty(&self) -> bool
+        ensures { result ≡ (map.len (members_view self.now) == 0) }
+    {
+        self.as_slice().is_empty()
     }
 
     /// The member of this name, or none where there is no such member.
     pub fn get(&self, name: &Text<'s>) -> Option<&Child<'s>>
         ensures { option_map (λ c. child_view c.now) result ≡ map.get (members_view self.now) name.now }
     {
-        self.entries.get(name)
+        let list = self.as_slice();
+        match place(list, name) {
+            Ok(i) => Some(&list[i].child),
+            Err(_) => None,
+        }
     }
 
     /// The i-th member in byte order of names, counted from 0; none where i is not below the length.
     pub fn at(&self, i: usize) -> Option<(&Text<'s>, &Child<'s>)>
         ensures { option_map {U = List ℕ × ChildData} (λ e. (e.0.now, child_view e.1.now)) result ≡ slice_get (map.entries (members_view self.now)) i }
     {
-        self.entries.iter().nth(i)
+        match self.as_slice().get(i) {
+            Some(member) => Some((&member.name, &member.child)),
+            None => None,
+        }
     }
 
-    /// All members in byte order of names.
-    pub fn entries(&self, alloc: Global) -> Result<Vec<(&Text<'s>, &Child<'s>)>, NoMemory>
-        ensures { IfOk result (λ es. map_list {B = List ℕ × ChildData} (λ e. (e.0.now, child_view e.1.now)) es.items ≡ map.entries (members_view self.now)) }
+    /// The same members, which both share.
+    pub fn copy(&self) -> Result<Members<'s>, NoMemory>
+        ensures { IfOk result (λ m. members_view m ≡ members_view self.now) }
     {
-        let mut list = Vec::new(alloc);
-        for (name, child) in self.entries.iter() {
-            list.push((name, child))?;
+        match &self.entries {
+            Some(shared) => Ok(Members {
+                alloc: self.alloc,
+                entries: Some(shared.clone()?),
+            }),
+            None => Ok(Members {
+                alloc: self.alloc,
+                entries: None,
+            }),
         }
-        Ok(list)
     }
 
     /// Adds the member under a copy of the name, or replaces the member of the name. Where memory runs out the child is
-    /// dropped and the members stay.
+    /// dropped and the members stay. Other copies of the members stay as well.
     pub fn put(&mut self, name: &Text<'s>, child: Child<'s>) -> Result<(), NoMemory>
         ensures ok { OnOk result (members_view self.new ≡ map.insert (members_view self.old) name.now (child_view child.entry)) }
         // What stands at each name afterwards.
         ensures at { OnOk result ((q : List ℕ) → map.get (members_view self.new) q ≡ cond (is_at (text_cmp name.now) q) (Some (child_view child.entry)) (map.get (members_view self.old) q)) }
         ensures err { OnErr result (members_view self.new ≡ members_view self.old) }
     {
-        let name = name.copy()?;
-        self.entries.insert(name, child)?;
+        let member = Member {
+            name: name.copy()?,
+            child,
+        };
+        let Some(shared) = &mut self.entries else {
+            let mut list = Vec::new(self.alloc);
+            list.push(member)?;
+            self.entries = Some(Rc::new(self.alloc, list)?);
+            return Ok(());
+        };
+        if let Some(list) = Rc::get_mut(shared) {
+            return put_member(list, member);
+        }
+        let mut list = copy_list(self.alloc, shared.as_slice())?;
+        put_member(&mut list, member)?;
+        *shared = Rc::new(self.alloc, list)?;
         Ok(())
+    }
+}
+
+impl<'s> Extends<'s> {
+    /// The same target, said at the same place.
+    pub fn copy(&self) -> Result<Extends<'s>, NoMemory>
+        ensures { IfOk result (λ e. extends_view e ≡ extends_view self.now) }
+    {
+        let target = self.target.copy()?;
+        Ok(Extends {
+            target,
+            file: self.file,
+            start: self.start,
+            end: self.end,
+        })
+    }
+}
+
+impl<'s> Group<'s> {
+    /// The same group, which shares its members.
+    pub fn copy(&self) -> Result<Group<'s>, NoMemory>
+        ensures { IfOk result (λ g. group_view g ≡ group_view self.now) }
+    {
+        let members = self.members.copy()?;
+        let deprecated = match &self.deprecated {
+            Some(mark) => Some(mark.copy()?),
+            None => None,
+        };
+        let extends = match &self.extends {
+            Some(extends) => Some(extends.copy()?),
+            None => None,
+        };
+        Ok(Group {
+            kind: self.kind,
+            deprecated,
+            extends,
+            members,
+        })
+    }
+}
+
+impl<'s> Child<'s> {
+    /// The same token or group, which shares its definition or its members.
+    pub fn copy(&self) -> Result<Child<'s>, NoMemory>
+        ensures { IfOk result (λ c. child_view c ≡ child_view self.now) }
+    {
+        match self {
+            Child::Token(def) => Ok(Child::Token(def.clone()?)),
+            Child::Group(group) => Ok(Child::Group(group.copy()?)),
+        }
+    }
+}
+
+impl<'s> Member<'s> {
+    /// The same member, which shares what it holds.
+    pub fn copy(&self) -> Result<Member<'s>, NoMemory>
+        ensures { IfOk result (λ m. member_view m ≡ member_view self.now) }
+    {
+        let name = self.name.copy()?;
+        let child = self.child.copy()?;
+        Ok(Member { name, child })
     }
 }

@@ -1,15 +1,55 @@
-use Rattle.std.proofs.Common.{ap, ◌∙◌}
+use Rattle.std.proofs.Common.{◌≡◌, T, [], ◌∷◌, rules, ap, sym, subst, ◌∙◌}
 use Rattle.std.specs.Cmp.Lexicographic.{nat_list_cmp_total}
 use Rattle.std.specs.FinMap as map
+use Rattle.std.specs.FinMap.{put}
+use Rattle.tk_io.specs.Order.{text_cmp}
 use Rattle.tk_io.proofs.MapViews.{at_insert}
-use Rattle.token_tree.specs.Shown.{child_view, members_view}
-use Rattle.token_tree.proofs.NameMaps.{name_put}
+use Rattle.token_tree.specs.Shown.{child_view}
+use Rattle.token_tree.specs.Listed.{members_in, entries_of, entries_in}
+use Rattle.token_tree.proofs.NameLists.{put_listed, either_sorted, still_sorted, where_ok}
 use Rattle.token_tree.proofs.tree.Members.put.Goals as goal
+
+pub returns-in_default-clause-ok : goal.returns-in_default-clause-ok
+returns-in_default-clause-ok c =
+    let none : members_in c.self.inside ≡ [] = search rules in
+    let one : c.in_ok-new.field-0.value.items ≡ record { name = c.args.name.now; child = c.args.child } ∷ [] = search rules in
+    put_listed c.self.inside c.args.self.now c.in_ok-new.field-0.value.items c.args.name.now (child_view c.args.child) c.self.invariant c.self.view_is
+    (ap entries_of one ∙ sym (ap (λ l. put text_cmp c.args.name.now (child_view c.args.child) (entries_of l)) none))
+
+pub returns-in_default-clause-at : goal.returns-in_default-clause-at
+returns-in_default-clause-at c q = ap (λ m. map.get m q) (returns-in_default-clause-ok c) ∙ at_insert nat_list_cmp_total c.args.self.now c.args.name.now (child_view c.args.child) q
+
+pub invariant_of-self-in-Some-get_mut : goal.invariant_of-self-in-Some-get_mut
+invariant_of-self-in-Some-get_mut c =
+    let old : c.in-Some-get_mut.list.now.items ≡ members_in c.self.inside = search rules in
+    either_sorted c.put_member.result c.in_ok-copy.field-0 (child_view c.args.child) c.in-Some-get_mut.list.now.items c.put_member.new.list.items
+    (subst (λ l. T (map.is_sorted text_cmp (entries_of l))) (sym old) c.self.invariant) c.put_member.ensures.ok c.put_member.ensures.err
+
+pub returns-in-Some-get_mut-clause-ok : goal.returns-in-Some-get_mut-clause-ok
+returns-in-Some-get_mut-clause-ok c =
+    let old : c.in-Some-get_mut.list.now.items ≡ members_in c.self.inside = search rules in
+    where_ok c.put_member.result
+    (λ e. put_listed c.self.inside c.args.self.now c.put_member.new.list.items c.args.name.now (child_view c.args.child) c.self.invariant c.self.view_is
+    (e ∙ (λ i. put text_cmp (c.in_ok-copy.ensures i) (child_view c.args.child) (entries_of (old i)))))
+    c.put_member.ensures.ok
+
+pub returns-in-Some-get_mut-clause-at : goal.returns-in-Some-get_mut-clause-at
+returns-in-Some-get_mut-clause-at c =
+    where_ok c.put_member.result (λ e q. ap (λ m. map.get m q) e ∙ at_insert nat_list_cmp_total c.args.self.now c.args.name.now (child_view c.args.child) q) (returns-in-Some-get_mut-clause-ok c)
+
+pub invariant_of-self-2 : goal.invariant_of-self-2
+invariant_of-self-2 c =
+    let new : c.in_ok-shared.field-0.value.items ≡ c.put_member-2.new.list.items = search rules in
+    let old : entries_of c.in_ok-list.list.items ≡ entries_in c.self.inside = search rules in
+    subst (λ l. T (map.is_sorted text_cmp (entries_of l))) (sym new) (still_sorted c.in_ok-copy.field-0 (child_view c.args.child) (entries_in c.self.inside) (entries_of c.put_member-2.new.list.items) c.self.invariant
+    (c.in_ok-put_member.ensures.ok ∙ ap (put text_cmp c.in_ok-copy.field-0 (child_view c.args.child)) old))
 
 pub returns-clause-ok : goal.returns-clause-ok
 returns-clause-ok c =
-    name_put child_view c.args.self.now.entries.entries c.insert.new.self.entries c.in_ok-name.name c.args.child c.in_ok-insert.ensures.entries
-    ∙ ap (λ k. map.insert (members_view c.args.self.now) k (child_view c.args.child)) c.in_ok-name.ensures
+    let new : c.in_ok-shared.field-0.value.items ≡ c.put_member-2.new.list.items = search rules in
+    let old : entries_of c.in_ok-list.list.items ≡ entries_in c.self.inside = search rules in
+    put_listed c.self.inside c.args.self.now c.in_ok-shared.field-0.value.items c.args.name.now (child_view c.args.child) c.self.invariant c.self.view_is
+    (ap entries_of new ∙ (c.in_ok-put_member.ensures.ok ∙ (λ i. put text_cmp (c.in_ok-copy.ensures i) (child_view c.args.child) (old i))))
 
 pub returns-clause-at : goal.returns-clause-at
-returns-clause-at c q = ap (λ m. map.get m q) (returns-clause-ok c) ∙ at_insert nat_list_cmp_total (members_view c.args.self.now) c.args.name.now (child_view c.args.child) q
+returns-clause-at c q = ap (λ m. map.get m q) (returns-clause-ok c) ∙ at_insert nat_list_cmp_total c.args.self.now c.args.name.now (child_view c.args.child) q

@@ -1,0 +1,90 @@
+-- Lists of members in the order of their names: the lemmas on sorted lists at the order of texts.
+use Rattle.std.proofs.Common.{◌≡◌, ℕ, zero, suc, ◌+◌, ◌-◌, ◌<◌, ◌≤◌, T, List, [], ◌∷◌, length, get_or, set, Some, None, Result, Ok, Err, OnOk, OnErr, Less, Equal, Greater, refl, sym, ap, subst, ◌∙◌, arith}
+use Rattle.std.proofs.lemmas.List.{length-map}
+use Rattle.std.specs.Cmp.Lexicographic.{nat_list_cmp_total}
+use Rattle.std.specs.FinMap as finite
+use Rattle.std.specs.FinMap.{is_sorted, find, put}
+use Rattle.std.specs.FinMap.Entries.{is_sorted-put}
+use Rattle.std.specs.List.{insert}
+use Rattle.tk_io.specs.Order.{text_cmp}
+use Rattle.tk_io.proofs.TextMaps.{text_cmp-IsAntisymmetric}
+use Rattle.token_tree.specs.Tree.{Child as ChildData, Named}
+use Rattle.token_tree.specs.Shown.{member_view, child_view}
+use Rattle.token_tree.specs.Listed.{entries_of, entries_in, named_in, IsPlaceOf, IsGapFor}
+use Rattle.token_tree.specs.declared.tree.Member.{Member}
+use Rattle.token_tree.specs.declared.tree.Members.TheInside.{Inside}
+use Rattle.token_tree.proofs.SortedLists as sorted
+
+-- what a comparison with the member at a place says
+
+same_item : (list : List Member) (i : ℕ) (c d : Member) → i < length list → get_or list i c ≡ get_or list i d
+same_item [] i c d h = absurd (omega (arith, h))
+same_item (m ∷ list) zero c d h = refl
+same_item (m ∷ list) (suc i) c d h = same_item list i c d (omega (arith, h))
+
+pub none_before : (list : List Member) (name : List ℕ) (i : ℕ) (m : Member) → T (is_sorted text_cmp (entries_of list)) → i < length list → text_cmp (get_or list i m).name name ≡ Less → (j : ℕ) (d : Member) → j < i + 1 → text_cmp (get_or list j d).name name ≡ Less
+none_before list name i m s h l j d k = sorted.before_less nat_list_cmp_total member_view list j i name d m s (omega (arith, k)) h l
+
+pub none_behind : (list : List Member) (name : List ℕ) (i : ℕ) (m : Member) → T (is_sorted text_cmp (entries_of list)) → text_cmp (get_or list i m).name name ≡ Greater → (j : ℕ) (d : Member) → i ≤ j → j < length list → text_cmp (get_or list j d).name name ≡ Greater
+none_behind list name i m s l j d k r = sorted.behind_greater nat_list_cmp_total member_view list i j name d m s k r l
+
+pub stands_there : (list : List Member) (name : List ℕ) (i : ℕ) (m : Member) → i < length list → text_cmp (get_or list i m).name name ≡ Equal → IsPlaceOf list name i
+stands_there list name i m h l = (h, λ d. ap (λ x. x.name) (same_item list i d m h) ∙ text_cmp-IsAntisymmetric (get_or list i m).name name l)
+
+-- behind the last, where that is less
+pub behind_last : (list : List Member) (name : List ℕ) (last : Member) → T (is_sorted text_cmp (entries_of list)) → 0 < length list → last ≡ get_or list (length list - 1) last → text_cmp last.name name ≡ Less → IsGapFor list name (length list)
+behind_last list name last s some e l =
+    let at_last : text_cmp (get_or list (length list - 1) last).name name ≡ Less = subst (λ x. text_cmp x.name name ≡ Less) e l in (
+      omega arith,
+      (
+        (λ j d low high. sorted.before_less nat_list_cmp_total member_view list j (length list - 1) name d last s (omega (arith, high)) (omega (arith, some)) at_last),
+        (λ j d low high. absurd (omega (arith, low, high))),
+      ),
+    )
+
+pub put_there : (list : List Member) (m : Member) (i : ℕ) → T (is_sorted text_cmp (entries_of list)) → IsPlaceOf list m.name i → entries_of (set list i m) ≡ put text_cmp m.name (child_view m.child) (entries_of list)
+put_there list m i s p = sym (sorted.put_here nat_list_cmp_total member_view list i m m s p.0 (p.1 m))
+
+pub put_between : (list new : List Member) (m : Member) (i : ℕ) → IsGapFor list m.name i → new ≡ insert list i m → entries_of new ≡ put text_cmp m.name (child_view m.child) (entries_of list)
+put_between list new m i g e =
+    ap entries_of e
+    ∙ sym (sorted.put_gap nat_list_cmp_total member_view list i m g.0 (λ j d l. g.1.0 j d (omega arith) l) (λ j d l h. g.1.1 j d l h))
+
+-- what is found in the map of a list
+
+pub get_there : (list : List Member) (m : Named) (name : List ℕ) (i : ℕ) (d : Member) → entries_of list ≡ finite.entries m → IsPlaceOf list name i → Some (child_view (get_or list i d).child) ≡ finite.get m name
+get_there list m name i d e p =
+    let s : T (is_sorted text_cmp (entries_of list)) = subst (λ es. T (is_sorted text_cmp es)) (sym e) (finite.entries_sorted m) in
+    sym (finite.get-entries m name ∙ (ap (find text_cmp name) (sym e) ∙ sorted.find_here nat_list_cmp_total member_view list i name d s p.0 (p.1 d)))
+
+pub get_none : (list : List Member) (m : Named) (name : List ℕ) (i : ℕ) → entries_of list ≡ finite.entries m → IsGapFor list name i → None ≡ finite.get m name
+get_none list m name i e g =
+    sym (finite.get-entries m name ∙ (ap (find text_cmp name) (sym e)
+    ∙ sorted.find_gap nat_list_cmp_total member_view list i name g.0 (λ j d l. g.1.0 j d (omega arith) l) (λ j d l h. g.1.1 j d l h)))
+
+pub how_many : (list : List Member) (m : Named) → entries_of list ≡ finite.entries m → length list ≡ finite.len m
+how_many list m e = sym (length-map list member_view) ∙ (ap length e ∙ sym (finite.len-entries m))
+
+-- the list and the map that it is seen as
+
+pub listed : (m : Inside) (now : Named) → T (is_sorted text_cmp (entries_in m)) → named_in m ≡ now → entries_in m ≡ finite.entries now
+listed m now s e = sym (finite.entries-from_sorted text_cmp (entries_in m) s) ∙ ap finite.entries e
+
+pub still_sorted : (name : List ℕ) (c : ChildData) (es fs : List (List ℕ × ChildData)) → T (is_sorted text_cmp es) → fs ≡ put text_cmp name c es → T (is_sorted text_cmp fs)
+still_sorted name c es fs s e = subst (λ l. T (is_sorted text_cmp l)) (sym e) (is_sorted-put text_cmp nat_list_cmp_total name c es s)
+
+pub put_listed : (m : Inside) (now : Named) (list : List Member) (name : List ℕ) (c : ChildData) → T (is_sorted text_cmp (entries_in m)) → named_in m ≡ now → entries_of list ≡ put text_cmp name c (entries_in m)
+    → finite.from_sorted (entries_of list) ≡ finite.insert now name c
+put_listed m now list name c s v e =
+    finite.same_entries_map _ _
+    (finite.entries-from_sorted text_cmp (entries_of list) (still_sorted name c (entries_in m) (entries_of list) s e)
+    ∙ (e ∙ (ap (put text_cmp name c) (listed m now s v) ∙ sym (finite.entries-insert nat_list_cmp_total now name c))))
+
+-- whether the member was put or not, the list is in order
+pub either_sorted : {A B : Type 0} (r : Result A B) (name : List ℕ) (c : ChildData) (old new : List Member) → T (is_sorted text_cmp (entries_of old)) → OnOk r (entries_of new ≡ put text_cmp name c (entries_of old)) → OnErr r (new ≡ old) → T (is_sorted text_cmp (entries_of new))
+either_sorted (Ok x) name c old new s ok err = still_sorted name c (entries_of old) (entries_of new) s ok
+either_sorted (Err x) name c old new s ok err = subst (λ l. T (is_sorted text_cmp (entries_of l))) (sym err) s
+
+pub where_ok : {A B : Type 0} {P Q : Type 0} (r : Result A B) → (P → Q) → OnOk r P → OnOk r Q
+where_ok (Ok x) f p = f p
+where_ok (Err x) f p = tt

@@ -1,0 +1,69 @@
+//! Lists of members in the order of their names.
+
+ghost use Rattle.std.specs.Prelude.{◌≡◌, T, IfOk, IfErr, OnOk, OnErr};
+ghost use Rattle.std.specs.FinMap.{is_sorted, put};
+ghost use Rattle.tk_io.specs.Order.{text_cmp};
+ghost use Rattle.token_tree.specs.Shown.{child_view};
+ghost use Rattle.token_tree.specs.Listed.{entries_of, IsPlaceOf, IsGapFor};
+
+use crate::tree::Member;
+use std::alloc::Global;
+use std::cmp::Ordering;
+use tk_io::{NoMemory, Text};
+
+/// Where the name stands in the list, or else where it belongs.
+pub(crate) fn place<'s>(list: &[Member<'s>], name: &Text<'s>) -> Result<usize, usize>
+    requires { T (is_sorted text_cmp (entries_of list.now)) }
+    ensures found { IfOk result (IsPlaceOf list.now name.now) }
+    ensures absent { IfErr result (IsGapFor list.now name.now) }
+{
+    let mut low = 0;
+    let mut high = list.len();
+    while low < high {
+        let middle = low + (high - low) / 2;
+        match list[middle].name.cmp(name) {
+            Ordering::Less => low = middle + 1,
+            Ordering::Equal => return Ok(middle),
+            Ordering::Greater => high = middle,
+        }
+    }
+    Err(low)
+}
+
+// The same, looked for at the end first, since most names come in order.
+fn place_from_end<'s>(list: &[Member<'s>], name: &Text<'s>) -> Result<usize, usize>
+    requires { T (is_sorted text_cmp (entries_of list.now)) }
+    ensures found { IfOk result (IsPlaceOf list.now name.now) }
+    ensures absent { IfErr result (IsGapFor list.now name.now) }
+{
+    if let Some(last) = list.last() {
+        if let Ordering::Less = last.name.cmp(name) {
+            return Err(list.len());
+        }
+    }
+    place(list, name)
+}
+
+/// Puts the member in its place, or replaces the one of its name. Where memory runs out the list stays.
+pub(crate) fn put_member<'s>(list: &mut Vec<Member<'s>>, member: Member<'s>) -> Result<(), NoMemory>
+    requires { T (is_sorted text_cmp (entries_of list.old.items)) }
+    ensures ok { OnOk result (entries_of list.new.items ≡ put text_cmp member.entry.name (child_view member.entry.child) (entries_of list.old.items)) }
+    ensures err { OnErr result (list.new.items ≡ list.old.items) }
+{
+    match place_from_end(list.as_slice(), &member.name) {
+        Ok(i) => list[i] = member,
+        Err(i) => list.insert(i, member)?,
+    }
+    Ok(())
+}
+
+/// A list of the same members, which shares what they hold.
+pub(crate) fn copy_list<'s>(alloc: Global, list: &[Member<'s>]) -> Result<Vec<Member<'s>>, NoMemory>
+    ensures { IfOk result (λ copies. entries_of copies.items ≡ entries_of list.now) }
+{
+    let mut copies = Vec::with_capacity(alloc, list.len())?;
+    for member in list {
+        copies.push(member.copy()?)?;
+    }
+    Ok(copies)
+}
