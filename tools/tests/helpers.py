@@ -1,0 +1,115 @@
+"""What the tests of tools/ share: folders of their own, and a program that stands in for tokc."""
+import os
+import subprocess
+import sys
+import tempfile
+import unittest
+from typing import NamedTuple
+
+TOP = os.path.dirname(os.path.dirname(os.path.dirname(os.path.abspath(__file__))))
+TOKC = os.path.join(TOP, "tokc")
+TOKC_DIR = os.path.join(TOP, "tools", "tokc-dir")
+SECONDS = 60
+
+# Keeps the script that it is given, and answers with what stands beside it.
+STAND_IN = """#!/bin/sh
+cd "${0%/*}" && cat >script && cat stream && cat said >&2 && exit "$(cat status)"
+"""
+
+
+class Ran(NamedTuple):
+    """How a program ended: its exit status, and what it wrote as text."""
+
+    status: int
+    out: str
+    err: str
+
+
+def run(words, given=b"", tokc=None, at=TOP):
+    """Runs words in a folder, with another program for tokc where one is given."""
+    env = dict(os.environ, PYTHONDONTWRITEBYTECODE="1")
+    env.pop("TOKC", None)
+    if tokc:
+        env["TOKC"] = tokc
+    ran = subprocess.run(words, input=given, capture_output=True, cwd=at, env=env, timeout=SECONDS, check=False)
+    return Ran(ran.returncode, ran.stdout.decode(), ran.stderr.decode())
+
+
+def write(name, data):
+    os.makedirs(os.path.dirname(name), exist_ok=True)
+    with open(name, "wb") as file:
+        file.write(data if isinstance(data, bytes) else data.encode())
+
+
+def read(name):
+    with open(name, "rb") as file:
+        return file.read()
+
+
+def tree(folder):
+    """The files below a folder, by their paths, with their bytes."""
+    found = {}
+    for at, _, names in os.walk(folder):
+        for name in names:
+            path = os.path.join(at, name)
+            found[os.path.relpath(path, folder)] = read(path)
+    return found
+
+
+def stream_of(*commits):
+    """A stream of commits, each a list of (path, bytes), or (path, None) for an output that is gone."""
+    pieces = [b"tokc-stream 1\n"]
+    for number, records in enumerate(commits, 1):
+        pieces.append(b"commit %d\n" % number)
+        for path, data in records:
+            pieces.append(b"gone %s\n" % path.encode() if data is None else b"file %s %d\n%s\n" % (path.encode(), len(data), data))
+    return b"".join([*pieces, b"done %d\n" % len(commits)])
+
+
+def refused(rule, file, text, start, end, *further):
+    """The text of a REFUSED file about bytes of a text."""
+    line, column = text.count(b"\n", 0, start) + 1, start - text.rfind(b"\n", 0, start)
+    lines = [f"rule {rule}", f"file {file}", f"line {line} column {column}", f"bytes {start} {end}", *further]
+    return "".join(it + "\n" for it in lines).encode()
+
+
+class Room(unittest.TestCase):
+    """A test with a folder of its own, in which `tokens` is a folder of token files and `out` is to take the outputs."""
+
+    def setUp(self):
+        room = tempfile.TemporaryDirectory(prefix="tokc-dir-")
+        self.addCleanup(room.cleanup)
+        self.room = os.path.realpath(room.name)
+        self.out = self.at("out")
+        os.mkdir(self.at("tokens"))
+
+    def at(self, *parts):
+        return os.path.join(self.room, *parts)
+
+    def put(self, files):
+        """Writes token files, given by their paths."""
+        for path, data in files.items():
+            write(self.at("tokens", path), data)
+
+    def stand_in(self, stream=b"", status=0, said=""):
+        """Makes a program that answers so, and gives its name."""
+        name = self.at("stand-in", "tokc")
+        write(name, STAND_IN)
+        os.chmod(name, 0o755)
+        for part, data in (("stream", stream), ("status", str(status)), ("said", said)):
+            write(self.at("stand-in", part), data)
+        return name
+
+    def tool(self, *words, given=b"", tokc=None):
+        """Runs tokc-dir in the room."""
+        return run([sys.executable, TOKC_DIR, *words], given, tokc, self.room)
+
+    def build(self, stream=b"", status=0, said=""):
+        """Builds `tokens` into `out` over a stand-in that answers so."""
+        return self.tool("build", "tokens", "out", tokc=self.stand_in(stream, status, said))
+
+    def outputs(self):
+        """The files below `out` but for the list of what was written."""
+        found = tree(self.out)
+        found.pop(".tokc-outputs", None)
+        return found

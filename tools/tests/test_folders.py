@@ -1,0 +1,305 @@
+"""What tokc-dir reads from a folder and writes into one, over a program that stands in for tokc."""
+import os
+import re
+import subprocess
+import sys
+import time
+import unittest
+
+from helpers import TOKC_DIR, Room, read, refused, stream_of, tree, write
+
+CSS = b":root {\n  --a: 1px;\n}\n"
+OTHER = b":root {\n  --a: 2px;\n}\n"
+ONE = stream_of([("default/tokens.css", CSS)])
+REFUSED = refused("shape-root", "tokens.json", b"[]", 0, 2)
+
+
+class In(Room):
+    """The script that a folder makes."""
+
+    def script(self, out="out"):
+        ran = self.tool("build", "tokens", out, tokc=self.stand_in(ONE))
+        self.assertEqual((ran.status, ran.err), (0, ""))
+        return read(self.at("stand-in", "script"))
+
+    def test_files_stand_in_byte_order_with_their_lengths(self):
+        self.put({"b.json": "{}", "a/z.json": '{"ü":1}\n', "a.json": "", "B.json": "1", "tokc.toml": 'prefix = "x"\n', "a-b/c_d.e.json": "[]"})
+        self.assertEqual(self.script(), b"""tokc-script 1
+put B.json 1
+1
+put a-b/c_d.e.json 2
+[]
+put a.json 0
+
+put a/z.json 9
+{"\xc3\xbc":1}
+
+put b.json 2
+{}
+put tokc.toml 13
+prefix = "x"
+
+commit
+""")
+
+    def test_what_is_passed_over(self):
+        self.put({"tokens.json": "{}", "read.me": "x", "sub/tokc.toml": "=", "a.JSON": "x", ".git/x y.json": "x", "earlier/.tokc-outputs": "", "earlier/tokens.json": "1"})
+        self.put({"build/out/default/tokens.json": "1", ".hidden.json": "2"})
+        os.symlink("..", self.at("tokens", "up"))
+        self.assertEqual(self.script("tokens/build/out"), b"tokc-script 1\nput .hidden.json 1\n2\nput tokens.json 2\n{}\ncommit\n")
+        self.assertEqual(read(self.at("tokens/build/out/default/tokens.css")), CSS)
+
+    def test_links_to_files_are_read(self):
+        write(self.at("elsewhere"), "{}")
+        os.symlink(self.at("elsewhere"), self.at("tokens", "tokens.json"))
+        self.assertEqual(self.script(), b"tokc-script 1\nput tokens.json 2\n{}\ncommit\n")
+
+    def test_an_empty_folder_is_a_script_without_files(self):
+        self.assertEqual(self.script(), b"tokc-script 1\ncommit\n")
+
+    def test_pack_writes_the_script(self):
+        self.put({"tokens.json": "{}"})
+        ran = self.tool("pack", "tokens")
+        self.assertEqual(ran, (0, "tokc-script 1\nput tokens.json 2\n{}\ncommit\n", ""))
+
+
+class WrongUse(Room):
+    """Folders and files that tokc can't be given: all are told, and nothing is run or written."""
+
+    def wrong(self, words, *lines):
+        ran = self.tool(*words, tokc=self.stand_in(ONE))
+        self.assertEqual((ran.status, ran.out), (2, ""))
+        self.assertEqual(ran.err.splitlines(), list(lines))
+        self.assertFalse(os.path.exists(self.out) or os.path.exists(self.at("stand-in", "script")))
+
+    def test_paths_that_no_script_can_name(self):
+        long = "l" * 100 + "/" + "m" * 95 + ".json"
+        self.put({"my tokens.json": "{}", "größe/a.json": "{}", long: "{}", "good.json": "{}", "l" * 100 + "/" + "m" * 94 + ".json": "{}"})
+        rule = "tokc takes paths of at most 200 letters, digits, `.`, `_`, `-` and `/` of ASCII; rename the file or its folder"
+        self.wrong(["build", "tokens", "out"], *(f"tokens/{it}: {rule}" for it in ("größe/a.json", long, "my tokens.json")))
+
+    def test_a_name_that_is_no_text(self):
+        with open(os.fsencode(self.at("tokens")) + b"/\xff\n.json", "wb"):
+            pass
+        rule = "tokc takes paths of at most 200 letters, digits, `.`, `_`, `-` and `/` of ASCII; rename the file or its folder"
+        self.wrong(["build", "tokens", "out"], f"tokens/<U+DCFF><U+000A>.json: {rule}")
+
+    def test_bytes_that_are_no_text(self):
+        self.put({"a.json": b"{}\xff", "b.json": b'{"a":"\xed\xa0\x80"}', "c.json": "{}"})
+        self.wrong(
+            ["pack", "tokens"],
+            "tokens/a.json: byte 2 is no UTF-8; save the file as UTF-8",
+            "tokens/b.json: byte 6 is no UTF-8; save the file as UTF-8",
+        )
+
+    def test_what_is_no_file(self):
+        os.symlink("nowhere", self.at("tokens", "a.json"))
+        os.mkfifo(self.at("tokens", "b.json"))
+        os.mkdir(self.at("tokens", "tokc.toml"))
+        self.wrong(
+            ["build", "tokens", "out"],
+            "tokens/a.json: it can't be read: No such file or directory",
+            "tokens/b.json: this is no file",
+            "tokens/tokc.toml: this is no file",
+        )
+
+    def test_folders(self):
+        write(self.at("file"), "")
+        self.wrong(["build", "absent", "out"], "absent: there is no such folder")
+        self.wrong(["watch", "absent", "out"], "absent: there is no such folder")
+        self.wrong(["pack", "file"], "file: there is no such folder")
+        self.wrong(["build", "tokens", "file"], "file: this is no folder")
+        self.wrong(["unpack", "file"], "file: this is no folder")
+        self.wrong(["build", "tokens", "tokens/"], "tokens/: the outputs need a folder of their own, and tokens is this one or stands in it")
+        self.wrong(["build", "tokens", "."], ".: the outputs need a folder of their own, and tokens is this one or stands in it")
+
+    def test_words(self):
+        usage = self.tool().err.splitlines()
+        self.assertEqual(usage[0].split()[:3], ["usage:", "tokc-dir", "build"])
+        for words in ([], ["bild", "tokens", "out"], ["build", "tokens"], ["build", "tokens", "out", "x"], ["pack"], ["unpack"], ["watch", "tokens"]):
+            self.wrong(words, *usage)
+        self.wrong(["watch", "tokens", "out", "soon"], "soon: a number of seconds is wanted, as 0.5")
+        self.assertEqual(self.tool("--help").status, 0)
+
+
+class Out(Room):
+    """The folder of outputs after a run."""
+
+    def test_exactly_the_outputs(self):
+        ran = self.build(stream_of([("a/b.css", CSS), ("a/c.css", b""), ("d=%20+e/x", b"\0\xff\n")]))
+        self.assertEqual((ran.status, ran.err), (0, ""))
+        self.assertEqual(self.outputs(), {"a/b.css": CSS, "a/c.css": b"", "d=%20+e/x": b"\0\xff\n"})
+        self.assertEqual(read(self.at("out/.tokc-outputs")), b"a/b.css\na/c.css\nd=%20+e/x\n")
+        self.assertEqual(ran.out.splitlines()[:3], ["wrote a/b.css", "wrote a/c.css", "wrote d=%20+e/x"])
+        self.assertRegex(ran.out.splitlines()[3], r"\A3 outputs; 3 changed; [0-9.]+ s\Z")
+
+    def test_earlier_outputs_go_and_nothing_else(self):
+        self.build(stream_of([("a/x.css", CSS), ("a/y.css", CSS), ("b/c.css", CSS), ("d/e.css", CSS)]))
+        write(self.at("out/d/mine"), "1")
+        write(self.at("out/mine"), "2")
+        ran = self.build(stream_of([("a/x.css", OTHER), ("a/z.css", CSS)]))
+        self.assertEqual(ran.out.splitlines()[:-1], ["wrote a/x.css", "wrote a/z.css", "removed a/y.css", "removed b/c.css", "removed d/e.css"])
+        self.assertEqual(self.outputs(), {"a/x.css": OTHER, "a/z.css": CSS, "d/mine": b"1", "mine": b"2"})
+        self.assertFalse(os.path.exists(self.at("out/b")))
+
+    def test_a_refusal_is_an_output(self):
+        self.put({"tokens.json": "[]"})
+        self.build(ONE)
+        ran = self.build(stream_of([("default/REFUSED", REFUSED)]), 1)
+        self.assertEqual((ran.status, self.outputs()), (1, {"default/REFUSED": REFUSED}))
+        ran = self.build(ONE)
+        self.assertEqual((ran.status, self.outputs()), (0, {"default/tokens.css": CSS}))
+
+    def test_what_did_not_change_is_not_written(self):
+        two = [("a/x.css", CSS), ("a/y.css", CSS)]
+        self.build(stream_of(two))
+        names = [self.at("out", it) for it in ("a/x.css", "a/y.css", ".tokc-outputs")]
+        before = [os.stat(it).st_ino for it in names]
+        ran = self.build(stream_of([two[0], ("a/y.css", OTHER)]))
+        after = [os.stat(it).st_ino for it in names]
+        self.assertEqual([one == other for one, other in zip(before, after)], [True, False, True])
+        self.assertEqual(ran.out.splitlines()[0], "wrote a/y.css")
+
+    def test_a_file_is_replaced_by_a_rename(self):
+        """What reads the old file goes on reading the old bytes, whole."""
+        self.build(ONE)
+        with open(self.at("out/default/tokens.css"), "rb") as old:
+            self.build(stream_of([("default/tokens.css", OTHER)]))
+            self.assertEqual(old.read(), CSS)
+        self.assertEqual(self.outputs(), {"default/tokens.css": OTHER})
+
+    def test_what_a_run_that_was_cut_off_leaves_is_put_right(self):
+        self.build(stream_of([("a/x.css", CSS)]))
+        write(self.at("out/.tokc-outputs"), "a/x.css\nb/y.css\nb/z.css\n")
+        write(self.at("out/b/y.css"), CSS)
+        write(self.at("out/.tokc-new"), CSS[:4])
+        self.build(stream_of([("a/x.css", OTHER)]))
+        self.assertEqual(tree(self.out), {"a/x.css": OTHER, ".tokc-outputs": b"a/x.css\n"})
+
+    def test_a_list_that_leads_outside_removes_nothing_there(self):
+        write(self.at("mine"), "1")
+        write(self.at("out/.tokc-outputs"), "../mine\n/etc/../mine\na//b\n.\n" + self.at("mine") + "\n")
+        self.build(ONE)
+        self.assertEqual(read(self.at("mine")), b"1")
+
+    def test_what_stands_in_the_way(self):
+        os.makedirs(self.at("out/default/tokens.css"))
+        ran = self.build(ONE)
+        self.assertEqual(ran.status, 3)
+        self.assertRegex(ran.err, r"\Aout/default/tokens.css: it can't be written: ")
+        write(self.at("other/default"), "mine")
+        ran = self.tool("build", "tokens", "other", tokc=self.stand_in(ONE))
+        self.assertEqual((ran.status, read(self.at("other/default"))), (3, b"mine"))
+
+    def test_deep_folders_are_made(self):
+        ran = self.tool("build", "tokens", "x/y/z", tokc=self.stand_in(ONE))
+        self.assertEqual((ran.status, read(self.at("x/y/z/default/tokens.css"))), (0, CSS))
+
+
+class Streams(Room):
+    """Streams from a program, or from standard input."""
+
+    def test_the_last_commit_counts(self):
+        stream = stream_of([("a", CSS), ("b", CSS)], [("a", None), ("b", OTHER)], [], [("c", b"tokc-stream 1\ncommit 9\n")])
+        ran = self.tool("unpack", "out", given=stream)
+        self.assertEqual((ran.status, ran.err), (0, ""))
+        self.assertEqual(self.outputs(), {"b": OTHER, "c": b"tokc-stream 1\ncommit 9\n"})
+
+    def test_no_commit(self):
+        self.build(ONE)
+        self.assertEqual(self.tool("unpack", "out", given=stream_of()).status, 0)
+        self.assertEqual(self.outputs(), {})
+
+    def test_a_refusal_in_a_stream_alone(self):
+        ran = self.tool("unpack", "out", given=stream_of([("default/REFUSED", REFUSED)]))
+        self.assertEqual((ran.status, ran.err), (1, "tokens.json:1:1: shape-root: a token file is an object, and no token\n"))
+
+    def test_other_bytes_are_no_stream(self):
+        cases = [
+            b"", b"tokc-stream 2\ndone 0\n", b"tokc-stream 1\n", b"tokc-stream 1\ndone 1\n", b"tokc-stream 1\ncommit 2\ndone 1\n", b"tokc-stream 1\ndone 0\nx",
+            ONE[:-1], ONE[:-9], ONE.replace(b"css 22", b"css 21"), ONE.replace(b"css 22", b"css 99"), ONE.replace(b"css 22", b"css"), ONE.replace(b"css 22", b"css 022"),
+            ONE.replace(b"file default", b"file ../default"), ONE.replace(b"file default", b"file /default"), ONE.replace(b"file default", b"file a//b"),
+            ONE.replace(b"default/tokens.css", b".tokc-outputs"), ONE.replace(b"commit 1\n", b""), ONE.replace(b"commit 1", b"commit 1 2"),
+            stream_of([("a", None)]), ONE.replace(b"file ", b"put "), ONE.replace(b"tokens.css", b"to\0kens.css"), ONE.replace(b"done 1", b"done 01"),
+        ]
+        for stream in cases:
+            with self.subTest(stream=stream):
+                ran = self.tool("unpack", "out", given=stream)
+                self.assertEqual((ran.status, ran.out), (3, ""))
+                self.assertRegex(ran.err, r"\Athis is no stream of tokc: it is not as wanted from byte \d+ on\n\Z")
+                self.assertFalse(os.path.exists(self.out))
+
+    def test_a_program_that_stops(self):
+        cases = {
+            4: "tokc could not read the script", 5: "tokc could not write its stream", 6: "tokc ran out of memory",
+            7: "the token files are too large: a script has at most 67,108,864 bytes",
+            8: "tokc does not build these files yet; docs/MANUAL.md says under 'What is built so far' which it does",
+            126: "tokc could not be built, as said above", 77: "tokc ended with status 77",
+        }
+        for status, line in cases.items():
+            with self.subTest(status=status):
+                ran = self.build(ONE[:20], status, "tokc: its own line\n")
+                self.assertEqual(ran, (3, "", f"tokc: its own line\n{line}\n"))
+                self.assertFalse(os.path.exists(self.out))
+
+    def test_a_program_that_is_not_there(self):
+        ran = self.tool("build", "tokens", "out", tokc=self.at("nowhere"))
+        self.assertEqual((ran.status, ran.err), (3, f"{self.at('nowhere')}: it can't be run: No such file or directory\n"))
+
+
+class Watching(Room):
+    """`watch` builds again at each change, and goes on after a file that it can't use."""
+
+    def setUp(self):
+        super().setUp()
+        self.program = self.stand_in(ONE)
+        self.put({"tokens.json": "{}"})
+        env = dict(os.environ, TOKC=self.program, PYTHONDONTWRITEBYTECODE="1")
+        words = [sys.executable, TOKC_DIR, "watch", "tokens", "out", "0.02"]
+        self.watch = subprocess.Popen(words, cwd=self.room, env=env, stdout=subprocess.PIPE, stderr=subprocess.STDOUT, text=True)
+        self.addCleanup(self.end)
+
+    def end(self):
+        self.watch.kill()
+        self.watch.communicate()
+
+    def lines(self, count):
+        """The next lines, without the time that a run took."""
+        return [re.sub(r"; [0-9.]+ s\Z", "", self.watch.stdout.readline().rstrip("\n")) for _ in range(count)]
+
+    def test_changes(self):
+        self.assertEqual(self.lines(2), ["wrote default/tokens.css", "1 output; 1 changed"])
+        self.stand_in(stream_of([("default/REFUSED", refused("json-syntax", "tokens.json", b"{", 1, 1))]), 1)
+        self.put({"tokens.json": "{"})
+        self.assertEqual(self.lines(4), ["tokens.json is changed", "wrote default/REFUSED", "removed default/tokens.css", "1 output, 1 of them REFUSED; 2 changed"])
+        self.assertEqual(self.lines(3), ["tokens/tokens.json:1:2: json-syntax: no JSON text goes on like this", "  1 | {", "    |  ^"])
+        self.put({"tokens.json": b"\xff"})
+        self.assertEqual(self.lines(1), ["tokens/tokens.json: byte 0 is no UTF-8; save the file as UTF-8"])
+        self.stand_in(ONE)
+        self.put({"more.json": "1"})
+        os.remove(self.at("tokens/tokens.json"))
+        told = self.lines(1)
+        if told == ["tokens/tokens.json: byte 0 is no UTF-8; save the file as UTF-8"]:
+            told = self.lines(1)
+        self.assertEqual(told + self.lines(4), ["more.json is new", "tokens.json is gone", "wrote default/tokens.css", "removed default/REFUSED", "1 output; 2 changed"])
+        self.assertEqual(self.outputs(), {"default/tokens.css": CSS})
+
+    def test_it_goes_on_after_a_program_that_stops(self):
+        self.lines(2)
+        self.stand_in(b"", 8)
+        self.put({"tokens.json": "{ }"})
+        self.assertEqual(self.lines(2), ["tokens.json is changed", "tokc does not build these files yet; docs/MANUAL.md says under 'What is built so far' which it does"])
+        self.stand_in(stream_of([("default/tokens.css", OTHER)]))
+        self.put({"tokens.json": "{  }"})
+        self.assertEqual(self.lines(3), ["tokens.json is changed", "wrote default/tokens.css", "1 output; 1 changed"])
+
+    def test_the_same_bytes_anew_build_nothing(self):
+        self.lines(2)
+        self.put({"tokens.json": "{}"})
+        time.sleep(0.2)
+        self.put({"tokens.json": "{ }"})
+        self.assertEqual(self.lines(2), ["tokens.json is changed", "1 output; 0 changed"])
+
+
+if __name__ == "__main__":
+    unittest.main()
