@@ -36,9 +36,11 @@ def run(words, given=b"", tokc=None, at=TOP):
 
 
 def write(name, data):
+    """Writes a file, by a rename, so that a watch never sees half of it."""
     os.makedirs(os.path.dirname(name), exist_ok=True)
-    with open(name, "wb") as file:
+    with open(name + ".part", "wb") as file:
         file.write(data if isinstance(data, bytes) else data.encode())
+    os.replace(name + ".part", name)
 
 
 def read(name):
