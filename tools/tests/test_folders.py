@@ -1,6 +1,7 @@
 """What tokc-dir reads from a folder and writes into one, over a program that stands in for tokc."""
 import os
 import re
+import signal
 import subprocess
 import sys
 import time
@@ -292,6 +293,11 @@ class Watching(Room):
         self.stand_in(stream_of([("default/tokens.css", OTHER)]))
         self.put({"tokens.json": "{  }"})
         self.assertEqual(self.lines(3), ["tokens.json is changed", "wrote default/tokens.css", "1 output; 1 changed"])
+
+    def test_an_interrupt_ends_it_well(self):
+        self.lines(2)
+        self.watch.send_signal(signal.SIGINT)
+        self.assertEqual((self.watch.wait(timeout=60), self.watch.stdout.read()), (0, ""))
 
     def test_the_same_bytes_anew_build_nothing(self):
         self.lines(2)
