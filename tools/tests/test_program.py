@@ -144,6 +144,12 @@ class Documents(Room):
         for name in ("changes.script", "changes.stream"):
             self.assertIn(read(os.path.join(TOP, "examples", name)).decode(), text)
 
+    def test_the_refusal_that_is_shown(self):
+        message = self.document("examples", "acme", "broken", "message")
+        indented = "".join(f"    {line}\n" for line in message.splitlines())
+        for name in (("README.md",), ("docs", "MANUAL.md")):
+            self.assertIn(indented, self.document(*name))
+
     def test_links_lead_to_files(self):
         names = ["README.md", "CONTRIBUTING.md", *(os.path.join("docs", it) for it in os.listdir(os.path.join(TOP, "docs")))]
         for name in names:
