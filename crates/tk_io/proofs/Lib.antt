@@ -1,2 +1,4 @@
 pub mod MapViews
+mod Members
+pub mod SortedEntries
 pub mod TextMaps

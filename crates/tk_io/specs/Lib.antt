@@ -1,7 +1,8 @@
 pub mod Causes
+pub mod Reading
+pub mod Writing
 pub mod Memory
 pub mod Order
-pub mod Reading
 pub mod Shown
 pub mod Text
-pub mod Writing
+pub mod Search

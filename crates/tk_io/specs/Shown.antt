@@ -4,3 +4,7 @@ use Rattle.std.specs.Prelude.{List, map}
 -- each entry, with its key by one function and its value by another
 abbrev pub shown_by : {K L X Y : Type 0} → (K → L) → (X → Y) → List (K × X) → List (L × Y)
 shown_by key value entries = map (λ e. (key e.0, value e.1)) entries
+
+-- each entry as its key and its value
+abbrev pub entries_by : {E L Y : Type 0} → (E → L) → (E → Y) → List E → List (L × Y)
+entries_by key value entries = map (λ e. (key e, value e)) entries

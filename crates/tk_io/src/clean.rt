@@ -56,7 +56,7 @@ pub struct NullSink;
 impl NullSink {
     /// The sink.
     pub fn new() -> NullSink
-        ensures { result ≡ record { } }
+        ensures { result ≡ record {} }
     {
         NullSink
     }

@@ -1,8 +1,12 @@
 // The outputs of a build.
-ghost use Rattle.std.specs.Prelude.{◌≡◌, List, ℕ, IfOk, OnOk, OnErr, map as map_list};
+ghost use Rattle.std.specs.Prelude.{◌≡◌, List, ℕ, Some, cond, OnOk, OnErr};
+ghost use Rattle.std.specs.BTreeMap.{is_at};
 ghost use Rattle.std.specs.FinMap as map;
 ghost use Rattle.std.specs.List.{slice_get};
 ghost use Rattle.std.specs.Option.{option_map};
+ghost use Rattle.std.specs.String.{string_bytes};
+ghost use Rattle.tk_io.specs.Order.{text_cmp};
+ghost use Rattle.tk_io.specs.Shown.{shown_by};
 
 use crate::{Bytes, NoMemory, TextMap};
 use std::alloc::Global;
@@ -65,19 +69,17 @@ impl Outputs {
     }
 
     /// All outputs in byte order of paths.
-    pub fn entries(&self, alloc: Global) -> Result<Vec<(&str, &[u8])>, NoMemory>
-        ensures { IfOk result (λ es. map_list {B = List ℕ × List ℕ} (λ e. (e.0.now, e.1.now)) es.items ≡ map.entries self.now) }
+    pub fn entries(&self) -> &[(String, Bytes)]
+        ensures { shown_by string_bytes (λ body. body) result.now ≡ map.entries self.now }
     {
-        let mut list = Vec::new(alloc);
-        for (path, body) in self.bodies.entries(alloc)?.as_slice() {
-            list.push((*path, body.as_slice()))?;
-        }
-        Ok(list)
+        self.bodies.entries()
     }
 
     /// Adds the output, or replaces the bytes of its path. Where memory runs out the body is dropped and the outputs stay.
     pub fn insert(&mut self, path: &str, body: Bytes) -> Result<(), NoMemory>
         ensures ok { OnOk result (self.new ≡ map.insert self.old path.now body) }
+        // What stands at each path afterwards.
+        ensures at { OnOk result ((q : List ℕ) → map.get self.new q ≡ cond (is_at (text_cmp path.now) q) (Some body) (map.get self.old q)) }
         ensures err { OnErr result (self.new ≡ self.old) }
     {
         self.bodies.put(path, body)

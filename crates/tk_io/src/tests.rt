@@ -1,7 +1,7 @@
 // Each call once on its happy path, and reading and writing where calls fail or take little.
 use crate::{
-    Bytes, CleanSource, Failed, MemSink, MemSource, NullSink, Outputs, ReadStop, Sequence, StdSink,
-    StdSource, Text, TextMap, read_all, write_all,
+    Bytes, CleanSource, MemSink, MemSource, NullSink, Outputs, ReadStop, Sequence, StdSink,
+    StdSource, Text, TextMap, is_in, read_all, write_all,
 };
 use std::alloc::Global;
 use std::process::Abort;
@@ -67,12 +67,38 @@ fn writes_whole_pieces_and_single_bytes_alike(rt: HostRuntime) {
 }
 
 #[test]
-fn standard_streams_are_a_source_and_a_sink(rt: HostRuntime) -> Result<(), Fail> {
-    let mut src = StdSource::new(rt.stdin());
-    let _ = read_all(rt.alloc(), &mut src, 1000)?;
-    let mut out = StdSink::new(rt.stdout());
-    assert!(rt; write_all(&mut out, b"\n").is_ok());
+fn readers_and_writers_are_sources_and_sinks(rt: HostRuntime) -> Result<(), Fail> {
+    let mut src = StdSource::new(b"abcde".as_slice());
+    assert_eq!(rt;
+        read_all(rt.alloc(), &mut src, 5)?.as_slice(),
+        b"abcde".as_slice()
+    );
+    let mut held = Vec::new(rt.alloc());
+    let mut out = StdSink::new(&mut held);
+    assert!(rt; write_all(&mut out, b"abc").is_ok());
+    assert!(rt; write_all(&mut out, b"de").is_ok());
+    drop(out);
+    assert_eq!(rt; held.as_slice(), b"abcde".as_slice());
+    let mut input = StdSource::new(rt.stdin());
+    let _ = read_all(rt.alloc(), &mut input, 1000)?;
+    let mut output = StdSink::new(rt.stdout());
+    assert!(rt; write_all(&mut output, b"\n").is_ok());
     Ok(())
+}
+
+#[test]
+fn a_list_in_order_is_looked_through(rt: HostRuntime) {
+    for (item, held) in [
+        (0u8, false),
+        (1, true),
+        (2, false),
+        (4, true),
+        (9, true),
+        (10, false),
+    ] {
+        assert_eq!(rt; is_in([1u8, 4, 9].as_slice(), &item), held);
+    }
+    assert!(rt; !is_in([].as_slice(), &1u8));
 }
 
 #[test]
@@ -110,7 +136,7 @@ fn outputs_keep_the_last_body_in_byte_order(rt: HostRuntime) -> Result<(), Fail>
     assert_eq!(rt; path, "o/x");
     assert_eq!(rt; body, b"c".as_slice());
     assert!(rt; outputs.at(2).is_none());
-    assert_eq!(rt; outputs.entries(rt.alloc())?.len(), 2);
+    assert_eq!(rt; outputs.entries().len(), 2);
     Ok(())
 }
 
@@ -124,5 +150,12 @@ fn maps_keep_and_lose_values(rt: HostRuntime) -> Result<(), Fail> {
     assert_eq!(rt; map.len(), 1);
     map.del("a");
     assert!(rt; map.at(0).is_none());
+    for (key, value) in [("m", 1), ("z", 2), ("b", 3), ("n", 4), ("b", 5)] {
+        map.put(key, value)?;
+    }
+    map.del("m");
+    for (i, (key, value)) in [("b", 5), ("n", 4), ("z", 2)].iter().enumerate() {
+        assert_eq!(rt; map.at(i), Some((*key, value)));
+    }
     Ok(())
 }

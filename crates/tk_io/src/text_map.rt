@@ -1,25 +1,31 @@
 // A finite map under owned texts, the pattern of every map whose values contracts see whole.
-ghost use Rattle.std.specs.Prelude.{◌≡◌, List, ℕ, Some, None, IfOk, OnOk, OnErr, cond, map as map_list};
+ghost use Rattle.std.specs.Prelude.{◌≡◌, List, ℕ, T, Some, None, OnOk, OnErr, cond, length};
 ghost use Rattle.std.specs.BTreeMap.{is_at};
 ghost use Rattle.std.specs.FinMap as map;
+ghost use Rattle.std.specs.FinMap.{is_sorted};
 ghost use Rattle.std.specs.List.{slice_get};
 ghost use Rattle.std.specs.Option.{option_copied, option_map};
+ghost use Rattle.std.specs.String.{string_bytes};
 ghost use Rattle.tk_io.specs.Order.{text_cmp};
+ghost use Rattle.tk_io.specs.Search.{IsKeyPlace};
+ghost use Rattle.tk_io.specs.Shown.{shown_by};
 
 use crate::NoMemory;
 use std::alloc::Global;
-use std::collections::BTreeMap;
+use std::cmp::Ordering;
 use std::marker::Model;
 
-/// Values under texts, seen as a finite map whose keys are in byte order.
+/// Values under texts, seen as a finite map whose keys are in byte order. It is a list in that order: an entry whose key
+/// is the greatest is appended, and others make room by moving those behind them.
 #[derive(Drop)]
 pub struct TextMap<V> {
-    alloc: Global,
-    entries: BTreeMap<String, V>,
+    entries: Vec<(String, V)>,
 }
 
 impl<V> Model for TextMap<V> {
+    ghost use Rattle.std.specs.Prelude.{T};
     ghost use Rattle.std.specs.FinMap as map;
+    ghost use Rattle.std.specs.FinMap.{is_sorted};
     ghost use Rattle.std.specs.Coded.{coded_list, coded_ℕ};
     ghost use Rattle.std.specs.String.{string_bytes};
     ghost use Rattle.tk_io.specs.Order.{text_cmp};
@@ -29,7 +35,34 @@ impl<V> Model for TextMap<V> {
 
     ghost coded = { map.code (coded_list coded_ℕ) V.code };
 
-    ghost view = { λ m. map.from_entries (shown_by string_bytes (λ v. v) m.entries.entries) };
+    ghost view = { λ m. map.from_sorted (shown_by string_bytes (λ v. v) m.entries.items) };
+
+    ghost invariant = { λ m. T (is_sorted text_cmp (shown_by string_bytes (λ v. v) m.entries.items)) };
+}
+
+// Where the key stands among entries whose keys rise, or where it belongs.
+fn place_of<V>(entries: &[(String, V)], key: &str) -> Result<usize, usize>
+    requires { T (is_sorted text_cmp (shown_by string_bytes (λ v. v) entries.now)) }
+    ensures { IsKeyPlace (λ e. text_cmp (string_bytes e.0) key.now) entries.now result }
+{
+    let Some(last) = entries.last() else {
+        return Err(0);
+    };
+    if last.0.as_str().cmp(key).is_lt() {
+        return Err(entries.len());
+    }
+    entries.binary_search_by(
+        |entry: &(String, V)| -> Ordering
+            ensures { result ≡ text_cmp (string_bytes entry.now.0) key.entry.now }
+        { entry.0.as_str().cmp(key) },
+    )
+}
+
+// The i-th entry, counted from 0.
+fn entry_at<V>(entries: &[(String, V)], i: usize) -> Option<&(String, V)>
+    ensures { option_copied result ≡ slice_get entries.now i }
+{
+    entries.get(i)
 }
 
 impl<V> TextMap<V> {
@@ -38,8 +71,7 @@ impl<V> TextMap<V> {
         ensures { result ≡ map.empty }
     {
         TextMap {
-            alloc,
-            entries: BTreeMap::new(alloc),
+            entries: Vec::new(alloc),
         }
     }
 
@@ -47,37 +79,35 @@ impl<V> TextMap<V> {
     pub fn len(&self) -> usize
         ensures { result ≡ map.len self.now }
     {
-        self.entries.len()
+        self.entries.as_slice().len()
     }
 
     /// The value under the key, or none where the key is not there.
     pub fn get(&self, key: &str) -> Option<&V>
         ensures { option_copied result ≡ map.get self.now key.now }
     {
-        self.entries.get(key)
+        let entries = self.entries.as_slice();
+        match place_of(entries, key) {
+            Ok(i) => Some(&entries[i].1),
+            Err(_) => None,
+        }
     }
 
     /// The i-th entry in byte order of keys, counted from 0; none where i is not below the length.
     pub fn at(&self, i: usize) -> Option<(&str, &V)>
         ensures { option_map {U = List ℕ × V} (λ e. (e.0.now, e.1.now)) result ≡ slice_get (map.entries self.now) i }
     {
-        match self.entries.iter().nth(i) {
+        match entry_at(self.entries.as_slice(), i) {
             Some((key, value)) => Some((key.as_str(), value)),
             None => None,
         }
     }
-}
 
-impl<V> TextMap<V> {
     /// All entries in byte order of keys.
-    pub fn entries(&self, alloc: Global) -> Result<Vec<(&str, &V)>, NoMemory>
-        ensures { IfOk result (λ es. map_list {B = List ℕ × V} (λ e. (e.0.now, e.1.now)) es.items ≡ map.entries self.now) }
+    pub fn entries(&self) -> &[(String, V)]
+        ensures { shown_by string_bytes (λ v. v) result.now ≡ map.entries self.now }
     {
-        let mut list = Vec::new(alloc);
-        for (key, value) in self.entries.iter() {
-            list.push((key.as_str(), value))?;
-        }
-        Ok(list)
+        self.entries.as_slice()
     }
 }
 
@@ -90,9 +120,17 @@ impl<V: Drop> TextMap<V> {
         ensures at { OnOk result ((q : List ℕ) → map.get self.new q ≡ cond (is_at (text_cmp key.now) q) (Some value) (map.get self.old q)) }
         ensures err { OnErr result (self.new ≡ self.old) }
     {
-        let key = String::from_str(self.alloc, key)?;
-        self.entries.insert(key, value)?;
-        Ok(())
+        match place_of(self.entries.as_slice(), key) {
+            Ok(i) => {
+                self.entries[i].1 = value;
+                Ok(())
+            }
+            Err(i) => {
+                let key = String::from_str(*self.entries.allocator(), key)?;
+                self.entries.insert(i, (key, value))?;
+                Ok(())
+            }
+        }
     }
 
     /// Takes the key's entry away. Where the key is not there nothing changes.
@@ -101,6 +139,11 @@ impl<V: Drop> TextMap<V> {
         // What stands at each key afterwards.
         ensures at { (q : List ℕ) → map.get self.new q ≡ cond (is_at (text_cmp key.now) q) None (map.get self.old q) }
     {
-        let _ = self.entries.remove(key);
+        match place_of(self.entries.as_slice(), key) {
+            Ok(i) => {
+                let _ = self.entries.remove(i);
+            }
+            Err(_) => {}
+        }
     }
 }

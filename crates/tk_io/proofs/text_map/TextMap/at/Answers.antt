@@ -1,25 +1,27 @@
-use Rattle.std.proofs.Common.{Some, sym, ap, ◌∙◌, option_map}
+use Rattle.std.proofs.Common.{Some, option_map, ap, sym, ◌∙◌}
 use Rattle.std.specs.FinMap as map
 use Rattle.std.specs.List.{slice_get}
-use Rattle.std.specs.Map.Iter.{deref_pair}
+use Rattle.std.specs.Option.{option_copied}
 use Rattle.std.specs.String.{string_bytes}
-use Rattle.std.proofs.lemmas.Iterator.Consumers.{nth_from_yields_List, YieldsList-from_rest}
-use Rattle.tk_io.proofs.TextMaps.{text_at}
+use Rattle.tk_io.proofs.MapViews.{item_shown}
+use Rattle.tk_io.proofs.SortedEntries.{entries_are}
+use Rattle.tk_io.specs.Order.{text_cmp}
+use Rattle.tk_io.specs.Shown.{shown_by}
 use Rattle.tk_io.proofs.text_map.TextMap.at.Goals as goal
 
 pub returns-in-Some : goal.returns-in-Some
 returns-in-Some g c =
-    let es = c.self.inside.entries.entries in
-    let found = nth_from_yields_List c.nth.result c.nth.new.self c.args.i c.nth.ensures.ran (YieldsList-from_rest {shows = deref_pair} es c.iter.ensures.rest) in
-    ap (λ s. Some (s, c.in-Some.value.now)) c.as_str.ensures.value
-    ∙ (ap (λ r. option_map (λ e. (string_bytes e.0, e.1)) r) (ap (option_map deref_pair) (sym c.in-Some.is) ∙ found)
-    ∙ (text_at es c.iter.ensures.ordered c.args.i
-    ∙ ap (λ m. slice_get (map.entries m) c.args.i) c.self.view_is))
+    let es = c.self.inside.entries.items in
+    let found = ap option_copied (sym c.in-Some.is) ∙ (c.entry_at.ensures ∙ ap (λ l. slice_get l c.args.i) c.as_slice.ensures.value) in
+    ap (λ s. Some (s, c.in-Some.field-0.now.1)) c.as_str.ensures.value
+    ∙ (ap (λ r. option_map (λ e. (string_bytes e.0, e.1)) r) found
+    ∙ (item_shown string_bytes (λ v. v) es c.args.i
+    ∙ ap (λ l. slice_get l c.args.i) (entries_are text_cmp (shown_by string_bytes (λ v. v) es) c.self.invariant ∙ ap map.entries c.self.view_is)))
 
 pub returns-in-None : goal.returns-in-None
 returns-in-None g c =
-    let es = c.self.inside.entries.entries in
-    let found = nth_from_yields_List c.nth.result c.nth.new.self c.args.i c.nth.ensures.ran (YieldsList-from_rest {shows = deref_pair} es c.iter.ensures.rest) in
-    ap (λ r. option_map (λ e. (string_bytes e.0, e.1)) r) (ap (option_map deref_pair) (sym c.in-None.is) ∙ found)
-    ∙ (text_at es c.iter.ensures.ordered c.args.i
-    ∙ ap (λ m. slice_get (map.entries m) c.args.i) c.self.view_is)
+    let es = c.self.inside.entries.items in
+    let found = ap option_copied (sym c.in-None.is) ∙ (c.entry_at.ensures ∙ ap (λ l. slice_get l c.args.i) c.as_slice.ensures.value) in
+    ap (λ r. option_map (λ e. (string_bytes e.0, e.1)) r) found
+    ∙ (item_shown string_bytes (λ v. v) es c.args.i
+    ∙ ap (λ l. slice_get l c.args.i) (entries_are text_cmp (shown_by string_bytes (λ v. v) es) c.self.invariant ∙ ap map.entries c.self.view_is))
