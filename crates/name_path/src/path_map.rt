@@ -1,25 +1,31 @@
 // A finite map under paths.
-ghost use Rattle.std.specs.Prelude.{◌≡◌, List, ℕ, Some, IfOk, OnOk, OnErr, cond, map as map_list};
+ghost use Rattle.std.specs.Prelude.{◌≡◌, List, ℕ, T, Some, IfOk, OnOk, OnErr, cond, map as map_list};
 ghost use Rattle.std.specs.BTreeMap.{is_at};
 ghost use Rattle.std.specs.FinMap as map;
+ghost use Rattle.std.specs.FinMap.{is_sorted};
 ghost use Rattle.std.specs.List.{slice_get};
 ghost use Rattle.std.specs.Option.{option_copied, option_map};
 ghost use Rattle.tk_io.specs.Order.{names_cmp};
+ghost use Rattle.tk_io.specs.Search.{IsKeyPlace};
+ghost use Rattle.tk_io.specs.Shown.{shown_by};
 
 use crate::Path;
 use std::alloc::Global;
-use std::collections::BTreeMap;
+use std::cmp::Ordering;
 use std::marker::Model;
 use tk_io::NoMemory;
 
-/// Values under paths, seen as a finite map whose keys are in path order.
+/// Values under paths, seen as a finite map whose keys are in path order. It is a list in that order: an entry whose path
+/// is the greatest is appended, and others make room by moving those behind them.
 #[derive(Drop)]
 pub struct PathMap<'s, V> {
-    entries: BTreeMap<Path<'s>, V>,
+    entries: Vec<(Path<'s>, V)>,
 }
 
 impl<'s, V> Model for PathMap<'s, V> {
+    ghost use Rattle.std.specs.Prelude.{T};
     ghost use Rattle.std.specs.FinMap as map;
+    ghost use Rattle.std.specs.FinMap.{is_sorted};
     ghost use Rattle.std.specs.Coded.{coded_list, coded_ℕ};
     ghost use Rattle.tk_io.specs.Order.{names_cmp};
     ghost use Rattle.tk_io.specs.Shown.{shown_by};
@@ -28,7 +34,47 @@ impl<'s, V> Model for PathMap<'s, V> {
 
     ghost coded = { map.code (coded_list (coded_list coded_ℕ)) V.code };
 
-    ghost view = { λ m. map.from_entries (shown_by (λ k. k) (λ v. v) m.entries.entries) };
+    ghost view = { λ m. map.from_sorted (shown_by (λ k. k) (λ v. v) m.entries.items) };
+
+    ghost invariant = { λ m. T (is_sorted names_cmp (shown_by (λ k. k) (λ v. v) m.entries.items)) };
+}
+
+// Where the path stands among entries whose paths rise, or where it belongs.
+fn place_of<'s, V>(entries: &[(Path<'s>, V)], path: &Path<'s>) -> Result<usize, usize>
+    requires { T (is_sorted names_cmp (shown_by (λ k. k) (λ v. v) entries.now)) }
+    ensures { IsKeyPlace (λ e. names_cmp e.0 path.now) entries.now result }
+{
+    let Some(last) = entries.last() else {
+        return Err(0);
+    };
+    if last.0.cmp(path).is_lt() {
+        return Err(entries.len());
+    }
+    place_by_halves(entries, path)
+}
+
+fn place_by_halves<'s, V>(entries: &[(Path<'s>, V)], path: &Path<'s>) -> Result<usize, usize>
+    requires { T (is_sorted names_cmp (shown_by (λ k. k) (λ v. v) entries.now)) }
+    ensures { IsKeyPlace (λ e. names_cmp e.0 path.now) entries.now result }
+{
+    let mut low = 0;
+    let mut high = entries.len();
+    while low < high {
+        let middle = low + (high - low) / 2;
+        match entries[middle].0.cmp(path) {
+            Ordering::Less => low = middle + 1,
+            Ordering::Greater => high = middle,
+            Ordering::Equal => return Ok(middle),
+        }
+    }
+    Err(low)
+}
+
+// The i-th entry, counted from 0.
+fn entry_at<'a, 's, V>(entries: &'a [(Path<'s>, V)], i: usize) -> Option<&'a (Path<'s>, V)>
+    ensures { option_copied result ≡ slice_get entries.entry.now i }
+{
+    entries.get(i)
 }
 
 impl<'s, V> PathMap<'s, V> {
@@ -37,7 +83,7 @@ impl<'s, V> PathMap<'s, V> {
         ensures { result ≡ map.empty }
     {
         PathMap {
-            entries: BTreeMap::new(alloc),
+            entries: Vec::new(alloc),
         }
     }
 
@@ -45,14 +91,25 @@ impl<'s, V> PathMap<'s, V> {
     pub fn len(&self) -> usize
         ensures { result ≡ map.len self.now }
     {
-        self.entries.len()
+        self.entries.as_slice().len()
     }
 
     /// The value under the path, or none where the path is not there.
     pub fn get(&self, path: &Path<'s>) -> Option<&V>
         ensures { option_copied result ≡ map.get self.now path.now }
     {
-        self.entries.get(path)
+        let entries = self.entries.as_slice();
+        match place_of(entries, path) {
+            Ok(i) => Some(&entries[i].1),
+            Err(_) => None,
+        }
+    }
+
+    /// The entries, in path order.
+    pub fn as_slice(&self) -> &[(Path<'s>, V)]
+        ensures { shown_by (λ k. k) (λ v. v) result.now ≡ map.entries self.now }
+    {
+        self.entries.as_slice()
     }
 
     /// All entries in path order.
@@ -60,7 +117,7 @@ impl<'s, V> PathMap<'s, V> {
         ensures { IfOk result (λ es. map_list {B = List (List ℕ) × V} (λ e. (e.0.now, e.1.now)) es.items ≡ map.entries self.now) }
     {
         let mut list = Vec::new(alloc);
-        for (path, value) in self.entries.iter() {
+        for (path, value) in self.as_slice() {
             list.push((path, value))?;
         }
         Ok(list)
@@ -70,7 +127,10 @@ impl<'s, V> PathMap<'s, V> {
     pub fn at(&self, i: usize) -> Option<(&Path<'s>, &V)>
         ensures { option_map {U = List (List ℕ) × V} (λ e. (e.0.now, e.1.now)) result ≡ slice_get (map.entries self.now) i }
     {
-        self.entries.iter().nth(i)
+        match entry_at(self.entries.as_slice(), i) {
+            Some((path, value)) => Some((path, value)),
+            None => None,
+        }
     }
 }
 
@@ -83,8 +143,16 @@ impl<'s, V: Drop> PathMap<'s, V> {
         ensures at { OnOk result ((q : List (List ℕ)) → map.get self.new q ≡ cond (is_at (names_cmp path.now) q) (Some value) (map.get self.old q)) }
         ensures err { OnErr result (self.new ≡ self.old) }
     {
-        let path = path.copy()?;
-        self.entries.insert(path, value)?;
-        Ok(())
+        match place_of(self.entries.as_slice(), path) {
+            Ok(i) => {
+                self.entries[i].1 = value;
+                Ok(())
+            }
+            Err(i) => {
+                let path = path.copy()?;
+                self.entries.insert(i, (path, value))?;
+                Ok(())
+            }
+        }
     }
 }

@@ -10,7 +10,7 @@ use Rattle.std.specs.List.Sorted.{IsBinarySearchResult, IsPartitionPoint, IsSear
 use Rattle.std.specs.Ordering.{is_lt, is_eq, eq_by_cmp, ordering_index, ordering_reverse}
 use Rattle.std.specs.Prelude.{slice_get, slice_index_or}
 use Rattle.std.proofs.lemmas.Option.{none-some, same_Some}
-use Rattle.std.proofs.lemmas.List.{length-map}
+use Rattle.std.proofs.lemmas.List.{get_or_default, length-map}
 use Rattle.std.proofs.lemmas.List.Sorted.{searchable_from_sorted}
 use Rattle.tk_io.specs.Search.{IsKeyPlace}
 use Rattle.tk_io.specs.Shown.{entries_by, shown_by}
@@ -30,6 +30,16 @@ less Greater p = absurd p
 
 pub is_less : (r : Ordering) → is_lt r ≡ true → r ≡ Less
 is_less r e = less r (subst T (sym e) tt)
+
+index_less : (r : Ordering) → ordering_index r ≤ 0 → r ≡ Less
+index_less Less h = refl
+index_less Equal h = absurd (omega (arith, h))
+index_less Greater h = absurd (omega (arith, h))
+
+index_greater : (r : Ordering) → 2 ≤ ordering_index r → r ≡ Greater
+index_greater Less h = absurd (omega (arith, h))
+index_greater Equal h = absurd (omega (arith, h))
+index_greater Greater h = refl
 
 swapped_cond : {A : Type 0} (b : Bool) (x y : A) → cond (not b) x y ≡ cond b y x
 swapped_cond true x y = refl
@@ -137,6 +147,18 @@ module _ {E L Y : Type 0} {R : L → L → Ordering} (o : IsTotalOrder R) (key :
   -- how the keys compare with one rises along the list, as a search by halves asks
   pub compared : (es : List E) (q : L) → T (is_sorted R (entries_by key value es)) → IsNonDecreasingBy (λ y. ordering_index (R (key y) q)) es
   compared es q h = searchable_from_sorted o key es q (rises es h)
+
+  -- the entries before one that is below a key are below it too
+  pub below_too : (q : L) (es : List E) (m : ℕ) (d : E) → T (is_sorted R (entries_by key value es)) → m < length es → R (key (slice_index_or es m d)) q ≡ Less → (k : ℕ) (e : E) → k ≤ m → R (key (slice_index_or es k e)) q ≡ Less
+  below_too q es m d h within less_here k e before =
+      let here : R (key (slice_index_or es m e)) q ≡ Less = ap (λ x. R (key x) q) (get_or_default es m e d within) ∙ less_here in
+      index_less (R (key (slice_index_or es k e)) q) (omega (arith, compared es q h k m e before within, ap ordering_index here))
+
+  -- .. and those behind one that is above a key are above it too
+  pub above_too : (q : L) (es : List E) (m : ℕ) (d : E) → T (is_sorted R (entries_by key value es)) → m < length es → R (key (slice_index_or es m d)) q ≡ Greater → (k : ℕ) (e : E) → m ≤ k → k < length es → R (key (slice_index_or es k e)) q ≡ Greater
+  above_too q es m d h within above_here k e behind inside =
+      let here : R (key (slice_index_or es m e)) q ≡ Greater = ap (λ x. R (key x) q) (get_or_default es m e d within) ∙ above_here in
+      index_greater (R (key (slice_index_or es k e)) q) (omega (arith, compared es q h m k e behind inside, ap ordering_index here))
 
   later_at : (x : E) (xs : List E) → T (below_all R (key x) (entries_by key value xs)) → (i : ℕ) (l : E) → slice_get xs i ≡ Some l → R (key x) (key l) ≡ Less
   later_at x [] h i l at = absurd (none-some l at)
