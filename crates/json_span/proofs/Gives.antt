@@ -1,5 +1,6 @@
 -- What building gives, value by value.
-use Rattle.std.proofs.Common.{◌≡◌, ◌≢◌, ℕ, zero, suc, ◌+◌, ◌<◌, ◌≤◌, List, [], ◌∷◌, ◌++◌, length, drop, true, false, refl, sym, ap, ◌∙◌, arith, length-drop, length-append, add-one, Some, None, set}
+use Rattle.std.proofs.Common.{◌≡◌, ◌≢◌, ℕ, zero, suc, ◌+◌, ◌<◌, ◌≤◌, List, [], ◌∷◌, ◌++◌, length, drop, true, false, refl, sym, ap, ◌∙◌, arith, length-drop, length-append, add-one, Some, None, Option, option_map, set, append_assoc}
+use Rattle.std.specs.Option.{unwrap_or}
 use Rattle.grammar.specs.Grammar.{Rule, seq, alt, named, Reads}
 use Rattle.grammar.specs.Predict.{begins, first, Steers, on_both, nullable}
 use Rattle.grammar.specs.Ranges.{is_steered}
@@ -10,25 +11,26 @@ use Rattle.json_span.specs.Steered as steered
 use Rattle.json_span.specs.Steered.{Bracket, square, curly, table, ahead, token, open_of, close_of, before_of, more_of, list_of}
 use Rattle.json_span.specs.Tree.{Tree, Placed, placed, an_array, an_object, element, Members, member, Entry, elements_of, members_of}
 use Rattle.json_span.specs.Reading.{StringAt, BeginsAt, Value, value_at, Shape, null_shape, false_shape, true_shape, number_shape, string_shape, array_shape, object_shape, no_element, no_member}
-use Rattle.json_span.specs.Flaw.{too_deep, flaw_in, flaw_at, flaw_in_elements, flaw_in_members, is_seen}
+use Rattle.json_span.specs.Flaw.{too_deep, or_else, flaw_in, flaw_at, flaw_in_elements, flaw_in_members}
 use Rattle.json_span.specs.Scan.{Reaches}
 use Rattle.json_span.specs.Kinds.{bracket_of, rule_of_scalar}
 use Rattle.json_span.proofs.Scalars.{scalar_shape}
 use Rattle.std.proofs.lemmas.List.{length-set}
 use Rattle.json_span.specs.Skipping.{left_of, Leads}
-use Rattle.std.specs.BTreeSet.{BTreeSet, Updates}
-use Rattle.tk_io.specs.Order.{text_cmp}
 use Rattle.json_span.specs.Table.{size_inside, sizes, member_sizes, span, spans, spans_inside, spans_of, member_spans}
 use Rattle.json_span.specs.declared.table.Span.{Span}
 use Rattle.json_span.proofs.Spans.{length-spans_of, length-member_spans, spans-push, member_spans-push, grown, closed, scalar_spans}
 use Rattle.json_span.specs.Building.{IsSmall, Opens, IsComma, IsClose, Gives, flaw_view, empty_tree}
-use Rattle.json_span.specs.ListsLeft.{list_left, then_elements, then_members, names_of, ElementsLeft, MembersLeft, HasNames, ArrayLeft, ObjectLeft}
+use Rattle.json_span.specs.ListsLeft.{list_left, then_elements, then_members, ElementsLeft, MembersLeft, ArrayLeft, ObjectLeft}
+use Rattle.json_span.specs.Names.{IsName, AreNames, names_flaw, names_of}
+use Rattle.json_span.specs.declared.names.NameSpan.{NameSpan}
+use Rattle.json_span.proofs.Naming.{are_push}
 use Rattle.json_span.specs.declared.kind.Bracket as declared
 use Rattle.json_span.specs.declared.kind.Bracket.TheVariants.{Square, Curly}
 use Rattle.json_span.specs.declared.kind.Scalar.{Scalar}
 use Rattle.json_span.specs.declared.build.Built.TheVariants.{Whole, Flawed}
-use Rattle.json_span.specs.declared.build.Flaw as declared_flaw
-use Rattle.json_span.specs.declared.build.Flaw.TheVariants.{Dup, Deep}
+use Rattle.json_span.specs.declared.flaw.Flaw as declared_flaw
+use Rattle.json_span.specs.declared.flaw.Flaw.TheVariants.{Dup, Deep}
 use Rattle.json_span.proofs.Steered.{honest_json}
 use Rattle.json_span.proofs.Scans as scan
 use Rattle.json_span.proofs.Skips as skip
@@ -181,6 +183,10 @@ module _ (text : List ℕ) (at inner room name name_end : ℕ) (old nodes new : 
         omega (arith, g.reads.forward, list.past_comma text end item c),
       )
 
+or_own : (first_ : Option declared_flaw.Flaw) (f : declared_flaw.Flaw) → or_else (option_map flaw_view first_) (Some (flaw_view f)) ≡ Some (flaw_view (unwrap_or first_ f))
+or_own None f = refl
+or_own (Some g) f = refl
+
 module _ (text : List ℕ) (at inner room name name_end : ℕ) (old nodes new : List Span) (o : Opens curly text at inner) where
   object_token : Reads steered.rules (token 123) (drop at text) (drop inner text)
   object_token = read_of text (token 123) at inner (skip.open_token text [] Curly at inner o.bound o.opens o.blanks)
@@ -206,23 +212,25 @@ module _ (text : List ℕ) (at inner room name name_end : ℕ) (old nodes new : 
           kept = tt;
         }
 
-    pub object_flawed : (f : declared_flaw.Flaw) (end close : ℕ) → is_seen (names_of es []) s ≡ false → Gives text value_start room next own_end nodes new (Flawed f end) → Reaches (seq ws (more_of curly)) text end close → Gives text at (room + 1) name name_end old new (Flawed f close)
-    object_flawed f end close new g m = object_rest g.tree end close g.reads g.value m f (λ ms. members.members_flawed text room inner next es left s next own_end g.tree ms (flaw_view f) new g.flaw)
+    -- the flaw of the value, or of a name before it
+    pub object_flawed : (f : declared_flaw.Flaw) (first_ : Option declared_flaw.Flaw) (end close : ℕ) → (g : Gives text value_start room next own_end nodes new (Flawed f end)) → option_map flaw_view first_ ≡ names_flaw [] (es ++ record { name = s; start = next; end = own_end; value = g.tree } ∷ []) →
+        Reaches (seq ws (more_of curly)) text end close → Gives text at (room + 1) name name_end old new (Flawed (unwrap_or first_ f) close)
+    object_flawed f first_ end close g told m =
+        let e : Entry = record { name = s; start = next; end = own_end; value = g.tree } in
+        object_rest g.tree end close g.reads g.value m (unwrap_or first_ f) (λ ms. members.members_flawed text room inner next es left s next own_end g.tree ms (flaw_view f) g.flaw ∙ ap (λ z. or_else z (Some (flaw_view f))) (sym told) ∙ or_own first_ f)
 
-    pub object_again : (end close : ℕ) → is_seen (names_of es []) s ≡ true → Reaches (named value) text value_start end → Reaches (seq ws (more_of curly)) text end close → Gives text at (room + 1) name name_end old new (Flawed (Dup next own_end) close)
-    object_again end close again x m =
-        let (n, v) = value_of (length text) (read_of text (named value) value_start end x) (omega (arith, length-drop value_start text)) in
-        object_rest n end close x v m (Dup next own_end) (λ ms. members.members_again text room inner next es left s next own_end n ms again)
-
-    module _ (made : nodes ≡ old ++ span name name_end at 0 0 ∷ member_spans (length old + 1) (members_of es)) (end : ℕ) (fresh : is_seen (names_of es []) s ≡ false) (g : Gives text value_start room next own_end nodes new (Whole end)) where
+    module _ (made : nodes ≡ old ++ span name name_end at 0 0 ∷ member_spans (length old + 1) (members_of es)) (end : ℕ) (g : Gives text value_start room next own_end nodes new (Whole end)) where
       object_grown : new ≡ old ++ span name name_end at 0 0 ∷ member_spans (length old + 1) (members_of (es ++ record { name = s; start = next; end = own_end; value = g.tree } ∷ []))
       object_grown =
           let k = length old + 1 in
           grown (span name name_end at 0 0) next own_end (member_sizes (members_of es)) old nodes new (member_spans k (members_of es)) g.tree made (length-member_spans k (members_of es)) g.kept.0
           ∙ ap (λ z. old ++ span name name_end at 0 0 ∷ z) (sym (member_spans-push k es (record { name = s; start = next; end = own_end; value = g.tree })))
 
-      pub object_whole : (last : List Span) (close : ℕ) → IsClose curly text end close → last ≡ set new (length old) (span name name_end at close (length new)) → Gives text at (room + 1) name name_end old last (Whole close)
-      object_whole last close i is =
+      abbrev pub own_entry : Entry
+      own_entry = record { name = s; start = next; end = own_end; value = g.tree }
+
+      pub object_whole : (last : List Span) (close : ℕ) → IsClose curly text end close → None ≡ names_flaw [] (es ++ own_entry ∷ []) → last ≡ set new (length old) (span name name_end at close (length new)) → Gives text at (room + 1) name name_end old last (Whole close)
+      object_whole last close i told is =
           let gs = es ++ record { name = s; start = next; end = own_end; value = g.tree } ∷ [] in
           let k = length old + 1 in
           let m = list.close_reach text curly end close i in
@@ -230,21 +238,37 @@ module _ (text : List ℕ) (at inner room name name_end : ℕ) (old nodes new : 
           gives_whole text at (room + 1) name name_end old last (an_object (members_of gs)) close (omega (arith, o.bound))
           (list.whole_list text curly at next l value_start end close name_before g.reads m)
           (object_shape object_token (members.members_close text room inner next es left s next own_end g.tree end close whole i))
-          (ap (λ z. flaw_at z at (an_object (members_of gs))) (add-one room) ∙ members.members_flawless text room inner next es left s next own_end g.tree fresh g.flaw)
+          (ap (λ z. flaw_at z at (an_object (members_of gs))) (add-one room) ∙ members.members_flaw text room inner next es left s next own_end g.tree g.flaw ∙ sym told)
           (closed (span name name_end at 0 0) name name_end at close (member_sizes (members_of gs)) old new last (member_spans k (members_of gs)) object_grown (length-member_spans k (members_of gs)) is)
           (closed_small new last (length old) end close (span name name_end at close (length new)) is g.kept.1 m.forward)
 
-      pub object_next : (item : ℕ) → IsComma text end item → (set new_set : BTreeSet (List ℕ)) → HasNames set es → Updates text_cmp set new_set s true →
-          (item ≤ length text) × Leads text (left_of true []) at (list_left curly) item × ObjectLeft text room at inner item name name_end old new new_set × (next < item)
-      object_next item i set new_set has more_names =
+      -- a name that repeats another, in an object that was read to its end
+      pub object_again : (f : declared_flaw.Flaw) (close : ℕ) → IsClose curly text end close → Some (flaw_view f) ≡ names_flaw [] (es ++ own_entry ∷ []) → (last : List Span) → Gives text at (room + 1) name name_end old last (Flawed f close)
+      object_again f close i told last =
+          let gs = es ++ own_entry ∷ [] in
+          let m = list.close_reach text curly end close i in
+          let whole = members.member_of text s next own_end value_start end g.tree within_ q.within_text k_ c g.value in
+          record {
+            tree = placed (an_object (members_of gs)) at close;
+            reads = list.whole_list text curly at next l value_start end close name_before g.reads m;
+            value = value_at (object_shape object_token (members.members_close text room inner next es left s next own_end g.tree end close whole i)) (begins_at text at (omega (arith, o.bound))) (begins_at text close m.within_text);
+            flaw = ap (λ z. flaw_at z at (an_object (members_of gs))) (add-one room) ∙ members.members_flaw text room inner next es left s next own_end g.tree g.flaw ∙ sym told;
+            kept = tt;
+          }
+
+      pub object_next : (item : ℕ) → IsComma text end item → (outer own names more : List NameSpan) (n : NameSpan) → names ≡ outer ++ own → AreNames text own es → IsName text n own_entry → more ≡ names ++ n ∷ [] →
+          (item ≤ length text) × Leads text (left_of true []) at (list_left curly) item × ObjectLeft text room at inner item name name_end old new outer more × (next < item)
+      object_next item i outer own names more n split are is_name pushed =
           let whole = members.member_of text s next own_end value_start end g.tree within_ q.within_text k_ c g.value in (
             i.behind.within_text,
             list.item_leads text curly at next l value_start end item name_before g.reads i,
             record {
-              fields = es ++ record { name = s; start = next; end = own_end; value = g.tree } ∷ [];
-              left = members.members_next text room inner next es left s next own_end g.tree end item whole fresh g.flaw i;
+              fields = es ++ own_entry ∷ [];
+              left = members.members_next text room inner next es left s next own_end g.tree end item whole g.flaw i;
               made = object_grown;
-              names = members.names_more set new_set es (record { name = s; start = next; end = own_end; value = g.tree }) has more_names;
+              own = own ++ n ∷ [];
+              behind = pushed ∙ ap (λ z. z ++ n ∷ []) split ∙ append_assoc outer own (n ∷ []);
+              are = are_push text own es n own_entry are is_name;
             },
             omega (arith, q.forward, c.forward, g.reads.forward, list.past_comma text end item i),
           )

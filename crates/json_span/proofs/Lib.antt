@@ -15,6 +15,7 @@ pub mod Exists
 pub mod Scalars
 pub mod Begins
 pub mod Lists
+pub mod Naming
 pub mod MemberLists
 pub mod Spans
 pub mod Gives

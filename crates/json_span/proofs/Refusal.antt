@@ -20,8 +20,8 @@ use Rattle.json_span.specs.Building.{Gives, IsTableOf, end_of_built, flaw_view}
 use Rattle.json_span.specs.Answer.{IsAnswer, IsRefusal, fault_of, fault_of_stop, flawed, stops}
 use Rattle.json_span.specs.declared.build.Built.{Built}
 use Rattle.json_span.specs.declared.build.Built.TheVariants.{Whole, Flawed}
-use Rattle.json_span.specs.declared.build.Flaw as declared
-use Rattle.json_span.specs.declared.build.Flaw.TheVariants.{Dup, Deep}
+use Rattle.json_span.specs.declared.flaw.Flaw as declared
+use Rattle.json_span.specs.declared.flaw.Flaw.TheVariants.{Dup, Deep}
 use Rattle.json_span.proofs.Steered.{honest_json, steered_json, spelled, passes}
 use Rattle.json_span.proofs.Rfc.{refuses_to}
 

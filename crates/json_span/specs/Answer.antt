@@ -5,8 +5,8 @@ use Rattle.json_span.specs.Grammar.{grammar, json_text}
 use Rattle.json_span.specs.Tree.{Placed}
 use Rattle.json_span.specs.Reading.{Shows}
 use Rattle.json_span.specs.Flaw.{Flaw, equal_names, too_deep, first_flaw}
-use Rattle.json_span.specs.declared.build.Flaw as declared
-use Rattle.json_span.specs.declared.build.Flaw.TheVariants as found
+use Rattle.json_span.specs.declared.flaw.Flaw as declared
+use Rattle.json_span.specs.declared.flaw.Flaw.TheVariants as found
 use Rattle.json_span.specs.declared.stop.Stop.{Stop}
 use Rattle.json_span.specs.declared.stop.Stop.TheVariants as stopped
 use Rattle.json_span.specs.declared.reader.JsonFault.{JsonFault}

@@ -13,8 +13,8 @@ use Rattle.json_span.specs.Table.{spans}
 use Rattle.json_span.specs.declared.table.Span.{Span}
 use Rattle.json_span.specs.declared.build.Built.{Built}
 use Rattle.json_span.specs.declared.build.Built.TheVariants.{Whole, Flawed}
-use Rattle.json_span.specs.declared.build.Flaw as declared
-use Rattle.json_span.specs.declared.build.Flaw.TheVariants.{Dup, Deep}
+use Rattle.json_span.specs.declared.flaw.Flaw as declared
+use Rattle.json_span.specs.declared.flaw.Flaw.TheVariants.{Dup, Deep}
 use Rattle.json_span.specs.declared.build.Next.{Next}
 use Rattle.json_span.specs.declared.build.Next.TheVariants.{Item, Closed}
 

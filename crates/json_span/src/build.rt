@@ -1,6 +1,6 @@
 //! Building the tree of a value, down to a depth. Behind a flaw the syntax alone is read on.
 
-ghost use Rattle.std.specs.Prelude.{◌≡◌, ◌+◌, ◌≤◌, ◌<◌, true, false, length, drop, IfOk, IfErr};
+ghost use Rattle.std.specs.Prelude.{◌≡◌, ◌+◌, ◌≤◌, ◌<◌, true, false, length, drop, IfOk, IfErr, OnOk};
 ghost use Rattle.grammar.specs.Grammar.{named};
 ghost use Rattle.grammar.specs.Predict.{begins, first};
 ghost use Rattle.json_span.specs.Grammar.{value};
@@ -11,23 +11,14 @@ ghost use Rattle.json_span.specs.Skipping.{StopsAt};
 ghost use Rattle.json_span.specs.Building.{GoesOn, Gives, Opens, HaltsBehind, IsSmall, end_of_built};
 
 use crate::bytes::{Class, has, row_end};
+use crate::flaw::Flaw;
 use crate::kind::{Bracket, Kind, kind_at};
+use crate::names::{NameSpan, close_names, read_name};
 use crate::scan::{blanks_end, number_end};
 use crate::skip::{colon_end, list_end, scalar_end, value_end};
 use crate::stop::Stop;
 use crate::table::Span;
-use crate::text::read_string;
 use std::alloc::Global;
-use std::collections::BTreeSet;
-
-/// A flaw of a text that the grammar reads, with the offsets of a name's string or of a bracket.
-#[derive(Clone, Copy, Debug)]
-pub(crate) enum Flaw {
-    /// The name repeats an earlier one of its object.
-    Dup(usize, usize),
-    /// The bracket opens one level too many.
-    Deep(usize, usize),
-}
 
 /// A value that was read to its end.
 #[derive(Clone, Copy, Debug)]
@@ -82,10 +73,12 @@ pub(crate) fn build_value(
     name: u32,
     name_end: u32,
     nodes: &mut Vec<Span>,
+    names: &mut Vec<NameSpan>,
 ) -> Result<Built, Stop>
     requires within { at ≤ length text.now }
     requires small { IsSmall text.now at nodes.old.items }
     ensures ok { IfOk result (λ b. Gives text.now at room name name_end nodes.old.items nodes.new.items b) }
+    ensures names { OnOk result (names.new.items ≡ names.old.items) }
     ensures stop { IfErr result (λ e. StopsAt (named value) text.now at e) }
 {
     match kind_at(text, at) {
@@ -102,7 +95,7 @@ pub(crate) fn build_value(
             Ok(Built::Whole(end))
         }
         Some(Kind::List(bracket)) => {
-            build_list(alloc, text, at, bracket, room, name, name_end, nodes)
+            build_list(alloc, text, at, bracket, room, name, name_end, nodes, names)
         }
         None => Err(Stop::Syntax(at)),
     }
@@ -119,11 +112,13 @@ fn build_list(
     name: u32,
     name_end: u32,
     nodes: &mut Vec<Span>,
+    names: &mut Vec<NameSpan>,
 ) -> Result<Built, Stop>
     requires within { at < length text.now }
     requires opens { begins (first ahead (list_of (bracket_of bracket))) (drop at text.now) ≡ true }
     requires small { IsSmall text.now at nodes.old.items }
     ensures ok { IfOk result (λ b. Gives text.now at room name name_end nodes.old.items nodes.new.items b) }
+    ensures names { OnOk result (names.new.items ≡ names.old.items) }
     ensures stop { IfErr result (λ e. StopsAt (named value) text.now at e) }
 {
     if room == 0 {
@@ -144,8 +139,32 @@ fn build_list(
         return Ok(Built::Whole(end));
     }
     match bracket {
-        Bracket::Square => { build_array(alloc, text, at, inner, room - 1, name, name_end, nodes) }
-        Bracket::Curly => { build_object(alloc, text, at, inner, room - 1, name, name_end, nodes) }
+        Bracket::Square => {
+            build_array(
+                alloc,
+                text,
+                at,
+                inner,
+                room - 1,
+                name,
+                name_end,
+                nodes,
+                names,
+            )
+        }
+        Bracket::Curly => {
+            build_object(
+                alloc,
+                text,
+                at,
+                inner,
+                room - 1,
+                name,
+                name_end,
+                nodes,
+                names,
+            )
+        }
     }
 }
 
@@ -160,10 +179,12 @@ fn build_array(
     name: u32,
     name_end: u32,
     nodes: &mut Vec<Span>,
+    names: &mut Vec<NameSpan>,
 ) -> Result<Built, Stop>
     requires opens { Opens square text.now at inner }
     requires small { IsSmall text.now at nodes.old.items }
     ensures ok { IfOk result (λ b. Gives text.now at (room + 1) name name_end nodes.old.items nodes.new.items b) }
+    ensures names { OnOk result (names.new.items ≡ names.old.items) }
     ensures stop { IfErr result (λ e. StopsAt (named value) text.now at e) }
 {
     let index = nodes.len();
@@ -176,7 +197,7 @@ fn build_array(
     })?;
     let mut next = inner;
     loop {
-        let behind = match build_value(alloc, text, next, room, 0, 0, nodes)? {
+        let behind = match build_value(alloc, text, next, room, 0, 0, nodes, names)? {
             Built::Whole(end) => end,
             Built::Flawed(flaw, end) => {
                 let end = list_end(alloc, text, end, Bracket::Square)?;
@@ -211,10 +232,12 @@ fn build_object(
     name: u32,
     name_end: u32,
     nodes: &mut Vec<Span>,
+    names: &mut Vec<NameSpan>,
 ) -> Result<Built, Stop>
     requires opens { Opens curly text.now at inner }
     requires small { IsSmall text.now at nodes.old.items }
     ensures ok { IfOk result (λ b. Gives text.now at (room + 1) name name_end nodes.old.items nodes.new.items b) }
+    ensures names { OnOk result (names.new.items ≡ names.old.items) }
     ensures stop { IfErr result (λ e. StopsAt (named value) text.now at e) }
 {
     let index = nodes.len();
@@ -225,35 +248,28 @@ fn build_object(
         end: 0,
         next: 0,
     })?;
-    let mut names = BTreeSet::new(alloc);
+    let base = names.len();
     let mut next = inner;
     loop {
-        let own = read_string(alloc, text, next)?;
-        let own_end = own.end;
-        let value = colon_end(text, own_end)?;
-        if !names.insert(own.text)? {
-            let end = value_end(alloc, text, value)?;
-            let end = list_end(alloc, text, end, Bracket::Curly)?;
-            return Ok(Built::Flawed(Flaw::Dup(next, own_end), end));
-        }
-        let behind = match build_value(
-            alloc,
-            text,
-            value,
-            room,
-            next as u32,
-            own_end as u32,
-            nodes,
-        )? {
+        let own = read_name(text, next)?;
+        let value = colon_end(text, own.end as usize)?;
+        names.push(own)?;
+        let built = build_value(alloc, text, value, room, own.start, own.end, nodes, names)?;
+        let behind = match built {
             Built::Whole(end) => end,
             Built::Flawed(flaw, end) => {
                 let end = list_end(alloc, text, end, Bracket::Curly)?;
-                return Ok(Built::Flawed(flaw, end));
+                let first = close_names(alloc, text, base, names)?;
+                return Ok(Built::Flawed(first.unwrap_or(flaw), end));
             }
         };
         match next_of(text, behind, Bracket::Curly)? {
             Next::Item(item) => next = item,
             Next::Closed(end) => {
+                let again = close_names(alloc, text, base, names)?;
+                if let Some(flaw) = again {
+                    return Ok(Built::Flawed(flaw, end));
+                }
                 let last = nodes.len() as u32;
                 nodes[index] = Span {
                     name,

@@ -7,7 +7,8 @@ ghost use Rattle.json_span.specs.View.{node_view};
 ghost use Rattle.json_span.specs.Answer.{IsAnswer, IsRefusal, fault_of, shows};
 ghost use Rattle.json_span.specs.Building.{IsTableOf};
 
-use crate::build::{Built, Flaw, build_value};
+use crate::build::{Built, build_value};
+use crate::flaw::Flaw;
 use crate::node::Node;
 use crate::scan::blanks_end;
 use crate::stop::Stop;
@@ -76,7 +77,8 @@ fn read_short<'s>(alloc: Global, text: &'s str) -> Result<Node<'s>, JsonFault>
 {
     let start = blanks_end(text, 0);
     let mut nodes = Vec::new(alloc);
-    let built = build_value(alloc, text, start, MOST_OPEN, 0, 0, &mut nodes)?;
+    let mut names = Vec::new(alloc);
+    let built = build_value(alloc, text, start, MOST_OPEN, 0, 0, &mut nodes, &mut names)?;
     let last = blanks_end(text, built.end());
     if last < text.len() {
         return Err(JsonFault::Syntax(last));

@@ -1,9 +1,10 @@
-use Rattle.std.proofs.Common.{[], true, false, refl, sym, subst, arith, rules, Ok}
+use Rattle.std.proofs.Common.{◌≡◌, [], ◌∷◌, ◌++◌, length, drop, take, true, false, refl, sym, ◌∙◌, ap, subst, arith, rules, append-nil, Ok, Some, option_map}
+use Rattle.json_span.specs.Names.{AreNames, names_flaw}
 use Rattle.std.proofs.lemmas.Result.{err_from_is_err_and}
 use Rattle.json_span.specs.Steered.{square, curly}
 use Rattle.json_span.specs.Kinds.{bracket_of}
 use Rattle.json_span.specs.Scan.{rule_of}
-use Rattle.json_span.specs.Building.{Opens, Gives, GoesOn}
+use Rattle.json_span.specs.Building.{Opens, Gives, GoesOn, flaw_view}
 use Rattle.json_span.specs.declared.kind.Bracket.TheVariants.{Square, Curly}
 use Rattle.json_span.specs.declared.kind.Kind.TheVariants.{Scalar}
 use Rattle.json_span.specs.declared.stop.Stop.TheVariants.{Syntax}
@@ -12,6 +13,7 @@ use Rattle.json_span.proofs.KindFacts.{value_scan, value_stops, no_value}
 use Rattle.json_span.proofs.Lists as list
 use Rattle.json_span.proofs.MemberLists as members
 use Rattle.json_span.proofs.Gives as gives
+use Rattle.json_span.proofs.Naming as naming
 use Rattle.json_span.proofs.build.+value.Goals as goal
 
 pub build_array-loop-end-init : goal.build_array-loop-end-init
@@ -20,6 +22,7 @@ build_array-loop-end-init t c = record {
   leads = list.open_leads c.args.text.now Square c.args.at c.args.inner c.requires.1.1.0;
   elements = record { items = []; left = list.elements_start c.args.text.now c.args.room c.args.inner; made = c.in_ok-push.ensures.items };
   index = search rules;
+  same = refl;
   small = gives.opened_small c.args.text.now c.args.at c.args.inner c.args.nodes.now.items _ _ c.requires.1.1.1 c.requires.1.1.0.blanks c.in_ok-push.ensures.items;
 }
 
@@ -65,7 +68,7 @@ build_array-loop-end-preserved t c =
     let b = subst (Gives T l.next c.args.room 0 0 l.nodes.items c.build_value.new.nodes.items) c.in-Whole.is c.in_ok-end.ensures.ok in
     let comma = subst (GoesOn square T c.in-Whole.end) c.in-Item.is c.in_ok-item.ensures.ok in
     let (h, leads, left, more) = gives.array_next T c.args.at c.args.inner c.args.room c.args.name c.args.name_end c.args.nodes.now.items l.nodes.items c.build_value.new.nodes.items c.requires.1.1.0 l.next l.invariant.leads l.invariant.elements.items l.invariant.elements.left l.invariant.within l.invariant.elements.made c.in-Whole.end b c.in-Item.item comma in
-    record { within = h; leads = leads; elements = left; index = search rules; small = record { short = l.invariant.small.short; places = omega (arith, b.kept.1, list.past_comma T c.in-Whole.end c.in-Item.item comma) } }
+    record { within = h; leads = leads; elements = left; index = search rules; same = c.in_ok-end.ensures.names ∙ l.invariant.same; small = record { short = l.invariant.small.short; places = omega (arith, b.kept.1, list.past_comma T c.in-Whole.end c.in-Item.item comma) } }
 
 pub build_array-loop-end-smaller : goal.build_array-loop-end-smaller
 build_array-loop-end-smaller t c =
@@ -117,126 +120,6 @@ build_list-build_object-requires t c =
     } in
     (search rules, (subst (λ z. Opens (bracket_of z) T c.args.at c.blanks_end-inner.result) c.in-Curly.is o, c.requires.1.1.1.1))
 
-pub build_object-loop-names-init : goal.build_object-loop-names-init
-build_object-loop-names-init t c = record {
-  within = c.requires.1.1.0.blanks.within_text;
-  leads = list.open_leads c.args.text.now Curly c.args.at c.args.inner c.requires.1.1.0;
-  members = record { fields = []; left = members.members_start c.args.text.now c.args.room c.args.inner; made = c.in_ok-push.ensures.items; names = members.no_names c.new-names.result [] c.new-names.ensures.empty refl };
-  index = search rules;
-  small = gives.opened_small c.args.text.now c.args.at c.args.inner c.args.nodes.now.items _ _ c.requires.1.1.1 c.requires.1.1.0.blanks c.in_ok-push.ensures.items;
-}
-
-pub build_object-returns-in_err-own-clause-stop : goal.build_object-returns-in_err-own-clause-stop
-build_object-returns-in_err-own-clause-stop t c =
-    let T = c.args.text.now in
-    let l = c.loop-names in
-    let p = err_from_is_err_and c.from_residual-in_err-own.result c.from_residual-in_err-own.ensures.1 in
-    rw (p.1, p.2) (list.bad_name T c.args.at l.next l.invariant.leads c.in_err-own.field-0.0 c.in_err-own.ensures.stop)
-
-pub build_object-returns-in_err-value-clause-stop : goal.build_object-returns-in_err-value-clause-stop
-build_object-returns-in_err-value-clause-stop t c =
-    let T = c.args.text.now in
-    let l = c.loop-names in
-    let name = c.in_ok-own.own in
-    let p = err_from_is_err_and c.from_residual-in_err-value.result c.from_residual-in_err-value.ensures.1 in
-    rw (p.1, p.2) (list.bad_colon T c.args.at l.next name.end l.invariant.leads c.in_err-value.field-0.0 c.in_ok-own.ensures.reads c.in_err-value.ensures)
-
-pub build_object-returns-in_err-end-clause-stop : goal.build_object-returns-in_err-end-clause-stop
-build_object-returns-in_err-end-clause-stop t c =
-    let T = c.args.text.now in
-    let l = c.loop-names in
-    let name = c.in_ok-own.own in
-    let before = gives.name_before T c.args.at c.args.inner c.args.room c.args.name c.args.name_end c.args.nodes.now.items l.nodes.items l.nodes.items c.requires.1.1.0 l.next l.invariant.leads l.invariant.members.fields l.invariant.members.left l.invariant.within name.text name.end c.in_ok-value.value c.in_ok-own.ensures.reads c.in_ok-own.ensures.characters c.in_ok-value.ensures in
-    let p = err_from_is_err_and c.from_residual-in_err-end.result c.from_residual-in_err-end.ensures.1 in
-    rw (p.1, p.2) (list.bad_value T curly c.args.at l.next l.invariant.leads c.in_ok-value.value c.in_err-end.field-0.0 before c.in_err-end.ensures.stop)
-
-pub build_object-returns-in_err-end-2-clause-stop : goal.build_object-returns-in_err-end-2-clause-stop
-build_object-returns-in_err-end-2-clause-stop t c =
-    let T = c.args.text.now in
-    let l = c.loop-names in
-    let name = c.in_ok-own.own in
-    let before = gives.name_before T c.args.at c.args.inner c.args.room c.args.name c.args.name_end c.args.nodes.now.items l.nodes.items l.nodes.items c.requires.1.1.0 l.next l.invariant.leads l.invariant.members.fields l.invariant.members.left l.invariant.within name.text name.end c.in_ok-value.value c.in_ok-own.ensures.reads c.in_ok-own.ensures.characters c.in_ok-value.ensures in
-    let p = err_from_is_err_and c.from_residual-in_err-end-2.result c.from_residual-in_err-end-2.ensures.1 in
-    rw (p.1, p.2) (list.bad_rest T curly c.args.at l.next l.invariant.leads c.in_ok-value.value c.in_ok-end.end c.in_err-end-2.field-0.0 before c.in_ok-end.ensures.end c.in_err-end-2.ensures.stop)
-
-pub build_object-returns-then-not-branch-clause-ok : goal.build_object-returns-then-not-branch-clause-ok
-build_object-returns-then-not-branch-clause-ok t c =
-    let T = c.args.text.now in
-    let l = c.loop-names in
-    let name = c.in_ok-own.own in
-    let again = members.is_again l.names l.invariant.members.fields name.text c.in_ok-insert.field-0 l.invariant.members.names (c.in_ok-insert.ensures.added) c.if-not-branch.true in
-    gives.object_again T c.args.at c.args.inner c.args.room c.args.name c.args.name_end c.args.nodes.now.items l.nodes.items l.nodes.items c.requires.1.1.0 l.next l.invariant.leads l.invariant.members.fields l.invariant.members.left l.invariant.within name.text name.end c.in_ok-value.value c.in_ok-own.ensures.reads c.in_ok-own.ensures.characters c.in_ok-value.ensures c.in_ok-end.end c.in_ok-end-2.end again c.in_ok-end.ensures.end c.in_ok-end-2.ensures.end
-
-pub build_object-returns-in_err-end-3-clause-stop : goal.build_object-returns-in_err-end-3-clause-stop
-build_object-returns-in_err-end-3-clause-stop t c =
-    let T = c.args.text.now in
-    let l = c.loop-names in
-    let name = c.in_ok-own.own in
-    let before = gives.name_before T c.args.at c.args.inner c.args.room c.args.name c.args.name_end c.args.nodes.now.items l.nodes.items l.nodes.items c.requires.1.1.0 l.next l.invariant.leads l.invariant.members.fields l.invariant.members.left l.invariant.within name.text name.end c.in_ok-value.value c.in_ok-own.ensures.reads c.in_ok-own.ensures.characters c.in_ok-value.ensures in
-    let p = err_from_is_err_and c.from_residual-in_err-end-3.result c.from_residual-in_err-end-3.ensures.1 in
-    rw (p.1, p.2) (list.bad_value T curly c.args.at l.next l.invariant.leads c.in_ok-value.value c.in_err-end-3.field-0.0 before c.in_err-end-3.ensures.stop)
-
-pub build_object-returns-in_err-end-in-Flawed-clause-stop : goal.build_object-returns-in_err-end-in-Flawed-clause-stop
-build_object-returns-in_err-end-in-Flawed-clause-stop t c =
-    let T = c.args.text.now in
-    let l = c.loop-names in
-    let name = c.in_ok-own.own in
-    let before = gives.name_before T c.args.at c.args.inner c.args.room c.args.name c.args.name_end c.args.nodes.now.items l.nodes.items c.build_value.new.nodes.items c.requires.1.1.0 l.next l.invariant.leads l.invariant.members.fields l.invariant.members.left l.invariant.within name.text name.end c.in_ok-value.value c.in_ok-own.ensures.reads c.in_ok-own.ensures.characters c.in_ok-value.ensures in
-    let b = subst (Gives T c.in_ok-value.value c.args.room l.next name.end l.nodes.items c.build_value.new.nodes.items) c.in-Flawed.is c.in_ok-end-3.ensures.ok in
-    let p = err_from_is_err_and c.from_residual-in_err-end-in-Flawed.result c.from_residual-in_err-end-in-Flawed.ensures.1 in
-    rw (p.1, p.2) (list.bad_rest T curly c.args.at l.next l.invariant.leads c.in_ok-value.value c.in-Flawed.end c.in_err-end-in-Flawed.field-0.0 before b.reads c.in_err-end-in-Flawed.ensures.stop)
-
-pub build_object-returns-in-Flawed-clause-ok : goal.build_object-returns-in-Flawed-clause-ok
-build_object-returns-in-Flawed-clause-ok t c =
-    let T = c.args.text.now in
-    let l = c.loop-names in
-    let name = c.in_ok-own.own in
-    let new = members.is_new l.names l.invariant.members.fields name.text c.in_ok-insert.field-0 l.invariant.members.names (c.in_ok-insert.ensures.added) c.if-not-branch.false in
-    let b = subst (Gives T c.in_ok-value.value c.args.room l.next name.end l.nodes.items c.build_value.new.nodes.items) c.in-Flawed.is c.in_ok-end-3.ensures.ok in
-    gives.object_flawed T c.args.at c.args.inner c.args.room c.args.name c.args.name_end c.args.nodes.now.items l.nodes.items c.build_value.new.nodes.items c.requires.1.1.0 l.next l.invariant.leads l.invariant.members.fields l.invariant.members.left l.invariant.within name.text name.end c.in_ok-value.value c.in_ok-own.ensures.reads c.in_ok-own.ensures.characters c.in_ok-value.ensures c.in-Flawed.flaw c.in-Flawed.end c.in_ok-end-in-Flawed.end new b c.in_ok-end-in-Flawed.ensures.end
-
-pub build_object-returns-in_err-item-clause-stop : goal.build_object-returns-in_err-item-clause-stop
-build_object-returns-in_err-item-clause-stop t c =
-    let T = c.args.text.now in
-    let l = c.loop-names in
-    let name = c.in_ok-own.own in
-    let before = gives.name_before T c.args.at c.args.inner c.args.room c.args.name c.args.name_end c.args.nodes.now.items l.nodes.items c.build_value.new.nodes.items c.requires.1.1.0 l.next l.invariant.leads l.invariant.members.fields l.invariant.members.left l.invariant.within name.text name.end c.in_ok-value.value c.in_ok-own.ensures.reads c.in_ok-own.ensures.characters c.in_ok-value.ensures in
-    let b = subst (Gives T c.in_ok-value.value c.args.room l.next name.end l.nodes.items c.build_value.new.nodes.items) c.in-Whole.is c.in_ok-end-3.ensures.ok in
-    let p = err_from_is_err_and c.from_residual-in_err-item.result c.from_residual-in_err-item.ensures.1 in
-    rw (p.1, p.2) (list.bad_rest T curly c.args.at l.next l.invariant.leads c.in_ok-value.value c.in-Whole.end (Syntax c.in_err-item.field-0.0) before b.reads c.in_err-item.ensures.stop)
-
-pub build_object-loop-names-preserved : goal.build_object-loop-names-preserved
-build_object-loop-names-preserved t c =
-    let T = c.args.text.now in
-    let l = c.loop-names in
-    let name = c.in_ok-own.own in
-    let new = members.is_new l.names l.invariant.members.fields name.text c.in_ok-insert.field-0 l.invariant.members.names (c.in_ok-insert.ensures.added) c.if-not-branch.false in
-    let b = subst (Gives T c.in_ok-value.value c.args.room l.next name.end l.nodes.items c.build_value.new.nodes.items) c.in-Whole.is c.in_ok-end-3.ensures.ok in
-    let comma = subst (GoesOn curly T c.in-Whole.end) c.in-Item.is c.in_ok-item.ensures.ok in
-    let (h, leads, left, more) = gives.object_next T c.args.at c.args.inner c.args.room c.args.name c.args.name_end c.args.nodes.now.items l.nodes.items c.build_value.new.nodes.items c.requires.1.1.0 l.next l.invariant.leads l.invariant.members.fields l.invariant.members.left l.invariant.within name.text name.end c.in_ok-value.value c.in_ok-own.ensures.reads c.in_ok-own.ensures.characters c.in_ok-value.ensures l.invariant.members.made c.in-Whole.end new b c.in-Item.item comma l.names c.insert.new.self l.invariant.members.names c.in_ok-insert.ensures.updates in
-    record { within = h; leads = leads; members = left; index = search rules; small = record { short = l.invariant.small.short; places = omega (arith, b.kept.1, list.past_comma T c.in-Whole.end c.in-Item.item comma) } }
-
-pub build_object-loop-names-smaller : goal.build_object-loop-names-smaller
-build_object-loop-names-smaller t c =
-    let T = c.args.text.now in
-    let l = c.loop-names in
-    let name = c.in_ok-own.own in
-    let new = members.is_new l.names l.invariant.members.fields name.text c.in_ok-insert.field-0 l.invariant.members.names (c.in_ok-insert.ensures.added) c.if-not-branch.false in
-    let b = subst (Gives T c.in_ok-value.value c.args.room l.next name.end l.nodes.items c.build_value.new.nodes.items) c.in-Whole.is c.in_ok-end-3.ensures.ok in
-    let comma = subst (GoesOn curly T c.in-Whole.end) c.in-Item.is c.in_ok-item.ensures.ok in
-    let (h, leads, left, more) = gives.object_next T c.args.at c.args.inner c.args.room c.args.name c.args.name_end c.args.nodes.now.items l.nodes.items c.build_value.new.nodes.items c.requires.1.1.0 l.next l.invariant.leads l.invariant.members.fields l.invariant.members.left l.invariant.within name.text name.end c.in_ok-value.value c.in_ok-own.ensures.reads c.in_ok-own.ensures.characters c.in_ok-value.ensures l.invariant.members.made c.in-Whole.end new b c.in-Item.item comma l.names c.insert.new.self l.invariant.members.names c.in_ok-insert.ensures.updates in
-    omega arith
-
-pub build_object-returns-in-Closed-clause-ok : goal.build_object-returns-in-Closed-clause-ok
-build_object-returns-in-Closed-clause-ok t c =
-    let T = c.args.text.now in
-    let l = c.loop-names in
-    let name = c.in_ok-own.own in
-    let new = members.is_new l.names l.invariant.members.fields name.text c.in_ok-insert.field-0 l.invariant.members.names (c.in_ok-insert.ensures.added) c.if-not-branch.false in
-    let b = subst (Gives T c.in_ok-value.value c.args.room l.next name.end l.nodes.items c.build_value.new.nodes.items) c.in-Whole.is c.in_ok-end-3.ensures.ok in
-    let close = subst (GoesOn curly T c.in-Whole.end) c.in-Closed.is c.in_ok-item.ensures.ok in
-    gives.object_whole T c.args.at c.args.inner c.args.room c.args.name c.args.name_end c.args.nodes.now.items l.nodes.items c.build_value.new.nodes.items c.requires.1.1.0 l.next l.invariant.leads l.invariant.members.fields l.invariant.members.left l.invariant.within name.text name.end c.in_ok-value.value c.in_ok-own.ensures.reads c.in_ok-own.ensures.characters c.in_ok-value.ensures l.invariant.members.made c.in-Whole.end new b _ c.in-Closed.end close (search rules)
-
 pub build_value-returns-in_ok-push-in-Some-Scalar-clause-ok : goal.build_value-returns-in_ok-push-in-Some-Scalar-clause-ok
 build_value-returns-in_ok-push-in-Some-Scalar-clause-ok t c =
     let T = c.args.text.now in
@@ -253,3 +136,150 @@ build_value-returns-in_err-end-in-Some-Scalar-clause-stop t c =
 
 pub build_value-returns-in-None-clause-stop : goal.build_value-returns-in-None-clause-stop
 build_value-returns-in-None-clause-stop t c = no_value c.args.text.now c.args.at c.requires.1.1.0 c.in-None.ensures.none
+
+pub build_object-loop-own-init : goal.build_object-loop-own-init
+build_object-loop-own-init t c = record {
+  within = c.requires.1.1.0.blanks.within_text;
+  leads = list.open_leads c.args.text.now Curly c.args.at c.args.inner c.requires.1.1.0;
+  members = record { fields = []; left = members.members_start c.args.text.now c.args.room c.args.inner; made = c.in_ok-push.ensures.items; own = []; behind = sym (append-nil c.args.names.now.items); are = tt };
+  base = search rules;
+  index = search rules;
+  small = gives.opened_small c.args.text.now c.args.at c.args.inner c.args.nodes.now.items _ _ c.requires.1.1.1 c.requires.1.1.0.blanks c.in_ok-push.ensures.items;
+}
+
+pub build_object-returns-in_err-own-clause-stop : goal.build_object-returns-in_err-own-clause-stop
+build_object-returns-in_err-own-clause-stop t c =
+    let T = c.args.text.now in
+    let l = c.loop-own in
+    let p = err_from_is_err_and c.from_residual-in_err-own.result c.from_residual-in_err-own.ensures.1 in
+    rw (p.1, p.2) (list.bad_name T c.args.at l.next l.invariant.leads (Syntax c.in_err-own.field-0.0) c.in_err-own.ensures.stop)
+
+pub build_object-returns-in_err-value-clause-stop : goal.build_object-returns-in_err-value-clause-stop
+build_object-returns-in_err-value-clause-stop t c =
+    let T = c.args.text.now in
+    let l = c.loop-own in
+    let n = c.in_ok-own.own in
+    let own = naming.named_at T l.next n c.in_ok-own.ensures.ok in
+    let p = err_from_is_err_and c.from_residual-in_err-value.result c.from_residual-in_err-value.ensures.1 in
+    rw (p.1, p.2) (list.bad_colon T c.args.at l.next n.end l.invariant.leads c.in_err-value.field-0.0 c.in_ok-own.ensures.ok.reads c.in_err-value.ensures)
+
+pub build_object-returns-in_err-built-clause-stop : goal.build_object-returns-in_err-built-clause-stop
+build_object-returns-in_err-built-clause-stop t c =
+    let T = c.args.text.now in
+    let l = c.loop-own in
+    let n = c.in_ok-own.own in
+    let own = naming.named_at T l.next n c.in_ok-own.ensures.ok in
+    let before = gives.name_before T c.args.at c.args.inner c.args.room c.args.name c.args.name_end c.args.nodes.now.items l.nodes.items l.nodes.items c.requires.1.1.0 l.next l.invariant.leads l.invariant.members.fields l.invariant.members.left l.invariant.within own.name n.end c.in_ok-value.value c.in_ok-own.ensures.ok.reads own.stands c.in_ok-value.ensures in
+    let p = err_from_is_err_and c.from_residual-in_err-built.result c.from_residual-in_err-built.ensures.1 in
+    rw (p.1, p.2) (list.bad_value T curly c.args.at l.next l.invariant.leads c.in_ok-value.value c.in_err-built.field-0.0 before c.in_err-built.ensures.stop)
+
+pub build_object-returns-in_err-end-in-Flawed-clause-stop : goal.build_object-returns-in_err-end-in-Flawed-clause-stop
+build_object-returns-in_err-end-in-Flawed-clause-stop t c =
+    let T = c.args.text.now in
+    let l = c.loop-own in
+    let n = c.in_ok-own.own in
+    let own = naming.named_at T l.next n c.in_ok-own.ensures.ok in
+    let before = gives.name_before T c.args.at c.args.inner c.args.room c.args.name c.args.name_end c.args.nodes.now.items l.nodes.items c.build_value.new.nodes.items c.requires.1.1.0 l.next l.invariant.leads l.invariant.members.fields l.invariant.members.left l.invariant.within own.name n.end c.in_ok-value.value c.in_ok-own.ensures.ok.reads own.stands c.in_ok-value.ensures in
+    let b = subst (Gives T c.in_ok-value.value c.args.room l.next n.end l.nodes.items c.build_value.new.nodes.items) c.in-Flawed.is (rw c.in_ok-own.ensures.ok.start at c.in_ok-built.ensures.ok) in
+    let p = err_from_is_err_and c.from_residual-in_err-end-in-Flawed.result c.from_residual-in_err-end-in-Flawed.ensures.1 in
+    rw (p.1, p.2) (list.bad_rest T curly c.args.at l.next l.invariant.leads c.in_ok-value.value c.in-Flawed.end c.in_err-end-in-Flawed.field-0.0 before b.reads c.in_err-end-in-Flawed.ensures.stop)
+
+pub build_object-returns-in-Flawed-clause-ok : goal.build_object-returns-in-Flawed-clause-ok
+build_object-returns-in-Flawed-clause-ok t c =
+    let T = c.args.text.now in
+    let l = c.loop-own in
+    let n = c.in_ok-own.own in
+    let own = naming.named_at T l.next n c.in_ok-own.ensures.ok in
+    let b = subst (Gives T c.in_ok-value.value c.args.room l.next n.end l.nodes.items c.build_value.new.nodes.items) c.in-Flawed.is (rw c.in_ok-own.ensures.ok.start at c.in_ok-built.ensures.ok) in
+    let pushed = c.in_ok-built.ensures.names ∙ c.in_ok-push-2.ensures.items in
+    let es = l.invariant.members.fields ++ record { name = own.name; start = l.next; end = n.end; value = b.tree } ∷ [] in
+    let are = subst (λ z. AreNames T z es) (sym (naming.own_behind c.args.names.now.items l.invariant.members.own l.names.items c.build_value.new.names.items n _ l.invariant.members.behind pushed l.invariant.base)) (naming.are_push T l.invariant.members.own l.invariant.members.fields n (record { name = own.name; start = l.next; end = n.end; value = b.tree }) l.invariant.members.are (own.is b.tree)) in
+    let told = c.in_ok-first-in-Flawed.ensures.flaw es are in
+    rw c.unwrap_or.ensures (gives.object_flawed T c.args.at c.args.inner c.args.room c.args.name c.args.name_end c.args.nodes.now.items l.nodes.items c.build_value.new.nodes.items c.requires.1.1.0 l.next l.invariant.leads l.invariant.members.fields l.invariant.members.left l.invariant.within own.name n.end c.in_ok-value.value c.in_ok-own.ensures.ok.reads own.stands c.in_ok-value.ensures c.in-Flawed.flaw c.in_ok-first-in-Flawed.first c.in-Flawed.end c.in_ok-end-in-Flawed.end b told c.in_ok-end-in-Flawed.ensures.end)
+
+pub build_object-returns-in_err-item-clause-stop : goal.build_object-returns-in_err-item-clause-stop
+build_object-returns-in_err-item-clause-stop t c =
+    let T = c.args.text.now in
+    let l = c.loop-own in
+    let n = c.in_ok-own.own in
+    let own = naming.named_at T l.next n c.in_ok-own.ensures.ok in
+    let before = gives.name_before T c.args.at c.args.inner c.args.room c.args.name c.args.name_end c.args.nodes.now.items l.nodes.items c.build_value.new.nodes.items c.requires.1.1.0 l.next l.invariant.leads l.invariant.members.fields l.invariant.members.left l.invariant.within own.name n.end c.in_ok-value.value c.in_ok-own.ensures.ok.reads own.stands c.in_ok-value.ensures in
+    let b = subst (Gives T c.in_ok-value.value c.args.room l.next n.end l.nodes.items c.build_value.new.nodes.items) c.in-Whole.is (rw c.in_ok-own.ensures.ok.start at c.in_ok-built.ensures.ok) in
+    let p = err_from_is_err_and c.from_residual-in_err-item.result c.from_residual-in_err-item.ensures.1 in
+    rw (p.1, p.2) (list.bad_rest T curly c.args.at l.next l.invariant.leads c.in_ok-value.value c.in-Whole.end (Syntax c.in_err-item.field-0.0) before b.reads c.in_err-item.ensures.stop)
+
+pub build_object-loop-own-preserved : goal.build_object-loop-own-preserved
+build_object-loop-own-preserved t c =
+    let T = c.args.text.now in
+    let l = c.loop-own in
+    let n = c.in_ok-own.own in
+    let own = naming.named_at T l.next n c.in_ok-own.ensures.ok in
+    let b = subst (Gives T c.in_ok-value.value c.args.room l.next n.end l.nodes.items c.build_value.new.nodes.items) c.in-Whole.is (rw c.in_ok-own.ensures.ok.start at c.in_ok-built.ensures.ok) in
+    let pushed = c.in_ok-built.ensures.names ∙ c.in_ok-push-2.ensures.items in
+    let comma = subst (GoesOn curly T c.in-Whole.end) c.in-Item.is c.in_ok-item.ensures.ok in
+    let (h, leads, left, more) = gives.object_next T c.args.at c.args.inner c.args.room c.args.name c.args.name_end c.args.nodes.now.items l.nodes.items c.build_value.new.nodes.items c.requires.1.1.0 l.next l.invariant.leads l.invariant.members.fields l.invariant.members.left l.invariant.within own.name n.end c.in_ok-value.value c.in_ok-own.ensures.ok.reads own.stands c.in_ok-value.ensures l.invariant.members.made c.in-Whole.end b c.in-Item.item comma c.args.names.now.items l.invariant.members.own l.names.items c.build_value.new.names.items n l.invariant.members.behind l.invariant.members.are (own.is b.tree) pushed in
+    record { within = h; leads = leads; members = left; base = l.invariant.base; index = search rules; small = record { short = l.invariant.small.short; places = omega (arith, b.kept.1, list.past_comma T c.in-Whole.end c.in-Item.item comma) } }
+
+pub build_object-loop-own-smaller : goal.build_object-loop-own-smaller
+build_object-loop-own-smaller t c =
+    let T = c.args.text.now in
+    let l = c.loop-own in
+    let n = c.in_ok-own.own in
+    let own = naming.named_at T l.next n c.in_ok-own.ensures.ok in
+    let b = subst (Gives T c.in_ok-value.value c.args.room l.next n.end l.nodes.items c.build_value.new.nodes.items) c.in-Whole.is (rw c.in_ok-own.ensures.ok.start at c.in_ok-built.ensures.ok) in
+    let pushed = c.in_ok-built.ensures.names ∙ c.in_ok-push-2.ensures.items in
+    let comma = subst (GoesOn curly T c.in-Whole.end) c.in-Item.is c.in_ok-item.ensures.ok in
+    let (h, leads, left, more) = gives.object_next T c.args.at c.args.inner c.args.room c.args.name c.args.name_end c.args.nodes.now.items l.nodes.items c.build_value.new.nodes.items c.requires.1.1.0 l.next l.invariant.leads l.invariant.members.fields l.invariant.members.left l.invariant.within own.name n.end c.in_ok-value.value c.in_ok-own.ensures.ok.reads own.stands c.in_ok-value.ensures l.invariant.members.made c.in-Whole.end b c.in-Item.item comma c.args.names.now.items l.invariant.members.own l.names.items c.build_value.new.names.items n l.invariant.members.behind l.invariant.members.are (own.is b.tree) pushed in
+    omega arith
+
+pub build_object-close_names-requires-clause-are : goal.build_object-close_names-requires-clause-are
+build_object-close_names-requires-clause-are t c =
+    let T = c.args.text.now in
+    let l = c.loop-own in
+    let n = c.in_ok-own.own in
+    let own = naming.named_at T l.next n c.in_ok-own.ensures.ok in
+    let b = subst (Gives T c.in_ok-value.value c.args.room l.next n.end l.nodes.items c.build_value.new.nodes.items) c.in-Flawed.is (rw c.in_ok-own.ensures.ok.start at c.in_ok-built.ensures.ok) in
+    let pushed = c.in_ok-built.ensures.names ∙ c.in_ok-push-2.ensures.items in
+    let es = l.invariant.members.fields ++ record { name = own.name; start = l.next; end = n.end; value = b.tree } ∷ [] in
+    let are = subst (λ z. AreNames T z es) (sym (naming.own_behind c.args.names.now.items l.invariant.members.own l.names.items c.build_value.new.names.items n _ l.invariant.members.behind pushed l.invariant.base)) (naming.are_push T l.invariant.members.own l.invariant.members.fields n (record { name = own.name; start = l.next; end = n.end; value = b.tree }) l.invariant.members.are (own.is b.tree)) in
+    (es, are)
+
+pub build_object-close_names-requires-in-Closed-clause-are : goal.build_object-close_names-requires-in-Closed-clause-are
+build_object-close_names-requires-in-Closed-clause-are t c =
+    let T = c.args.text.now in
+    let l = c.loop-own in
+    let n = c.in_ok-own.own in
+    let own = naming.named_at T l.next n c.in_ok-own.ensures.ok in
+    let b = subst (Gives T c.in_ok-value.value c.args.room l.next n.end l.nodes.items c.build_value.new.nodes.items) c.in-Whole.is (rw c.in_ok-own.ensures.ok.start at c.in_ok-built.ensures.ok) in
+    let pushed = c.in_ok-built.ensures.names ∙ c.in_ok-push-2.ensures.items in
+    let es = l.invariant.members.fields ++ record { name = own.name; start = l.next; end = n.end; value = b.tree } ∷ [] in
+    let are = subst (λ z. AreNames T z es) (sym (naming.own_behind c.args.names.now.items l.invariant.members.own l.names.items c.build_value.new.names.items n _ l.invariant.members.behind pushed l.invariant.base)) (naming.are_push T l.invariant.members.own l.invariant.members.fields n (record { name = own.name; start = l.next; end = n.end; value = b.tree }) l.invariant.members.are (own.is b.tree)) in
+    (es, are)
+
+pub build_object-returns-in-Some-clause-ok : goal.build_object-returns-in-Some-clause-ok
+build_object-returns-in-Some-clause-ok t c =
+    let T = c.args.text.now in
+    let l = c.loop-own in
+    let n = c.in_ok-own.own in
+    let own = naming.named_at T l.next n c.in_ok-own.ensures.ok in
+    let b = subst (Gives T c.in_ok-value.value c.args.room l.next n.end l.nodes.items c.build_value.new.nodes.items) c.in-Whole.is (rw c.in_ok-own.ensures.ok.start at c.in_ok-built.ensures.ok) in
+    let pushed = c.in_ok-built.ensures.names ∙ c.in_ok-push-2.ensures.items in
+    let es = l.invariant.members.fields ++ record { name = own.name; start = l.next; end = n.end; value = b.tree } ∷ [] in
+    let are = subst (λ z. AreNames T z es) (sym (naming.own_behind c.args.names.now.items l.invariant.members.own l.names.items c.build_value.new.names.items n _ l.invariant.members.behind pushed l.invariant.base)) (naming.are_push T l.invariant.members.own l.invariant.members.fields n (record { name = own.name; start = l.next; end = n.end; value = b.tree }) l.invariant.members.are (own.is b.tree)) in
+    let close = subst (GoesOn curly T c.in-Whole.end) c.in-Closed.is c.in_ok-item.ensures.ok in
+    let told = subst (λ z. option_map flaw_view z ≡ names_flaw [] es) c.in-Some.is (c.in_ok-again-in-Closed.ensures.flaw es are) in
+    gives.object_again T c.args.at c.args.inner c.args.room c.args.name c.args.name_end c.args.nodes.now.items l.nodes.items c.build_value.new.nodes.items c.requires.1.1.0 l.next l.invariant.leads l.invariant.members.fields l.invariant.members.left l.invariant.within own.name n.end c.in_ok-value.value c.in_ok-own.ensures.ok.reads own.stands c.in_ok-value.ensures l.invariant.members.made c.in-Whole.end b c.in-Some.flaw c.in-Closed.end close told _
+
+pub build_object-returns-in-Closed-clause-ok : goal.build_object-returns-in-Closed-clause-ok
+build_object-returns-in-Closed-clause-ok t c =
+    let T = c.args.text.now in
+    let l = c.loop-own in
+    let n = c.in_ok-own.own in
+    let own = naming.named_at T l.next n c.in_ok-own.ensures.ok in
+    let b = subst (Gives T c.in_ok-value.value c.args.room l.next n.end l.nodes.items c.build_value.new.nodes.items) c.in-Whole.is (rw c.in_ok-own.ensures.ok.start at c.in_ok-built.ensures.ok) in
+    let pushed = c.in_ok-built.ensures.names ∙ c.in_ok-push-2.ensures.items in
+    let es = l.invariant.members.fields ++ record { name = own.name; start = l.next; end = n.end; value = b.tree } ∷ [] in
+    let are = subst (λ z. AreNames T z es) (sym (naming.own_behind c.args.names.now.items l.invariant.members.own l.names.items c.build_value.new.names.items n _ l.invariant.members.behind pushed l.invariant.base)) (naming.are_push T l.invariant.members.own l.invariant.members.fields n (record { name = own.name; start = l.next; end = n.end; value = b.tree }) l.invariant.members.are (own.is b.tree)) in
+    let close = subst (GoesOn curly T c.in-Whole.end) c.in-Closed.is c.in_ok-item.ensures.ok in
+    let told = subst (λ z. option_map flaw_view z ≡ names_flaw [] es) c.in_default.is (c.in_ok-again-in-Closed.ensures.flaw es are) in
+    gives.object_whole T c.args.at c.args.inner c.args.room c.args.name c.args.name_end c.args.nodes.now.items l.nodes.items c.build_value.new.nodes.items c.requires.1.1.0 l.next l.invariant.leads l.invariant.members.fields l.invariant.members.left l.invariant.within own.name n.end c.in_ok-value.value c.in_ok-own.ensures.ok.reads own.stands c.in_ok-value.ensures l.invariant.members.made c.in-Whole.end b _ c.in-Closed.end close told (search rules)

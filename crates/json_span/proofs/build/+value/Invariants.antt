@@ -22,6 +22,7 @@ abbrev pub invariant-build_array-loop-end : goal.invariant-build_array-loop-end
 invariant-build_array-loop-end l = record {
   within : l.next ≤ length l.text;
   leads : Leads l.text (left_of true []) l.at (list_left square) l.next;
+  same : l.names.items ≡ l.fn.names.items;
   elements : ArrayLeft l.text l.room l.at l.inner l.next l.name l.name_end l.fn.nodes.items l.nodes.items;
   index : l.index ≡ length l.fn.nodes.items;
   small : IsSmall l.text l.next l.nodes.items;
@@ -30,14 +31,15 @@ invariant-build_array-loop-end l = record {
 abbrev pub decreases-build_array-loop-end : goal.decreases-build_array-loop-end
 decreases-build_array-loop-end l = length l.text - l.next
 
-abbrev pub invariant-build_object-loop-names : goal.invariant-build_object-loop-names
-invariant-build_object-loop-names l = record {
+abbrev pub invariant-build_object-loop-own : goal.invariant-build_object-loop-own
+invariant-build_object-loop-own l = record {
   within : l.next ≤ length l.text;
   leads : Leads l.text (left_of true []) l.at (list_left curly) l.next;
-  members : ObjectLeft l.text l.room l.at l.inner l.next l.name l.name_end l.fn.nodes.items l.nodes.items l.names;
+  members : ObjectLeft l.text l.room l.at l.inner l.next l.name l.name_end l.fn.nodes.items l.nodes.items l.fn.names.items l.names.items;
+  base : l.base ≡ length l.fn.names.items;
   index : l.index ≡ length l.fn.nodes.items;
   small : IsSmall l.text l.next l.nodes.items;
 }
 
-abbrev pub decreases-build_object-loop-names : goal.decreases-build_object-loop-names
-decreases-build_object-loop-names l = length l.text - l.next
+abbrev pub decreases-build_object-loop-own : goal.decreases-build_object-loop-own
+decreases-build_object-loop-own l = length l.text - l.next

@@ -1,0 +1,159 @@
+//! The names of an object, and the first one that repeats another.
+
+ghost use Rattle.std.specs.Prelude.{◌≡◌, ◌≤◌, ◌<◌, ◌^◌, List, [], length, take, drop, slice_get, Some, option_map, IfOk, IfErr, OnOk};
+ghost use Rattle.std.specs.Str.{bytes_eq};
+ghost use Rattle.grammar.specs.Grammar.{named};
+ghost use Rattle.json_span.specs.Grammar.{string};
+ghost use Rattle.json_span.specs.Tree.{Entry};
+ghost use Rattle.json_span.specs.Flaw.{equal_names, is_seen};
+ghost use Rattle.json_span.specs.Scan.{Halts};
+ghost use Rattle.json_span.specs.Names.{IsNameAt, IsName, AreNames, names_flaw, names_of};
+ghost use Rattle.json_span.specs.Building.{flaw_view};
+
+use crate::bytes::{Class, has};
+use crate::flaw::Flaw;
+use crate::scan::plain_end;
+use crate::string::characters_end;
+use crate::text::{is_string_of, string_text};
+use std::alloc::Global;
+use std::collections::BTreeSet;
+use tk_io::NoMemory;
+
+/// The offsets of a name's string, and whether no escape stands in it.
+#[derive(Clone, Copy, Debug)]
+pub(crate) struct NameSpan {
+    pub(crate) start: u32,
+    pub(crate) end: u32,
+    pub(crate) is_plain: bool,
+}
+
+impl NameSpan {
+    // The offset of its first byte.
+    fn offset(self) -> usize
+        ensures { result ≡ self.start }
+    {
+        self.start as usize
+    }
+
+    // The flaw that it repeats an earlier one.
+    fn repeated(self) -> Flaw
+        ensures { flaw_view result ≡ equal_names self.start self.end }
+    {
+        Flaw::Dup(self.start as usize, self.end as usize)
+    }
+}
+
+/// Up to how many names are compared in pairs.
+const MOST_PAIRED: usize = 8;
+
+/// The name whose string stands there.
+pub(crate) fn read_name(text: &str, at: usize) -> Result<NameSpan, usize>
+    requires within { at ≤ length text.now }
+    requires short { length text.now < 2 ^ 32 }
+    ensures ok { IfOk result (λ n. IsNameAt text.now at n) }
+    ensures stop { IfErr result (λ e. Halts (named string) text.now at e) }
+{
+    if !has(text, at, Class::One(b'"')) {
+        return Err(at);
+    }
+    let plain = plain_end(text, at + 1);
+    if has(text, plain, Class::One(b'"')) {
+        let end = plain + 1;
+        return Ok(NameSpan {
+            start: at as u32,
+            end: end as u32,
+            is_plain: true,
+        });
+    }
+    let end = characters_end(text, at + 1)?;
+    Ok(NameSpan {
+        start: at as u32,
+        end: end as u32,
+        is_plain: false,
+    })
+}
+
+// Whether two names are the same.
+fn are_same(alloc: Global, text: &str, a: NameSpan, b: NameSpan) -> Result<bool, NoMemory>
+    requires first { (e : Entry) × IsName text.now a e }
+    requires second { (e : Entry) × IsName text.now b e }
+    ensures { IfOk result (λ r. (e f : Entry) → IsName text.now a e → IsName text.now b f → r ≡ bytes_eq e.name f.name) }
+{
+    if a.is_plain && b.is_plain {
+        let bytes = text.as_bytes();
+        let first = &bytes[a.start as usize + 1..a.end as usize - 1];
+        return Ok(first == &bytes[b.start as usize + 1..b.end as usize - 1]);
+    }
+    let name = string_text(alloc, text, b.start as usize)?;
+    Ok(is_string_of(text, a.start as usize, name.as_str()))
+}
+
+// Whether the i-th name stands before it.
+fn is_before(alloc: Global, text: &str, names: &[NameSpan], i: usize) -> Result<bool, NoMemory>
+    requires within { i < length names.now }
+    requires are { (es : List Entry) × AreNames text.now names.now es }
+    ensures { IfOk result (λ b. (es : List Entry) (e : Entry) → AreNames text.now names.now es → slice_get es i ≡ Some e → b ≡ is_seen (names_of (take i es) []) e.name) }
+{
+    for k in 0..i {
+        if are_same(alloc, text, names[k], names[i])? {
+            return Ok(true);
+        }
+    }
+    Ok(false)
+}
+
+// The first name that repeats another, each compared with all before it.
+fn flaw_in_pairs(alloc: Global, text: &str, names: &[NameSpan]) -> Result<Option<Flaw>, NoMemory>
+    requires { (es : List Entry) × AreNames text.now names.now es }
+    ensures { IfOk result (λ f. (es : List Entry) → AreNames text.now names.now es → option_map flaw_view f ≡ names_flaw [] es) }
+{
+    for i in 0..names.len() {
+        if is_before(alloc, text, names, i)? {
+            return Ok(Some(names[i].repeated()));
+        }
+    }
+    Ok(None)
+}
+
+// The first name that repeats another, with a set of those before it.
+fn flaw_by_set(alloc: Global, text: &str, names: &[NameSpan]) -> Result<Option<Flaw>, NoMemory>
+    requires { (es : List Entry) × AreNames text.now names.now es }
+    ensures { IfOk result (λ f. (es : List Entry) → AreNames text.now names.now es → option_map flaw_view f ≡ names_flaw [] es) }
+{
+    let mut seen = BTreeSet::new(alloc);
+    for i in 0..names.len() {
+        let name = string_text(alloc, text, names[i].offset())?;
+        if !seen.insert(name)? {
+            return Ok(Some(names[i].repeated()));
+        }
+    }
+    Ok(None)
+}
+
+// The first name that repeats another.
+fn flaw_of_names(alloc: Global, text: &str, names: &[NameSpan]) -> Result<Option<Flaw>, NoMemory>
+    requires { (es : List Entry) × AreNames text.now names.now es }
+    ensures { IfOk result (λ f. (es : List Entry) → AreNames text.now names.now es → option_map flaw_view f ≡ names_flaw [] es) }
+{
+    if names.len() <= MOST_PAIRED {
+        return flaw_in_pairs(alloc, text, names);
+    }
+    flaw_by_set(alloc, text, names)
+}
+
+/// Takes off the names from a place on, those of an object, and tells the first one that repeats another.
+pub(crate) fn close_names(
+    alloc: Global,
+    text: &str,
+    base: usize,
+    names: &mut Vec<NameSpan>,
+) -> Result<Option<Flaw>, NoMemory>
+    requires within { base ≤ length names.old.items }
+    requires are { (es : List Entry) × AreNames text.now (drop base names.old.items) es }
+    ensures flaw { IfOk result (λ f. (es : List Entry) → AreNames text.now (drop base names.old.items) es → option_map flaw_view f ≡ names_flaw [] es) }
+    ensures left { OnOk result (names.new.items ≡ take base names.old.items) }
+{
+    let flaw = flaw_of_names(alloc, text, &names[base..])?;
+    names.truncate(base);
+    Ok(flaw)
+}
