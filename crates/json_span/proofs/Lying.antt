@@ -107,6 +107,18 @@ one_left text table i stop (element n ms) p h =
     let q = list_from text table (i + size n) ms rest (behind table i (size n) (spans 0 0 i n) (spans_of (i + size n) ms ++ rest) (length-spans 0 0 i n) whole) p.2.1 in
     (n, ms, value_from text table 0 0 i n (spans_of (i + size n) ms ++ rest) whole p.2.0, (q.0, omega (arith, p.1), q.2), refl)
 
+-- no more than there are places
+places : (n : Placed) → 1 ≤ size n
+places (placed v start end) = omega arith
+
+pub no_more_elements : (ns : Elements) → length (elements_in ns) ≤ sizes ns
+no_more_elements no_elements = omega arith
+no_more_elements (element n ns) = let h = no_more_elements ns in let k = places n in omega (arith, h, k)
+
+pub no_more_members : (ms : Members) → length (entries_in ms) ≤ member_sizes ms
+no_more_members no_members = omega arith
+no_more_members (member s a z n ms) = let h = no_more_members ms in let k = places n in omega (arith, h, k)
+
 pub no_member_left : (text : List ℕ) (table : List Span) (i stop : ℕ) (ms : Members) → MembersLie text table i stop ms → stop ≤ i → ms ≡ no_members
 no_member_left text table i stop no_members p h = refl
 no_member_left text table i stop (member s a z (placed v start end) ns) p h = absurd (omega (arith, p.1, h))

@@ -1,6 +1,6 @@
 //! The members of objects.
 
-ghost use Rattle.std.specs.Prelude.{◌≡◌, IfOk, option_map};
+ghost use Rattle.std.specs.Prelude.{◌≡◌, length, IfOk, option_map};
 ghost use Rattle.json_span.specs.Table.{MembersStanding, MembersLie, MemberStanding, MemberLies};
 ghost use Rattle.json_span.specs.Once.{members_standing_prop, member_standing_prop};
 
@@ -38,6 +38,17 @@ impl<'d, 's> Fields<'d, 's> {
         ensures { (ms : Members) → MembersLie document.entry.now.value.text.now document.entry.now.value.nodes.items at stop ms → fields_view result ≡ entries_in ms }
     {
         Fields { document, at, stop }
+    }
+
+    /// How many there are: a walk over them.
+    pub fn len(&self) -> usize
+        ensures { result ≡ length (fields_view self.now) }
+    {
+        let mut count = 0;
+        for _ in *self {
+            count += 1;
+        }
+        count
     }
 
     /// The value of the first member of this name; none where there is no such member.

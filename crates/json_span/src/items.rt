@@ -1,6 +1,6 @@
 //! The elements of arrays.
 
-ghost use Rattle.std.specs.Prelude.{◌≡◌};
+ghost use Rattle.std.specs.Prelude.{◌≡◌, length};
 ghost use Rattle.json_span.specs.Table.{AllStanding, AllLie};
 ghost use Rattle.json_span.specs.Once.{all_standing_prop};
 
@@ -27,6 +27,17 @@ impl<'d, 's> Items<'d, 's> {
         ensures { (ns : Elements) → AllLie document.entry.now.value.text.now document.entry.now.value.nodes.items at stop ns → items_view result ≡ elements_in ns }
     {
         Items { document, at, stop }
+    }
+
+    /// How many there are: a walk over them.
+    pub fn len(&self) -> usize
+        ensures { result ≡ length (items_view self.now) }
+    {
+        let mut count = 0;
+        for _ in *self {
+            count += 1;
+        }
+        count
     }
 }
 

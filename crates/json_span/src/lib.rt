@@ -16,10 +16,16 @@ mod plain;
 mod reader;
 mod scan;
 mod skip;
+#[cfg(test)]
+mod spanned;
 mod stop;
 mod string;
 mod table;
+#[cfg(test)]
+mod tests;
 mod text;
+#[cfg(test)]
+mod texts;
 mod value_type;
 mod written;
 

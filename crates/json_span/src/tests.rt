@@ -1,0 +1,269 @@
+//! Texts with the answers that an independent reader gives to them, large texts, and each call once.
+
+ghost use Rattle.std.specs.Prelude.{◌≡◌, ◌<◌};
+
+use crate::spanned::SPANS;
+use crate::texts::{DEEP, DUP, READ, SYNTAX};
+use crate::{
+    JsonFault, Node, NodeRef, Plain, PlainField, PlainFields, PlainItems, ValueType, read,
+    write_string, write_string_bytes, write_string_inside,
+};
+use std::alloc::Global;
+use std::marker::Brand;
+use std::str;
+use std::sync::ledger::{Blank, Ledger};
+use std::test::Fail;
+use tk_io::{Bytes, Steps, Text};
+
+fn read_by<'s, L: Ledger>(alloc: Global, text: &'s str, page: Blank) -> Result<Node<'s>, JsonFault>
+    requires page { (page.name ≡ L.name) × (page.parts ≡ L.parts) × (0 < L.parts) }
+{
+    let mut parses: Steps<L> = Steps::new(page);
+    read(alloc, text, &mut parses)
+}
+
+fn root(alloc: Global, text: &str) -> Result<Node<'_>, JsonFault> {
+    read_by::<Brand>(alloc, text, Blank::new(1))
+}
+
+fn fault(alloc: Global, text: &[u8]) -> Option<JsonFault> {
+    let text = str::from_utf8(text).ok()?;
+    root(alloc, text).err()
+}
+
+#[test]
+fn read_texts(rt: HostRuntime) {
+    for text in &READ {
+        assert_eq!(rt; fault(rt.alloc(), text.as_bytes()), None, "{text}");
+    }
+}
+
+#[test]
+fn stops(rt: HostRuntime) {
+    for (text, at) in &SYNTAX {
+        assert_eq!(rt;
+            fault(rt.alloc(), text.as_bytes()),
+            Some(JsonFault::Syntax(*at)),
+            "{text}"
+        );
+    }
+}
+
+#[test]
+fn equal_names(rt: HostRuntime) {
+    for (text, start, end) in &DUP {
+        assert_eq!(rt;
+            fault(rt.alloc(), text.as_bytes()),
+            Some(JsonFault::Dup(*start, *end)),
+            "{text}"
+        );
+    }
+}
+
+#[test]
+fn levels(rt: HostRuntime) {
+    for (text, start, end) in &DEEP {
+        assert_eq!(rt;
+            fault(rt.alloc(), text.as_bytes()),
+            Some(JsonFault::Deep(*start, *end)),
+            "{text}"
+        );
+    }
+}
+
+#[test]
+fn open_brackets(rt: HostRuntime) -> Result<(), Fail> {
+    let mut text = Vec::new(rt.alloc());
+    for _ in 0..100000u32 {
+        text.push(b'[')?;
+    }
+    assert_eq!(rt; fault(rt.alloc(), &text), Some(JsonFault::Syntax(100000)));
+    for _ in 0..100000u32 {
+        text.push(b']')?;
+    }
+    assert_eq!(rt; fault(rt.alloc(), &text), Some(JsonFault::Deep(64, 65)));
+    Ok(())
+}
+
+#[test]
+fn many_members(rt: HostRuntime) -> Result<(), Fail> {
+    let mut text = Vec::new(rt.alloc());
+    text.push(b'{')?;
+    for i in 0..500000u32 {
+        text.push(b'"')?;
+        // The last digit first, so that the names stand in no order.
+        for tens in [1, 10, 100, 1000, 10000, 100000] {
+            text.push(b'0' + (i / tens % 10) as u8)?;
+        }
+        text.extend_from_slice(b"\":0,")?;
+    }
+    text.extend_from_slice(b"\"\":0}")?;
+    assert_eq!(rt; fault(rt.alloc(), &text), None);
+    Ok(())
+}
+
+#[test]
+fn long_string(rt: HostRuntime) -> Result<(), Fail> {
+    let mut text = Vec::new(rt.alloc());
+    text.push(b'"')?;
+    for _ in 0..60000u32 {
+        text.extend_from_slice(&[b'a'; 1000])?;
+    }
+    assert_eq!(rt; fault(rt.alloc(), &text), Some(JsonFault::Syntax(60000001)));
+    text.push(b'"')?;
+    assert_eq!(rt; fault(rt.alloc(), &text), None);
+    Ok(())
+}
+
+/// The values of a level, each with the offsets of its name's string, or 0 where it has none.
+type Level<'d, 's> = Vec<(usize, usize, NodeRef<'d, 's>)>;
+
+fn push_parts<'d, 's>(node: NodeRef<'d, 's>, level: &mut Level<'d, 's>) -> Result<(), Fail> {
+    if let Some(items) = node.as_array() {
+        for item in items {
+            level.push((0, 0, item))?;
+        }
+    }
+    if let Some(fields) = node.as_object() {
+        for field in fields {
+            level.push((field.start(), field.end(), field.value()))?;
+        }
+    }
+    Ok(())
+}
+
+fn push_span(
+    alloc: Global,
+    name: usize,
+    name_end: usize,
+    node: NodeRef<'_, '_>,
+    out: &mut String,
+) -> Result<(), Fail> {
+    if name_end > 0 {
+        out.push_str(format!(in alloc; "{name}-{name_end}:")?.as_str())?;
+    }
+    let (start, end) = (node.start(), node.end());
+    out.push_str(format!(in alloc; "{start}-{end},")?.as_str())?;
+    Ok(())
+}
+
+fn spans_of(alloc: Global, root: &Node<'_>) -> Result<String, Fail> {
+    let mut out = String::new(alloc);
+    let mut level: Level<'_, '_> = Vec::new(alloc);
+    level.push((0, 0, root.as_ref()))?;
+    for _ in 0..4u32 {
+        let mut next: Level<'_, '_> = Vec::new(alloc);
+        for (name, name_end, node) in level.as_slice() {
+            push_span(alloc, *name, *name_end, *node, &mut out)?;
+            push_parts(*node, &mut next)?;
+        }
+        level = next;
+    }
+    Ok(out)
+}
+
+#[test]
+fn spans(rt: HostRuntime) -> Result<(), Fail> {
+    for (text, expected) in &SPANS {
+        match root(rt.alloc(), text) {
+            Ok(node) => {
+                let found = spans_of(rt.alloc(), &node)?;
+                assert_eq!(rt; found.as_str(), *expected, "{text}");
+            }
+            Err(_) => assert!(rt; false, "{text}"),
+        }
+    }
+    Ok(())
+}
+
+/// Each call once, on one text.
+fn parts(alloc: Global) -> Option<(usize, usize, usize, usize)> {
+    let text = r#" { "b" : null , "é" : [ 1.50, true, "x\n\ud83d\ude00" ], "\u00e9\u0065": {} } "#;
+    let node = root(alloc, text).ok()?;
+    let kept = node.copy().ok()?;
+    let mut fields = kept.as_object()?;
+    let first = fields.next()?;
+    if fields.len() != 2 || !first.value().is_null() || first.name(alloc).ok()?.as_str() != "b" {
+        return None;
+    }
+    let last = kept.as_object()?.get("ée")?;
+    if last.value_type() != ValueType::Object || last.as_array().is_some() {
+        return None;
+    }
+    let list = kept.as_object()?.get("é")?.node().ok()?;
+    let mut items = list.as_array()?;
+    let parts = items.len();
+    let (number, truth, characters) = (items.next()?, items.next()?, items.next()?);
+    if number.as_number()? != "1.50" || !truth.as_bool()? || items.next().is_some() || parts != 3 {
+        return None;
+    }
+    if characters.as_text(alloc).ok()??.as_str() != "x\n😀" || characters.as_number().is_some() {
+        return None;
+    }
+    if number.as_text(alloc).ok()?.is_some() || kept.as_object()?.get("a").is_some() {
+        return None;
+    }
+    Some((
+        kept.start(),
+        kept.end(),
+        characters.start(),
+        characters.end(),
+    ))
+}
+
+fn leaf(alloc: Global, text: &str) -> Option<(ValueType, Option<bool>, bool, usize)> {
+    let node = root(alloc, text).ok()?;
+    let spelling = node.as_number().map(|number| number.len());
+    let characters = node.as_text(alloc).ok()?.map(|text| text.as_str().len());
+    Some((
+        node.value_type(),
+        node.as_bool(),
+        node.is_null(),
+        spelling.or(characters).unwrap_or(0),
+    ))
+}
+
+#[test]
+fn handles(rt: HostRuntime) {
+    assert_eq!(rt; parts(rt.alloc()), Some((1, 78, 37, 54)));
+    for (text, expected) in [
+        ("true", (ValueType::Boolean, Some(true), false, 0)),
+        ("false", (ValueType::Boolean, Some(false), false, 0)),
+        ("null", (ValueType::Null, None, true, 0)),
+        ("-1.5", (ValueType::Number, None, false, 4)),
+        (r#""\u00e9""#, (ValueType::String, None, false, 2)),
+        ("[1]", (ValueType::Array, None, false, 0)),
+        ("{}", (ValueType::Object, None, false, 0)),
+    ] {
+        assert_eq!(rt; leaf(rt.alloc(), text), Some(expected), "{text}");
+    }
+}
+
+#[test]
+fn written_strings(rt: HostRuntime) {
+    let mut out = Bytes::new(rt.alloc());
+    assert!(rt; write_string("a\"\\\u{1}\u{1f}é", &mut out).is_ok());
+    assert_eq!(rt; out.as_slice(), r#""a\"\\\u0001\u001fé""#.as_bytes());
+    assert!(rt; write_string_bytes(b"/\"", &mut out).is_ok());
+    assert_eq!(rt; out.as_slice(), r#""a\"\\\u0001\u001fé""/\"""#.as_bytes());
+    let mut inside = Bytes::new(rt.alloc());
+    assert!(rt; write_string_inside("\u{1f}a", &mut inside).is_ok());
+    assert!(rt; inside.append(b".").is_ok());
+    assert!(rt; write_string_inside("\"é", &mut inside).is_ok());
+    assert_eq!(rt; inside.as_slice(), r#"\u001fa.\"é"#.as_bytes());
+}
+
+#[test]
+fn plain_lists(rt: HostRuntime) {
+    let mut plains = PlainItems::new(rt.alloc());
+    assert!(rt; plains.push(Plain::Num("1")).is_ok());
+    assert!(rt; plains.at(0).is_some() && plains.at(1).is_none());
+    let mut members = PlainFields::new(rt.alloc());
+    let member = PlainField {
+        name: Text::of("b"),
+        value: Plain::Null,
+    };
+    assert!(rt; members.push(member).is_ok());
+    assert_eq!(rt; members.at(0).map(|member| member.name.as_str()), Some("b"));
+    assert_eq!(rt; (plains.len(), members.len()), (1, 1));
+}
