@@ -1,6 +1,6 @@
 -- What typed values keep.
-use Rattle.std.proofs.Common.{◌≡◌, ◌≢◌, ℕ, ◌^◌, Bool, true, false, ◌&&◌, ◌==◌, cond, List, [], ◌∷◌, map, length, codes, pos, Option, Some, None, Ok, Err, refl, ap, sym, subst, ◌∙◌, arith, inl}
-use Rattle.std.specs.Prelude.{IfSome, nat_lt, slice_get}
+use Rattle.std.proofs.Common.{◌≡◌, ◌≢◌, ℕ, ◌^◌, Bool, true, false, ◌&&◌, ◌==◌, cond, List, [], ◌∷◌, map, length, codes, pos, Option, Some, None, Ok, refl, ap, sym, subst, ◌∙◌, arith, inl}
+use Rattle.std.specs.Prelude.{IfSome, nat_lt}
 use Rattle.std.specs.Char.{is_ascii_hexdigit, to_ascii_lowercase}
 use Rattle.std.specs.Fmt.{decimal}
 use Rattle.std.specs.List.{list_all}
@@ -8,7 +8,7 @@ use Rattle.std.specs.Ordering.{is_ge, is_le}
 use Rattle.std.specs.declared.cmp.Ordering.{Ordering}
 use Rattle.std.specs.declared.cmp.Ordering.TheVariants.{Less, Equal, Greater}
 use Rattle.std.proofs.lemmas.Bool.Decides.{nat_tests}
-use Rattle.json_span.specs.PlainView.{Value, Entry}
+use Rattle.json_span.specs.PlainView.{Value}
 use Rattle.dec_fix.specs.Decimal.{Decimal, IsExact}
 use Rattle.dec_fix.specs.Arithmetic.{IsPart, order_with, whole}
 use Rattle.dec_fix.specs.Reading.{number_of}
@@ -28,50 +28,14 @@ use Rattle.type_rules.specs.declared.time.Time.{Time}
 use Rattle.type_rules.specs.declared.curve.Curve.{Curve}
 use Rattle.type_rules.specs.declared.simple.Simple.{Simple}
 use Rattle.type_rules.specs.declared.simple.Simple.TheVariants as simple
-use Rattle.type_rules.specs.Checked.{Checked, broken, or_broken, under, ◌>>=◌}
-use Rattle.type_rules.specs.Forms.{string_in, spelling_in, number_in, text_in, items_in, members_in, if_text, items_of_length, named, member, member_if, member_or, item, each}
+use Rattle.type_rules.specs.Checked.{Checked, broken, or_broken, under}
+use Rattle.type_rules.specs.Forms.{string_in, spelling_in, number_in, text_in, members_in, if_text, items_of_length, member, member_or, item, some_in}
 use Rattle.type_rules.specs.Ranges.{holds, ranged, share, ranges_of}
 use Rattle.type_rules.specs.Words.{meaning, word_in, size_units, time_units, weights, spaces}
-use Rattle.type_rules.specs.Value.{size_in, time_in, four_numbers, ranged_curve, curve_in, some_texts, listed_families, families_in, weight_of_word, weight_of_number, weight_in, component_of_word, component_of_number, component_in, three_components, ranged_component, ranged_components, components_in, alpha_in, hex_digits, hex_in, color_in, simple_value}
+use Rattle.type_rules.specs.Value.{size_in, time_in, four_numbers, ranged_curve, curve_in, measure_in, families_in, weight_of_word, weight_of_number, weight_in, component_of_word, component_of_number, component_in, three_components, ranged_component, ranged_components, components_in, alpha_in, hex_digits, hex_in, color_in, simple_value}
 use Rattle.type_rules.specs.Sound.{kind_of, IsInRange, IsShare, IsHex, is_hex_digit, IsColor, IsSize, IsTime, IsFamilies, IsWeight, IsCurve, IsSimple}
+use Rattle.type_rules.proofs.Keeping.{made, ok_is, found, from_some, from_part, member_keeps, item_keeps, member_or_keeps, some_is_there}
 use Rattle.type_rules.proofs.WordFacts.{all_meanings, and_left, and_right}
-
--- two checks, of which the second sees what the first found
-pub made : {A B P : Type 0} (p : Checked A) (f : A → Checked B) (b : B) → (p >>= f) ≡ Ok b → ((a : A) → p ≡ Ok a → f a ≡ Ok b → P) → P
-made (Ok a) f b e k = k a refl e
-made (Err x) f b e k = absurd (let h : ⊥ = cc in h)
-
-ok_is : {A : Type 0} (x y : A) → ◌≡◌ {A = Checked A} (Ok x) (Ok y) → x ≡ y
-ok_is x y e = cc
-
--- a fact of what is found
-found : {A : Type 0} (P : A → Type 0) (x y : A) → ◌≡◌ {A = Checked A} (Ok x) (Ok y) → P x → P y
-found P x y e h = subst P (ok_is x y e) h
-
-from_some : {A : Type 0} (rule : ValueRule) (o : Option A) (x : A) → or_broken rule o ≡ Ok x → o ≡ Some x
-from_some rule (Some y) x e = ap Some (ok_is y x e)
-from_some rule None x e = absurd (let h : ⊥ = cc in h)
-
-from_part : {A : Type 0} (step : List ℕ) (p : Checked A) (x : A) → under step p ≡ Ok x → p ≡ Ok x
-from_part step (Ok y) x e = e
-from_part step (Err b) x e = absurd (let h : ⊥ = cc in h)
-
-module _ {A : Type 0} (check : Value → Checked A) (P : A → Type 0) (each_keeps : (v : Value) (x : A) → check v ≡ Ok x → P x) where
-  member_keeps : (name : List ℕ) (es : List Entry) (x : A) → member check name es ≡ Ok x → P x
-  unfolding member
-  member_keeps name es x e = made (or_broken ValueShape (named name es)) (λ v. under name (check v)) x e (λ v h k. each_keeps v x (from_part name (check v) x k))
-
-  item_keeps : (i : ℕ) (vs : List Value) (x : A) → item check i vs ≡ Ok x → P x
-  unfolding item
-  item_keeps i vs x e = made (or_broken ValueShape (slice_get vs i)) (λ v. under (decimal i) (check v)) x e (λ v h k. each_keeps v x (from_part (decimal i) (check v) x k))
-
-  member_if_keeps : (absent : A) (name : List ℕ) (o : Option Value) (x : A) → P absent → member_if check absent name o ≡ Ok x → P x
-  member_if_keeps absent name None x h e = found P absent x e h
-  member_if_keeps absent name (Some v) x h e = each_keeps v x (from_part name (check v) x e)
-
-  member_or_keeps : (absent : A) (name : List ℕ) (es : List Entry) (x : A) → P absent → member_or check absent name es ≡ Ok x → P x
-  unfolding member_or
-  member_or_keeps absent name es x h e = member_if_keeps absent name (named name es) x h e
 
 -- numbers and their ranges
 
@@ -111,21 +75,22 @@ is_share d h = record { exact = h.exact; part = shares_are_parts d h.within }
 
 -- lengths and durations
 
+measures_keep : {U : Type 0} (rule : ValueRule) (units : List (List ℕ × U)) (v : Value) (m : Decimal × U) → measure_in rule units v ≡ Ok m → IsExact m.0
+unfolding measure_in
+measures_keep {U} rule units v m e =
+    made (members_in v) _ m e (λ es h e2.
+    made (member number_in (codes "value") es) _ m e2 (λ value has e3.
+    made (member (word_in rule units) (codes "unit") es) _ m e3 (λ unit is e4.
+    let P : Decimal × U → Type 0 = λ z. IsExact z.0 in
+    found P (value, unit) m e4 (member_keeps number_in IsExact numbers_keep (codes "value") es value has))))
+
 pub sizes_keep : (v : Value) (s : Size) → size_in v ≡ Ok s → IsSize s
 unfolding size_in
-sizes_keep v s e =
-    made (members_in v) _ s e (λ es h e2.
-    made (member number_in (codes "value") es) _ s e2 (λ value has e3.
-    made (member (word_in DimensionUnit size_units) (codes "unit") es) _ s e3 (λ unit is e4.
-    found IsSize (record { value = value; unit = unit }) s e4 (member_keeps number_in IsExact numbers_keep (codes "value") es value has))))
+sizes_keep v s e = made (measure_in DimensionUnit size_units v) _ s e (λ m h e2. found IsSize (record { value = m.0; unit = m.1 }) s e2 (measures_keep DimensionUnit size_units v m h))
 
 pub times_keep : (v : Value) (t : Time) → time_in v ≡ Ok t → IsTime t
 unfolding time_in
-times_keep v t e =
-    made (members_in v) _ t e (λ es h e2.
-    made (member number_in (codes "value") es) _ t e2 (λ value has e3.
-    made (member (word_in DurationUnit time_units) (codes "unit") es) _ t e3 (λ unit is e4.
-    found IsTime (record { value = value; unit = unit }) t e4 (member_keeps number_in IsExact numbers_keep (codes "value") es value has))))
+times_keep v t e = made (measure_in DurationUnit time_units v) _ t e (λ m h e2. found IsTime (record { value = m.0; unit = m.1 }) t e2 (measures_keep DurationUnit time_units v m h))
 
 -- curves
 
@@ -165,17 +130,9 @@ curves_keep v c e = made (four_numbers v) _ c e (λ k h e2. ranged_keeps k c (fo
 
 -- font families
 
-some_keep : (vs : List Value) (fs : List (List ℕ)) → some_texts vs ≡ Ok fs → IsFamilies fs
-some_keep [] fs e = absurd (let h : ⊥ = cc in h)
-some_keep (v ∷ vs) fs e =
-    made (under (decimal 0) (text_in v)) _ fs e (λ x h e2.
-    made (each text_in 1 vs) _ fs e2 (λ xs k e3.
-    found IsFamilies (x ∷ xs) fs e3 (λ n. cc)))
-
-families_by : (o : Option (List ℕ)) (v : Value) (fs : List (List ℕ)) → if_text o (λ family. Ok (family ∷ [])) (listed_families v) ≡ Ok fs → IsFamilies fs
-unfolding listed_families
+families_by : (o : Option (List ℕ)) (v : Value) (fs : List (List ℕ)) → if_text o (λ family. Ok (family ∷ [])) (some_in text_in v) ≡ Ok fs → IsFamilies fs
 families_by (Some family) v fs e = found IsFamilies (family ∷ []) fs e (λ n. cc)
-families_by None v fs e = made (items_in v) _ fs e (λ vs h e2. some_keep vs fs e2)
+families_by None v fs e = some_is_there text_in v fs e
 
 pub families_keep : (v : Value) (fs : List (List ℕ)) → families_in v ≡ Ok fs → IsFamilies fs
 unfolding families_in

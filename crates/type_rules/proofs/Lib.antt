@@ -3,5 +3,9 @@ pub mod Finding
 pub mod Places
 pub mod Eaches
 pub mod WordFacts
+pub mod Keeping
 pub mod Kept
+pub mod Leading
 pub mod Led
+pub mod Somes
+pub mod Standing

@@ -15,7 +15,7 @@ use Rattle.type_rules.specs.Words.{meaning, size_units, size_unit_name, time_uni
 pub same_text : (xs ys : List ℕ) → bytes_eq xs ys ≡ true → xs ≡ ys
 same_text xs ys e = (bytes_eq-Decides xs ys).0 e
 
-text_same : (xs ys : List ℕ) → xs ≡ ys → bytes_eq xs ys ≡ true
+pub text_same : (xs ys : List ℕ) → xs ≡ ys → bytes_eq xs ys ≡ true
 text_same xs ys e = (bytes_eq-Decides xs ys).1 e
 
 neither : (b c : Bool) → not (b || c) ≡ true → (b ≡ false) × (not c ≡ true)
@@ -86,7 +86,7 @@ module _ {A : Type 0} where
   all_meanings p [] word x t e = cc
   all_meanings p (r ∷ rs) word x t e = all_first p r x (bytes_eq r.0 word) (meaning rs word) (and_left (p r.1) (list_all (λ r. p r.1) rs) t) (all_meanings p rs word x (and_right (p r.1) (list_all (λ r. p r.1) rs) t)) e
 
-space_found : (s : Space) → meaning spaces (space_name s) ≡ Some s
+pub space_found : (s : Space) → meaning spaces (space_name s) ≡ Some s
 space_found Srgb = refl
 space_found SrgbLinear = refl
 space_found DisplayP3 = refl
@@ -102,11 +102,11 @@ space_found Lch = refl
 space_found Oklab = refl
 space_found Oklch = refl
 
-size_found : (u : SizeUnit) → meaning size_units (size_unit_name u) ≡ Some u
+pub size_found : (u : SizeUnit) → meaning size_units (size_unit_name u) ≡ Some u
 size_found Px = refl
 size_found Rem = refl
 
-time_found : (u : TimeUnit) → meaning time_units (time_unit_name u) ≡ Some u
+pub time_found : (u : TimeUnit) → meaning time_units (time_unit_name u) ≡ Some u
 time_found Ms = refl
 time_found S = refl
 

@@ -68,6 +68,16 @@ items_of_length n v = do
   vs ← items_in v
   if length vs == n then Ok vs else broken ValueShape
 
+-- a list of one or more items; an empty one is the list's own break
+abbrev pub one_or_more : List Value → Checked (List Value)
+one_or_more [] = broken ValueShape
+one_or_more (v ∷ vs) = Ok (v ∷ vs)
+
+unfoldable pub some_items_in : Value → Checked (List Value)
+some_items_in v = do
+  vs ← items_in v
+  one_or_more vs
+
 -- the value of the first member of this name
 abbrev pub named : List ℕ → List Entry → Option Value
 named name [] = None
@@ -100,3 +110,15 @@ each check i (v ∷ vs) = do
   x ← under (decimal i) (check v)
   xs ← each check (i + 1) vs
   Ok (x ∷ xs)
+
+-- each item of a list
+unfoldable pub list_in : {A : Type 0} → (Value → Checked A) → Value → Checked (List A)
+list_in check v = do
+  vs ← items_in v
+  each check 0 vs
+
+-- each item of a list of one or more
+unfoldable pub some_in : {A : Type 0} → (Value → Checked A) → Value → Checked (List A)
+some_in check v = do
+  vs ← some_items_in v
+  each check 0 vs

@@ -1,5 +1,6 @@
 -- Laws over the definitions alone.
-use Rattle.std.specs.Prelude.{◌≡◌, ◌↔◌, ℕ, true, List, Some, Ok, Contains}
+use Rattle.std.specs.Prelude.{◌≡◌, ◌↔◌, ℕ, ◌<◌, ◌≤◌, ◌^◌, true, List, length, slice_get, Some, Ok, Contains}
+use Rattle.std.specs.Fmt.{decimal}
 use Rattle.dec_fix.specs.Decimal.{Decimal, IsExact}
 use Rattle.dec_fix.specs.Arithmetic.{IsPart}
 use Rattle.json_span.specs.PlainView.{Value}
@@ -16,7 +17,7 @@ use Rattle.type_rules.specs.Forms.{number_in}
 use Rattle.type_rules.specs.Ranges.{holds, share}
 use Rattle.type_rules.specs.Words.{meaning, size_units, size_unit_name, time_units, time_unit_name, spaces, space_name, weights}
 use Rattle.type_rules.specs.Value.{color_in, size_in, time_in, curve_in, families_in, weight_in, simple_value}
-use Rattle.type_rules.specs.Trails.{BreaksLead}
+use Rattle.type_rules.specs.Trails.{BreaksLead, Leads, plain_at, item_at}
 use Rattle.type_rules.specs.Sound.{kind_of, IsColor, IsSize, IsTime, IsCurve, IsFamilies, IsWeight, IsSimple}
 
 -- a value has the kind under which it is read, and keeps what values of the kind keep
@@ -25,6 +26,10 @@ KindsStay = (kind : Kind) (v : Value) (s : Simple) → simple_value kind v ≡ O
 
 abbrev pub ValuesKeep : Type 0
 ValuesKeep = (kind : Kind) (v : Value) (s : Simple) → simple_value kind v ≡ Ok s → IsSimple s
+
+-- each of those is the value of some plain value
+abbrev pub ValuesAreWritten : Type 0
+ValuesAreWritten = (s : Simple) → IsSimple s → (v : Value) × (simple_value (kind_of s) v ≡ Ok s)
 
 -- what a value breaks, it breaks at a part to which the steps lead
 abbrev pub ValuesBreakInside : Type 0
@@ -54,6 +59,14 @@ NumbersKeep = (v : Value) (d : Decimal) → number_in v ≡ Ok d → IsExact d
 
 abbrev pub PartsBreakInside : Type 0
 PartsBreakInside = BreaksLead color_in × BreaksLead size_in × BreaksLead time_in × BreaksLead curve_in × BreaksLead families_in × BreaksLead weight_in × BreaksLead number_in
+
+-- steps that lead to a part lead there
+abbrev pub StepsLead : Type 0
+StepsLead = (steps : List (List ℕ)) (v w : Value) → plain_at v steps ≡ Some w → Leads steps v w
+
+-- the item whose index is written is the item at this index
+abbrev pub ItemsStand : Type 0 → Type 0
+ItemsStand A = (xs : List A) (i : ℕ) → length xs ≤ 2 ^ 64 → i < length xs → item_at (decimal i) 0 xs ≡ slice_get xs i
 
 -- what lies in the range from 0 to 1 is a part of 1
 abbrev pub SharesAreParts : Type 0

@@ -10,6 +10,7 @@ use Rattle.dec_fix.specs.Decimal.{Decimal}
 use Rattle.dec_fix.specs.Arithmetic.{whole}
 use Rattle.name_path.specs.declared.kind.Kind.{Kind}
 use Rattle.name_path.specs.declared.kind.Kind.TheVariants as kind
+use Rattle.type_rules.specs.declared.fault.ValueRule.{ValueRule}
 use Rattle.type_rules.specs.declared.fault.ValueRule.TheVariants.{ValueShape, DimensionUnit, DurationUnit, BezierRange, WeightRange, WeightWord, ColorSpace, ColorRange, ColorAlpha, ColorHex}
 use Rattle.type_rules.specs.declared.range.Range.{Range}
 use Rattle.type_rules.specs.declared.range.Range.TheVariants.{Within}
@@ -23,24 +24,28 @@ use Rattle.type_rules.specs.declared.curve.Curve.{Curve}
 use Rattle.type_rules.specs.declared.simple.Simple.{Simple}
 use Rattle.type_rules.specs.declared.simple.Simple.TheVariants as simple
 use Rattle.type_rules.specs.Checked.{Checked, broken, or_broken, under, ◌>>=◌}
-use Rattle.type_rules.specs.Forms.{string_in, number_in, text_in, items_in, members_in, if_text, items_of_length, member, member_or, item, each}
+use Rattle.type_rules.specs.Forms.{string_in, number_in, text_in, members_in, if_text, items_of_length, member, member_or, item, some_in}
 use Rattle.type_rules.specs.Ranges.{ranged, ranges_of, share}
 use Rattle.type_rules.specs.Words.{word_in, meaning, size_units, time_units, weights, spaces}
+
+-- a number and a unit out of a table of units
+unfoldable pub measure_in : {U : Type 0} → ValueRule → List (List ℕ × U) → Value → Checked (Decimal × U)
+measure_in rule units v = do
+  es ← members_in v
+  value ← member number_in (codes "value") es
+  unit ← member (word_in rule units) (codes "unit") es
+  Ok (value, unit)
 
 -- a length
 unfoldable pub size_in : Value → Checked Size
 size_in v = do
-  es ← members_in v
-  value ← member number_in (codes "value") es
-  unit ← member (word_in DimensionUnit size_units) (codes "unit") es
-  Ok (record { value = value; unit = unit })
+  m ← measure_in DimensionUnit size_units v
+  Ok (record { value = m.0; unit = m.1 })
 
 unfoldable pub time_in : Value → Checked Time
 time_in v = do
-  es ← members_in v
-  value ← member number_in (codes "value") es
-  unit ← member (word_in DurationUnit time_units) (codes "unit") es
-  Ok (record { value = value; unit = unit })
+  m ← measure_in DurationUnit time_units v
+  Ok (record { value = m.0; unit = m.1 })
 
 -- four numbers; after their forms, the first and the third lie within 0 to 1
 unfoldable pub four_numbers : Value → Checked Curve
@@ -64,17 +69,8 @@ curve_in v = do
   ranged_curve c
 
 -- one text, or a list of one or more
-abbrev pub some_texts : List Value → Checked (List (List ℕ))
-some_texts [] = broken ValueShape
-some_texts (v ∷ vs) = each text_in 0 (v ∷ vs)
-
-unfoldable pub listed_families : Value → Checked (List (List ℕ))
-listed_families v = do
-  vs ← items_in v
-  some_texts vs
-
 unfoldable pub families_in : Value → Checked (List (List ℕ))
-families_in v = if_text (string_in v) (λ family. Ok (family ∷ [])) (listed_families v)
+families_in v = if_text (string_in v) (λ family. Ok (family ∷ [])) (some_in text_in v)
 
 -- a word, which stands for its number, or a number from 1 to 1000
 unfoldable pub weight_of_word : List ℕ → Checked Decimal

@@ -12,6 +12,7 @@ ghost use Rattle.type_rules.specs.Value.{components_in, alpha_in, hex_digits, he
 use crate::components::{Components, components_of};
 use crate::fault::{ValueFault, ValueRule, or_broken, under};
 use crate::forms::{check_number, members_of, named, required, text_of};
+use crate::parts::Part;
 use crate::range::{Range, ranged};
 use crate::space::{SPACES, Space};
 use crate::words::word_under;
@@ -117,23 +118,26 @@ fn hex_under<'s>(
     }
 }
 
-/// The colour that the value is: an object of a word `colorSpace`, a list `components`, and optionally a number `alpha`
-/// and a text `hex`, checked in this order. An absent `alpha` is 1.
-pub fn check_color<'s>(alloc: Global, plain: &Plain<'s>) -> Result<Color, ValueFault<'s>>
-    ensures ok { IfOk result (λ color. color_in (plain_view plain.now) ≡ Ok color) }
-    ensures broken { IfErr result (IsBreak (color_in (plain_view plain.now))) }
-{
-    let members = members_of(alloc, plain)?;
-    let space = word_under(alloc, ValueRule::ColorSpace, &SPACES, members, "colorSpace")?;
-    let components = components_under(alloc, space, members)?;
-    let alpha = alpha_under(alloc, members)?;
-    let hex = hex_under(alloc, members)?;
-    Ok(Color {
-        space,
-        first: components.first,
-        second: components.second,
-        third: components.third,
-        alpha,
-        hex,
-    })
+/// An object of a word `colorSpace`, a list `components`, and optionally a number `alpha` and a text `hex`, checked in
+/// this order. An absent `alpha` is 1.
+impl<'s> Part<'s> for Color {
+    type Typed = Color;
+
+    ghost part_in = { color_in };
+
+    fn check(alloc: Global, plain: &Plain<'s>) -> Result<Color, ValueFault<'s>> {
+        let members = members_of(alloc, plain)?;
+        let space = word_under(alloc, ValueRule::ColorSpace, &SPACES, members, "colorSpace")?;
+        let components = components_under(alloc, space, members)?;
+        let alpha = alpha_under(alloc, members)?;
+        let hex = hex_under(alloc, members)?;
+        Ok(Color {
+            space,
+            first: components.first,
+            second: components.second,
+            third: components.third,
+            alpha,
+            hex,
+        })
+    }
 }

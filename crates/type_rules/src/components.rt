@@ -9,11 +9,12 @@ ghost use Rattle.type_rules.specs.Forms.{item};
 ghost use Rattle.type_rules.specs.Value.{component_of_word, component_of_number, component_in, three_components, ranged_component, ranged_components, components_in};
 
 use crate::fault::{ValueFault, ValueRule, at_item, broken};
-use crate::forms::{as_text, check_number, item, items_of_length};
+use crate::forms::{as_text, check_number, items_of_length};
+use crate::parts::{Part, part_at};
 use crate::range::{Range, ranged};
 use crate::space::{Ranges, Space};
 use dec_fix::Dec;
-use json_span::{Plain, PlainItems};
+use json_span::Plain;
 use std::alloc::Global;
 
 /// The components, of which each may be none.
@@ -42,27 +43,21 @@ fn component_of_number<'s>(alloc: Global, plain: &Plain<'s>) -> Result<Option<De
     Ok(Some(number))
 }
 
-// A number, or none by the word `none`.
-fn component_of<'s>(alloc: Global, plain: &Plain<'s>) -> Result<Option<Dec>, ValueFault<'s>>
-    ensures ok { IfOk result (λ x. component_in (plain_view plain.now) ≡ Ok x) }
-    ensures broken { IfErr result (IsBreak (component_in (plain_view plain.now))) }
-{
-    match as_text(plain) {
-        Some(word) => component_of_word(alloc, word.as_str()),
-        None => component_of_number(alloc, plain),
-    }
-}
+/// A component of a colour.
+pub(crate) struct Component;
 
-fn component_at<'s>(
-    alloc: Global,
-    items: &PlainItems<'s>,
-    i: usize,
-) -> Result<Option<Dec>, ValueFault<'s>>
-    ensures ok { IfOk result (λ x. item component_in i (plain_items_view items.now) ≡ Ok x) }
-    ensures broken { IfErr result (IsBreak (item component_in i (plain_items_view items.now))) }
-{
-    let plain = item(alloc, items, i)?;
-    at_item(alloc, i, component_of(alloc, plain))
+/// A number, or none by the word `none`.
+impl<'s> Part<'s> for Component {
+    type Typed = Option<Dec>;
+
+    ghost part_in = { component_in };
+
+    fn check(alloc: Global, plain: &Plain<'s>) -> Result<Option<Dec>, ValueFault<'s>> {
+        match as_text(plain) {
+            Some(word) => component_of_word(alloc, word.as_str()),
+            None => component_of_number(alloc, plain),
+        }
+    }
 }
 
 fn three_components<'s>(alloc: Global, plain: &Plain<'s>) -> Result<Components, ValueFault<'s>>
@@ -70,9 +65,9 @@ fn three_components<'s>(alloc: Global, plain: &Plain<'s>) -> Result<Components, 
     ensures broken { IfErr result (IsBreak (three_components (plain_view plain.now))) }
 {
     let items = items_of_length(alloc, 3, plain)?;
-    let first = component_at(alloc, items, 0)?;
-    let second = component_at(alloc, items, 1)?;
-    let third = component_at(alloc, items, 2)?;
+    let first = part_at::<Component>(alloc, items, 0)?;
+    let second = part_at::<Component>(alloc, items, 1)?;
+    let third = part_at::<Component>(alloc, items, 2)?;
     Ok(Components {
         first,
         second,

@@ -10,10 +10,11 @@ ghost use Rattle.type_rules.specs.Ranges.{ranged, share};
 ghost use Rattle.type_rules.specs.Value.{four_numbers, ranged_curve, curve_in};
 
 use crate::fault::{ValueFault, ValueRule, at_item};
-use crate::forms::{check_number, item, items_of_length};
+use crate::forms::items_of_length;
+use crate::parts::{Part, part_at};
 use crate::range::{Range, ranged};
 use dec_fix::Dec;
-use json_span::{Plain, PlainItems};
+use json_span::Plain;
 use std::alloc::Global;
 
 /// A cubic Bézier curve from (0, 0) to (1, 1) by its two control points. `x1` and `x2` are within 0 to 1.
@@ -25,23 +26,15 @@ pub struct Curve {
     pub y2: Dec,
 }
 
-fn number_at<'s>(alloc: Global, items: &PlainItems<'s>, i: usize) -> Result<Dec, ValueFault<'s>>
-    ensures ok { IfOk result (λ x. item number_in i (plain_items_view items.now) ≡ Ok x) }
-    ensures broken { IfErr result (IsBreak (item number_in i (plain_items_view items.now))) }
-{
-    let plain = item(alloc, items, i)?;
-    at_item(alloc, i, check_number(alloc, plain))
-}
-
 fn four_numbers<'s>(alloc: Global, plain: &Plain<'s>) -> Result<Curve, ValueFault<'s>>
     ensures ok { IfOk result (λ curve. four_numbers (plain_view plain.now) ≡ Ok curve) }
     ensures broken { IfErr result (IsBreak (four_numbers (plain_view plain.now))) }
 {
     let items = items_of_length(alloc, 4, plain)?;
-    let x1 = number_at(alloc, items, 0)?;
-    let y1 = number_at(alloc, items, 1)?;
-    let x2 = number_at(alloc, items, 2)?;
-    let y2 = number_at(alloc, items, 3)?;
+    let x1 = part_at::<Dec>(alloc, items, 0)?;
+    let y1 = part_at::<Dec>(alloc, items, 1)?;
+    let x2 = part_at::<Dec>(alloc, items, 2)?;
+    let y2 = part_at::<Dec>(alloc, items, 3)?;
     Ok(Curve { x1, y1, x2, y2 })
 }
 
@@ -71,12 +64,14 @@ fn ranged_curve<'s>(alloc: Global, curve: Curve) -> Result<Curve, ValueFault<'s>
     })
 }
 
-/// The curve that the value is: a list of exactly four numbers, of which, after the forms of all four, the first and the
-/// third lie within 0 to 1.
-pub fn check_curve<'s>(alloc: Global, plain: &Plain<'s>) -> Result<Curve, ValueFault<'s>>
-    ensures ok { IfOk result (λ curve. curve_in (plain_view plain.now) ≡ Ok curve) }
-    ensures broken { IfErr result (IsBreak (curve_in (plain_view plain.now))) }
-{
-    let curve = four_numbers(alloc, plain)?;
-    ranged_curve(alloc, curve)
+/// A list of exactly four numbers, of which, after the forms of all four, the first and the third lie within 0 to 1.
+impl<'s> Part<'s> for Curve {
+    type Typed = Curve;
+
+    ghost part_in = { curve_in };
+
+    fn check(alloc: Global, plain: &Plain<'s>) -> Result<Curve, ValueFault<'s>> {
+        let curve = four_numbers(alloc, plain)?;
+        ranged_curve(alloc, curve)
+    }
 }

@@ -95,7 +95,7 @@ pub fn broken<'s>(alloc: Global, rule: ValueRule) -> ValueFault<'s>
 }
 
 /// What is there, or the value breaks the rule.
-pub(crate) fn or_broken<'s, T>(
+pub fn or_broken<'s, T>(
     alloc: Global,
     rule: ValueRule,
     found: Option<T>,

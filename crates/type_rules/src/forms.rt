@@ -4,7 +4,7 @@ ghost use Rattle.std.specs.Prelude.{◌≡◌, Ok, IfOk, IfErr, option_map, slic
 ghost use Rattle.json_span.specs.PlainView.{plain_view, plain_items_view, plain_fields_view};
 ghost use Rattle.type_rules.specs.Answer.{IsBreak};
 ghost use Rattle.type_rules.specs.Checked.{or_broken};
-ghost use Rattle.type_rules.specs.Forms.{spelling_in, string_in, array_in, object_in, number_in, text_in, items_in, members_in, items_of_length, named};
+ghost use Rattle.type_rules.specs.Forms.{spelling_in, string_in, array_in, object_in, number_in, text_in, items_in, members_in, items_of_length, some_items_in, named};
 
 use crate::fault::{ValueFault, ValueRule, broken};
 use dec_fix::{Dec, NotDec};
@@ -32,7 +32,8 @@ pub fn as_text<'a, 's>(plain: &'a Plain<'s>) -> Option<&'a Text<'s>>
     }
 }
 
-fn as_array<'a, 's>(plain: &'a Plain<'s>) -> Option<&'a PlainItems<'s>>
+/// The items, where the value is a list.
+pub fn as_array<'a, 's>(plain: &'a Plain<'s>) -> Option<&'a PlainItems<'s>>
     ensures { option_map (λ i. plain_items_view i.now) result ≡ array_in (plain_view plain.entry.now) }
 {
     match plain {
@@ -110,7 +111,7 @@ pub fn members_of<'a, 's>(
 
 /// The items of a list of this length. Another value breaks the rule on shapes.
 #[tactic(auto, unfolding(crate::specs::Forms::items_of_length))]
-pub(crate) fn items_of_length<'a, 's>(
+pub fn items_of_length<'a, 's>(
     alloc: Global,
     len: usize,
     plain: &'a Plain<'s>,
@@ -120,6 +121,22 @@ pub(crate) fn items_of_length<'a, 's>(
 {
     let items = items_of(alloc, plain)?;
     if items.len() != len {
+        return Err(broken(alloc, ValueRule::ValueShape));
+    }
+    Ok(items)
+}
+
+/// The items of a list of one or more. Another value breaks the rule on shapes.
+#[tactic(auto, unfolding(crate::specs::Forms::some_items_in))]
+pub fn some_items_of<'a, 's>(
+    alloc: Global,
+    plain: &'a Plain<'s>,
+) -> Result<&'a PlainItems<'s>, ValueFault<'s>>
+    ensures ok { IfOk result (λ items. some_items_in (plain_view plain.entry.now) ≡ Ok (plain_items_view items.now)) }
+    ensures broken { IfErr result (IsBreak (some_items_in (plain_view plain.entry.now))) }
+{
+    let items = items_of(alloc, plain)?;
+    if items.len() == 0 {
         return Err(broken(alloc, ValueRule::ValueShape));
     }
     Ok(items)
@@ -156,7 +173,7 @@ pub fn required<'a, 's>(
 }
 
 /// The i-th item. A list without one breaks the rule on shapes.
-pub(crate) fn item<'a, 's>(
+pub fn item<'a, 's>(
     alloc: Global,
     items: &'a PlainItems<'s>,
     i: usize,

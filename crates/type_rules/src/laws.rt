@@ -1,12 +1,13 @@
 //! Laws over the definitions alone, for the layers above.
 
-ghost use Rattle.type_rules.specs.Laws.{KindsStay, ValuesKeep, ValuesBreakInside, PartsBreakInside, ColorsKeep, SizesKeep, TimesKeep, CurvesKeep, FamiliesKeep, WeightsKeep, NumbersKeep, SharesAreParts, SpacesNamed, SizeUnitsNamed, TimeUnitsNamed, WeightsNamed};
+ghost use Rattle.type_rules.specs.Laws.{KindsStay, ValuesKeep, ValuesAreWritten, ValuesBreakInside, PartsBreakInside, ColorsKeep, SizesKeep, TimesKeep, CurvesKeep, FamiliesKeep, WeightsKeep, NumbersKeep, SharesAreParts, StepsLead, ItemsStand, SpacesNamed, SizeUnitsNamed, TimeUnitsNamed, WeightsNamed};
 
 /// A value has the kind under which it is read, and lies in the ranges of the kind; its numbers are such as are read.
-/// Where a rule is broken, the steps lead from the value to a part of it.
+/// Each such value is the value of some plain value. Where a rule is broken, the steps lead from the value to a part of it.
 pub fn value_laws()
     ensures kinds { KindsStay }
     ensures keeps { ValuesKeep }
+    ensures written { ValuesAreWritten }
     ensures breaks { ValuesBreakInside }
 {}
 
@@ -21,6 +22,12 @@ pub fn part_laws()
     ensures numbers { NumbersKeep }
     ensures shares { SharesAreParts }
     ensures breaks { PartsBreakInside }
+{}
+
+/// Steps that lead to a part of a value, and the item to which the digits of an index lead.
+pub fn step_laws<Item>()
+    ensures steps { StepsLead }
+    ensures items { ItemsStand Item }
 {}
 
 /// What the words mean.

@@ -12,6 +12,7 @@ mod families;
 mod fault;
 mod forms;
 mod laws;
+mod measure;
 mod parts;
 mod range;
 mod simple;
@@ -23,18 +24,20 @@ mod time;
 mod weight;
 mod words;
 
-pub use color::{Color, check_color};
-pub use curve::{Curve, check_curve};
-pub use families::{Families, check_families};
-pub use fault::{ValueFault, ValueRule, at_item, broken, under};
-pub use forms::{as_text, check_number, items_of, members_of, named, required, text_of};
-pub use laws::{part_laws, value_laws, word_laws};
-pub use parts::{
-    color_under, curve_under, families_under, number_under, size_under, time_under, weight_under,
+pub use color::Color;
+pub use curve::Curve;
+pub use families::Families;
+pub use fault::{ValueFault, ValueRule, at_item, broken, or_broken, under};
+pub use forms::{
+    as_array, as_text, check_number, item, items_of, items_of_length, members_of, named, required,
+    some_items_of, text_of,
 };
+pub use laws::{part_laws, step_laws, value_laws, word_laws};
+pub use parts::{Part, each_part, list_of, one, part_at, part_under, some_of};
+pub use range::{Range, ranged};
 pub use simple::{Simple, check_simple};
-pub use size::{Size, SizeUnit, check_size};
+pub use size::{Size, SizeUnit};
 pub use space::Space;
-pub use time::{Time, TimeUnit, check_time};
-pub use weight::check_weight;
-pub use words::{word_of, word_under};
+pub use time::{Time, TimeUnit};
+pub use weight::Weight;
+pub use words::{meaning, word_of, word_under};

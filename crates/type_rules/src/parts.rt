@@ -1,111 +1,126 @@
-//! Parts of values under their names. A missing part breaks the rule on shapes at its object; what a part breaks has the
-//! name as its first step.
+//! Parts of values: under the names of members, and at the places of items. A missing part breaks the rule on shapes at
+//! its object or list; what a part breaks has the name or the index as its first step.
 
-ghost use Rattle.std.specs.Prelude.{◌≡◌, Ok, IfOk, IfErr};
-ghost use Rattle.json_span.specs.PlainView.{plain_fields_view};
+ghost use Rattle.std.specs.Prelude.{◌≡◌, ℕ, [], ◌∷◌, Ok, IfOk, IfErr};
+ghost use Rattle.json_span.specs.PlainView.{Value, plain_view, plain_items_view, plain_fields_view};
 ghost use Rattle.type_rules.specs.Answer.{IsBreak};
-ghost use Rattle.type_rules.specs.Forms.{member, number_in};
-ghost use Rattle.type_rules.specs.Value.{color_in, size_in, time_in, curve_in, families_in, weight_in};
+ghost use Rattle.type_rules.specs.Checked.{Checked};
+ghost use Rattle.type_rules.specs.Forms.{number_in, text_in, member, item, each, list_in, some_in};
 
-use crate::color::{Color, check_color};
-use crate::curve::{Curve, check_curve};
-use crate::families::{Families, check_families};
-use crate::fault::{ValueFault, under};
-use crate::forms::{check_number, required};
-use crate::size::{Size, check_size};
-use crate::time::{Time, check_time};
-use crate::weight::check_weight;
+use crate::fault::{ValueFault, at_item, under};
+use crate::forms::{check_number, item, items_of, required, some_items_of, text_of};
 use dec_fix::Dec;
-use json_span::PlainFields;
+use json_span::{Plain, PlainFields, PlainItems};
 use std::alloc::Global;
+use tk_io::{NoMemory, Sequence, Text};
 
-/// The number under a name.
-pub fn number_under<'s>(
-    alloc: Global,
-    members: &PlainFields<'s>,
-    name: &'s str,
-) -> Result<Dec, ValueFault<'s>>
-    ensures ok { IfOk result (λ x. member number_in name.entry.now (plain_fields_view members.now) ≡ Ok x) }
-    ensures broken { IfErr result (IsBreak (member number_in name.entry.now (plain_fields_view members.now))) }
-{
-    let plain = required(alloc, members, name)?;
-    under(alloc, name, check_number(alloc, plain))
+/// What a value or a part of one may be: a number, a colour, a length, ..
+pub trait Part<'s> {
+    /// What the part is, once it is checked.
+    type Typed: Drop;
+
+    ghost part_in: { Value → Checked Self.Typed };
+
+    /// What the value is, or the first rule that it breaks.
+    fn check(alloc: Global, plain: &Plain<'s>) -> Result<Self::Typed, ValueFault<'s>>
+        ensures ok { IfOk result (λ part. part_in (plain_view plain.now) ≡ Ok part) }
+        ensures broken { IfErr result (IsBreak (part_in (plain_view plain.now))) };
 }
 
-/// The colour under a name.
-pub fn color_under<'s>(
+/// The part under a name.
+pub fn part_under<'s, P: Part<'s>>(
     alloc: Global,
     members: &PlainFields<'s>,
     name: &'s str,
-) -> Result<Color, ValueFault<'s>>
-    ensures ok { IfOk result (λ x. member color_in name.entry.now (plain_fields_view members.now) ≡ Ok x) }
-    ensures broken { IfErr result (IsBreak (member color_in name.entry.now (plain_fields_view members.now))) }
+) -> Result<P::Typed, ValueFault<'s>>
+    ensures ok { IfOk result (λ part. member P.part_in name.entry.now (plain_fields_view members.now) ≡ Ok part) }
+    ensures broken { IfErr result (IsBreak (member P.part_in name.entry.now (plain_fields_view members.now))) }
 {
     let plain = required(alloc, members, name)?;
-    under(alloc, name, check_color(alloc, plain))
+    under(alloc, name, P::check(alloc, plain))
 }
 
-/// The length under a name.
-pub fn size_under<'s>(
+/// The i-th item of a list as a part.
+pub fn part_at<'s, P: Part<'s>>(
     alloc: Global,
-    members: &PlainFields<'s>,
-    name: &'s str,
-) -> Result<Size, ValueFault<'s>>
-    ensures ok { IfOk result (λ x. member size_in name.entry.now (plain_fields_view members.now) ≡ Ok x) }
-    ensures broken { IfErr result (IsBreak (member size_in name.entry.now (plain_fields_view members.now))) }
+    items: &PlainItems<'s>,
+    i: usize,
+) -> Result<P::Typed, ValueFault<'s>>
+    ensures ok { IfOk result (λ part. item P.part_in i (plain_items_view items.now) ≡ Ok part) }
+    ensures broken { IfErr result (IsBreak (item P.part_in i (plain_items_view items.now))) }
 {
-    let plain = required(alloc, members, name)?;
-    under(alloc, name, check_size(alloc, plain))
+    let plain = item(alloc, items, i)?;
+    at_item(alloc, i, P::check(alloc, plain))
 }
 
-/// The duration under a name.
-pub fn time_under<'s>(
+/// Each item of a list as a part, the first to the last.
+pub fn each_part<'s, P: Part<'s>>(
     alloc: Global,
-    members: &PlainFields<'s>,
-    name: &'s str,
-) -> Result<Time, ValueFault<'s>>
-    ensures ok { IfOk result (λ x. member time_in name.entry.now (plain_fields_view members.now) ≡ Ok x) }
-    ensures broken { IfErr result (IsBreak (member time_in name.entry.now (plain_fields_view members.now))) }
+    items: &PlainItems<'s>,
+) -> Result<Sequence<P::Typed>, ValueFault<'s>>
+    ensures ok { IfOk result (λ parts. each P.part_in 0 (plain_items_view items.now) ≡ Ok parts) }
+    ensures broken { IfErr result (IsBreak (each P.part_in 0 (plain_items_view items.now))) }
 {
-    let plain = required(alloc, members, name)?;
-    under(alloc, name, check_time(alloc, plain))
+    let mut parts = Sequence::new(alloc);
+    for i in 0..items.len() {
+        let part = part_at::<P>(alloc, items, i)?;
+        parts.push(part)?;
+    }
+    Ok(parts)
 }
 
-/// The curve under a name.
-pub fn curve_under<'s>(
+/// The items of the list that the value is, each as a part.
+pub fn list_of<'s, P: Part<'s>>(
     alloc: Global,
-    members: &PlainFields<'s>,
-    name: &'s str,
-) -> Result<Curve, ValueFault<'s>>
-    ensures ok { IfOk result (λ x. member curve_in name.entry.now (plain_fields_view members.now) ≡ Ok x) }
-    ensures broken { IfErr result (IsBreak (member curve_in name.entry.now (plain_fields_view members.now))) }
+    plain: &Plain<'s>,
+) -> Result<Sequence<P::Typed>, ValueFault<'s>>
+    ensures ok { IfOk result (λ parts. list_in P.part_in (plain_view plain.now) ≡ Ok parts) }
+    ensures broken { IfErr result (IsBreak (list_in P.part_in (plain_view plain.now))) }
 {
-    let plain = required(alloc, members, name)?;
-    under(alloc, name, check_curve(alloc, plain))
+    let items = items_of(alloc, plain)?;
+    each_part::<P>(alloc, items)
 }
 
-/// The font families under a name.
-pub fn families_under<'s>(
+/// The items of the list of one or more that the value is, each as a part. A list of none breaks the rule on shapes.
+pub fn some_of<'s, P: Part<'s>>(
     alloc: Global,
-    members: &PlainFields<'s>,
-    name: &'s str,
-) -> Result<Families<'s>, ValueFault<'s>>
-    ensures ok { IfOk result (λ x. member families_in name.entry.now (plain_fields_view members.now) ≡ Ok x) }
-    ensures broken { IfErr result (IsBreak (member families_in name.entry.now (plain_fields_view members.now))) }
+    plain: &Plain<'s>,
+) -> Result<Sequence<P::Typed>, ValueFault<'s>>
+    ensures ok { IfOk result (λ parts. some_in P.part_in (plain_view plain.now) ≡ Ok parts) }
+    ensures broken { IfErr result (IsBreak (some_in P.part_in (plain_view plain.now))) }
 {
-    let plain = required(alloc, members, name)?;
-    under(alloc, name, check_families(alloc, plain))
+    let items = some_items_of(alloc, plain)?;
+    each_part::<P>(alloc, items)
 }
 
-/// The font weight under a name.
-pub fn weight_under<'s>(
-    alloc: Global,
-    members: &PlainFields<'s>,
-    name: &'s str,
-) -> Result<Dec, ValueFault<'s>>
-    ensures ok { IfOk result (λ x. member weight_in name.entry.now (plain_fields_view members.now) ≡ Ok x) }
-    ensures broken { IfErr result (IsBreak (member weight_in name.entry.now (plain_fields_view members.now))) }
+/// A list of one item.
+pub fn one<T: Drop>(alloc: Global, item: T) -> Result<Sequence<T>, NoMemory>
+    ensures { IfOk result (λ items. items ≡ item ∷ []) }
 {
-    let plain = required(alloc, members, name)?;
-    under(alloc, name, check_weight(alloc, plain))
+    let mut items = Sequence::new(alloc);
+    items.push(item)?;
+    Ok(items)
+}
+
+/// A number that is within the bounds of those that are read.
+impl<'s> Part<'s> for Dec {
+    type Typed = Dec;
+
+    ghost part_in = { number_in };
+
+    fn check(alloc: Global, plain: &Plain<'s>) -> Result<Dec, ValueFault<'s>> {
+        check_number(alloc, plain)
+    }
+}
+
+/// A text.
+impl<'s> Part<'s> for Text<'s> {
+    type Typed = Text<'s>;
+
+    ghost part_in = { text_in };
+
+    fn check(alloc: Global, plain: &Plain<'s>) -> Result<Text<'s>, ValueFault<'s>> {
+        let text = text_of(alloc, plain)?;
+        Ok(text.copy()?)
+    }
 }

@@ -9,8 +9,8 @@ use dec_fix::Dec;
 use std::alloc::Global;
 
 /// A range of numbers, both ends included.
-#[derive(Clone, Copy, Debug)]
-pub(crate) enum Range {
+#[derive(Clone, Copy, Debug, PartialEq, Eq)]
+pub enum Range {
     Free,
     AtLeast(u16),
     Within(u16, u16),
@@ -18,11 +18,11 @@ pub(crate) enum Range {
 
 impl Range {
     /// From 0 to 1.
-    pub(crate) const SHARE: Range = Range::Within(0, 1);
+    pub const SHARE: Range = Range::Within(0, 1);
     /// From 0 to 100.
-    pub(crate) const PERCENT: Range = Range::Within(0, 100);
+    pub const PERCENT: Range = Range::Within(0, 100);
     /// An angle in degrees.
-    pub(crate) const HUE: Range = Range::Within(0, 360);
+    pub const HUE: Range = Range::Within(0, 360);
 
     fn holds(self, number: &Dec) -> bool
         ensures { result ≡ holds self number.now }
@@ -39,7 +39,7 @@ impl Range {
 
 /// The number, where it lies in the range; else the rule is broken.
 #[tactic(auto, unfolding(crate::specs::Ranges::ranged))]
-pub(crate) fn ranged<'s>(
+pub fn ranged<'s>(
     alloc: Global,
     rule: ValueRule,
     range: Range,

@@ -7,14 +7,15 @@ ghost use Rattle.type_rules.specs.Answer.{IsBreak};
 ghost use Rattle.type_rules.specs.Sound.{kind_of};
 ghost use Rattle.type_rules.specs.Value.{simple_value};
 
-use crate::color::{Color, check_color};
-use crate::curve::{Curve, check_curve};
-use crate::families::{Families, check_families};
+use crate::color::Color;
+use crate::curve::Curve;
+use crate::families::Families;
 use crate::fault::ValueFault;
 use crate::forms::check_number;
-use crate::size::{Size, check_size};
-use crate::time::{Time, check_time};
-use crate::weight::check_weight;
+use crate::parts::Part;
+use crate::size::Size;
+use crate::time::Time;
+use crate::weight::Weight;
 use dec_fix::Dec;
 use json_span::Plain;
 use name_path::Kind;
@@ -65,12 +66,12 @@ pub fn check_simple<'s>(
     ensures broken { IfErr result (IsBreak (simple_value kind (plain_view plain.now))) }
 {
     match kind {
-        Kind::Color => Ok(Simple::Color(check_color(alloc, plain)?)),
-        Kind::Dimension => Ok(Simple::Dimension(check_size(alloc, plain)?)),
-        Kind::FontFamily => Ok(Simple::FontFamily(check_families(alloc, plain)?)),
-        Kind::FontWeight => Ok(Simple::FontWeight(check_weight(alloc, plain)?)),
-        Kind::Duration => Ok(Simple::Duration(check_time(alloc, plain)?)),
-        Kind::CubicBezier => Ok(Simple::CubicBezier(check_curve(alloc, plain)?)),
+        Kind::Color => Ok(Simple::Color(Color::check(alloc, plain)?)),
+        Kind::Dimension => Ok(Simple::Dimension(Size::check(alloc, plain)?)),
+        Kind::FontFamily => Ok(Simple::FontFamily(Families::check(alloc, plain)?)),
+        Kind::FontWeight => Ok(Simple::FontWeight(Weight::check(alloc, plain)?)),
+        Kind::Duration => Ok(Simple::Duration(Time::check(alloc, plain)?)),
+        Kind::CubicBezier => Ok(Simple::CubicBezier(Curve::check(alloc, plain)?)),
         Kind::Number => Ok(Simple::Number(check_number(alloc, plain)?)),
         Kind::StrokeStyle
         | Kind::Border

@@ -1,15 +1,12 @@
 //! Lengths.
 
-ghost use Rattle.std.specs.Prelude.{◌≡◌, Ok, IfOk, IfErr};
-ghost use Rattle.json_span.specs.PlainView.{plain_view};
-ghost use Rattle.type_rules.specs.Answer.{IsBreak};
+ghost use Rattle.std.specs.Prelude.{◌≡◌};
 ghost use Rattle.type_rules.specs.Value.{size_in};
 ghost use Rattle.type_rules.specs.Words.{size_unit_name};
 
 use crate::fault::{ValueFault, ValueRule};
-use crate::forms::members_of;
-use crate::parts::number_under;
-use crate::words::word_under;
+use crate::measure::measure_of;
+use crate::parts::Part;
 use dec_fix::Dec;
 use json_span::Plain;
 use std::alloc::Global;
@@ -42,13 +39,14 @@ impl SizeUnit {
     }
 }
 
-/// The length that the value is: an object of a number `value` and a word `unit`, `px` or `rem`, checked in this order.
-pub fn check_size<'s>(alloc: Global, plain: &Plain<'s>) -> Result<Size, ValueFault<'s>>
-    ensures ok { IfOk result (λ size. size_in (plain_view plain.now) ≡ Ok size) }
-    ensures broken { IfErr result (IsBreak (size_in (plain_view plain.now))) }
-{
-    let members = members_of(alloc, plain)?;
-    let value = number_under(alloc, members, "value")?;
-    let unit = word_under(alloc, ValueRule::DimensionUnit, &UNITS, members, "unit")?;
-    Ok(Size { value, unit })
+/// An object of a number `value` and a word `unit`, `px` or `rem`, checked in this order.
+impl<'s> Part<'s> for Size {
+    type Typed = Size;
+
+    ghost part_in = { size_in };
+
+    fn check(alloc: Global, plain: &Plain<'s>) -> Result<Size, ValueFault<'s>> {
+        let (value, unit) = measure_of(alloc, ValueRule::DimensionUnit, &UNITS, plain)?;
+        Ok(Size { value, unit })
+    }
 }

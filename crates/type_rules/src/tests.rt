@@ -1,267 +1,145 @@
-//! Values under their kinds against the answers of an independent reader, parts under names, and each call once.
-
-ghost use Rattle.std.specs.Prelude.{◌≡◌, ◌<◌};
-
-mod table;
+//! Each call once, on values made by hand. The layer that checks values of every kind has the table of whole values.
 
 use crate::*;
 use dec_fix::Dec;
-use json_span::{Fields, Items, Json, Plain, PlainField, PlainFields, PlainItems, read};
+use json_span::{Plain, PlainField, PlainFields, PlainItems};
 use name_path::Kind;
 use std::alloc::Global;
-use std::marker::Brand;
-use std::process::Abort;
-use std::str;
-use std::sync::ledger::{Blank, Ledger};
 use std::test::Fail;
-use tk_io::{Bytes, NoMemory, Steps, Text};
+use tk_io::{NoMemory, Text};
 
-// A value that holds no others; a list or an object is taken as an empty one.
-fn leaf<'s>(alloc: Global, json: &Json<'s>) -> Result<Plain<'s>, NoMemory> {
-    match json {
-        Json::Null => Ok(Plain::Null),
-        Json::Bool(truth) => Ok(Plain::Bool(*truth)),
-        Json::Num(spelling) => Ok(Plain::Num(spelling)),
-        Json::Str(text) => Ok(Plain::Str(text.copy()?)),
-        Json::Arr(_) => Ok(Plain::Arr(PlainItems::new(alloc))),
-        Json::Obj(_) => Ok(Plain::Obj(PlainFields::new(alloc))),
+/// A number, a text, or a list of numbers.
+#[derive(Clone, Copy)]
+enum Leaf<'s> {
+    Number(&'s str),
+    Word(&'s str),
+    Numbers(&'s [&'s str]),
+}
+
+fn numbers<'s>(alloc: Global, spellings: &[&'s str]) -> Result<PlainItems<'s>, NoMemory> {
+    let mut items = PlainItems::new(alloc);
+    for spelling in spellings {
+        items.push(Plain::Num(spelling))?;
+    }
+    Ok(items)
+}
+
+fn plain<'s>(alloc: Global, leaf: Leaf<'s>) -> Result<Plain<'s>, NoMemory> {
+    match leaf {
+        Leaf::Number(spelling) => Ok(Plain::Num(spelling)),
+        Leaf::Word(text) => Ok(Plain::Str(Text::of(text))),
+        Leaf::Numbers(spellings) => Ok(Plain::Arr(numbers(alloc, spellings)?)),
     }
 }
 
-fn list<'s>(alloc: Global, items: &Items<'s>) -> Result<Plain<'s>, NoMemory> {
-    let mut list = PlainItems::new(alloc);
-    for i in 0..items.len() {
-        if let Some(node) = items.at(i) {
-            list.push(leaf(alloc, &node.value)?)?;
-        }
-    }
-    Ok(Plain::Arr(list))
-}
-
-fn inner<'s>(alloc: Global, json: &Json<'s>) -> Result<Plain<'s>, NoMemory> {
-    match json.as_array() {
-        Some(items) => list(alloc, items),
-        None => leaf(alloc, json),
-    }
-}
-
-fn object<'s>(alloc: Global, fields: &Fields<'s>) -> Result<Plain<'s>, NoMemory> {
+fn object<'s>(alloc: Global, rows: &[(&'s str, Leaf<'s>)]) -> Result<PlainFields<'s>, NoMemory> {
     let mut members = PlainFields::new(alloc);
-    for i in 0..fields.len() {
-        if let Some(field) = fields.at(i) {
-            let name = field.name.copy()?;
-            let value = inner(alloc, &field.node.value)?;
-            members.push(PlainField { name, value })?;
-        }
-    }
-    Ok(Plain::Obj(members))
-}
-
-fn outer<'s>(alloc: Global, json: &Json<'s>) -> Result<Plain<'s>, NoMemory> {
-    match json.as_object() {
-        Some(fields) => object(alloc, fields),
-        None => inner(alloc, json),
-    }
-}
-
-fn plain_by<'s, L: Ledger>(
-    alloc: Global,
-    text: &'s [u8],
-    page: Blank,
-) -> Result<Plain<'s>, NoMemory>
-    requires page { (page.name ≡ L.name) × (page.parts ≡ L.parts) × (0 < L.parts) }
-{
-    let mut parses: Steps<L> = Steps::new(page);
-    let Ok(text) = str::from_utf8(text) else {
-        return Err(NoMemory);
-    };
-    match read(alloc, text, &mut parses) {
-        Ok(root) => outer(alloc, &root.value),
-        Err(_) => Err(NoMemory),
-    }
-}
-
-/// The value that a text says, where no list or object in it lies deeper than a list under a name.
-fn plain<'s>(alloc: Global, text: &'s str) -> Result<Plain<'s>, NoMemory> {
-    plain_by::<Brand>(alloc, text.as_bytes(), Blank::new(1))
-}
-
-fn put_number(out: &mut Bytes, number: &Dec) -> Result<(), NoMemory> {
-    number.write(out)?;
-    out.append(b" ")
-}
-
-fn put_component(out: &mut Bytes, component: &Option<Dec>) -> Result<(), NoMemory> {
-    match component {
-        Some(number) => put_number(out, number),
-        None => out.append(b"none "),
-    }
-}
-
-fn put_color(out: &mut Bytes, color: &Color) -> Result<(), NoMemory> {
-    out.append(color.space.name().as_bytes())?;
-    out.append(b" ")?;
-    put_component(out, &color.first)?;
-    put_component(out, &color.second)?;
-    put_component(out, &color.third)?;
-    put_number(out, &color.alpha)?;
-    match &color.hex {
-        Some(digits) => out.append(digits),
-        None => out.append(b"-"),
-    }
-}
-
-fn put_texts(out: &mut Bytes, texts: &[Text<'_>]) -> Result<(), NoMemory> {
-    for (i, text) in texts.iter().enumerate() {
-        if i > 0 {
-            out.append(b" ")?;
-        }
-        out.append(text.as_str().as_bytes())?;
-    }
-    Ok(())
-}
-
-fn put_curve(out: &mut Bytes, curve: &Curve) -> Result<(), NoMemory> {
-    put_number(out, &curve.x1)?;
-    put_number(out, &curve.y1)?;
-    put_number(out, &curve.x2)?;
-    curve.y2.write(out)
-}
-
-fn put_simple(out: &mut Bytes, simple: &Simple<'_>) -> Result<(), NoMemory> {
-    match simple {
-        Simple::Color(color) => put_color(out, color),
-        Simple::Dimension(size) => {
-            put_number(out, &size.value)?;
-            out.append(size.unit.name().as_bytes())
-        }
-        Simple::FontFamily(families) => put_texts(out, families.as_slice()),
-        Simple::FontWeight(number) => number.write(out),
-        Simple::Duration(time) => {
-            put_number(out, &time.value)?;
-            out.append(time.unit.name().as_bytes())
-        }
-        Simple::CubicBezier(curve) => put_curve(out, curve),
-        Simple::Number(number) => number.write(out),
-    }
-}
-
-/// The typed value, or the rule and the trail of the first break.
-fn answer(alloc: Global, kind: Kind, text: &str) -> Result<Bytes, NoMemory> {
-    let mut out = Bytes::new(alloc);
-    let value = plain(alloc, text)?;
-    if !kind.is_simple() {
-        return Ok(out);
-    }
-    match check_simple(alloc, kind, &value) {
-        Ok(simple) => put_simple(&mut out, &simple)?,
-        Err(ValueFault::Broken { rule, trail }) => {
-            out.append(b"! ")?;
-            out.append(rule.name().as_bytes())?;
-            if trail.len() > 0 {
-                out.append(b" ")?;
-            }
-            put_texts(&mut out, trail.as_slice())?;
-        }
-        Err(ValueFault::NoMemory) => return Err(NoMemory),
-    }
-    Ok(out)
-}
-
-/// Compares each line of a table: a text, and the answer under the kind.
-fn lines_hold(rt: &(impl AllocGlobal + Abort), kind: Kind, lines: &str) -> Result<u32, Fail> {
-    let mut count = 0u32;
-    for line in lines.lines() {
-        let Some((text, wanted)) = line.split_once('|') else {
-            continue;
-        };
-        assert_eq!(rt;
-            answer(rt.alloc(), kind, text)?.as_slice(),
-            wanted.as_bytes(),
-            "{line}"
-        );
-        count = count.saturating_add(1);
-    }
-    Ok(count)
-}
-
-#[test]
-fn table_holds(rt: HostRuntime) -> Result<(), Fail> {
-    let mut count = 0u32;
-    for (kind, lines) in [
-        (Kind::Dimension, table::DIMENSIONS),
-        (Kind::Duration, table::DURATIONS),
-        (Kind::Number, table::NUMBERS),
-        (Kind::CubicBezier, table::CURVES),
-        (Kind::FontFamily, table::FAMILIES),
-        (Kind::FontWeight, table::WEIGHTS),
-        (Kind::Color, table::COLORS),
-    ] {
-        count = count.saturating_add(lines_hold(&rt, kind, lines)?);
-    }
-    assert_eq!(rt; count, 161);
-    Ok(())
-}
-
-fn members<'s>(alloc: Global, rows: &[(&'s str, &'s str)]) -> Result<PlainFields<'s>, NoMemory> {
-    let mut members = PlainFields::new(alloc);
-    for (name, text) in rows {
-        let value = plain(alloc, text)?;
+    for row in rows {
         members.push(PlainField {
-            name: Text::of(name),
-            value,
+            name: Text::of(row.0),
+            value: plain(alloc, row.1)?,
         })?;
     }
     Ok(members)
 }
 
-/// A part of each kind, of which the number stands twice.
-const PARTS: [(&str, &str); 8] = [
-    ("n", "2"),
-    ("n", "null"),
-    ("s", "{\"value\":2,\"unit\":\"rem\"}"),
-    ("t", "{\"value\":2,\"unit\":\"s\"}"),
-    ("b", "[0,2,1,2]"),
-    ("f", "\"Inter\""),
-    ("w", "\"bold\""),
-    (
-        "c",
-        "{\"colorSpace\":\"hsl\",\"components\":[0,\"none\",2]}",
-    ),
+const SIZE: [(&str, Leaf<'static>); 3] = [
+    ("value", Leaf::Number("2")),
+    ("unit", Leaf::Word("rem")),
+    ("value", Leaf::Number("3")),
+];
+
+const TIME: [(&str, Leaf<'static>); 2] = [("value", Leaf::Number("2")), ("unit", Leaf::Word("s"))];
+
+const COLOR: [(&str, Leaf<'static>); 3] = [
+    ("colorSpace", Leaf::Word("hsl")),
+    ("components", Leaf::Numbers(&["0", "1", "2"])),
+    ("hex", Leaf::Word("#00AAff")),
 ];
 
 #[test]
-fn parts_under_names(rt: HostRuntime) -> Result<(), Fail> {
+fn simple_values(rt: HostRuntime) -> Result<(), Fail> {
     let alloc = rt.alloc();
-    let members = members(alloc, &PARTS)?;
+    let size = Plain::Obj(object(alloc, &SIZE)?);
+    let size = check_simple(alloc, Kind::Dimension, &size).ok();
+    assert!(rt;
+        matches!(&size, Some(Simple::Dimension(size)) if size.unit == SizeUnit::Rem && size.value == Dec::whole(2))
+    );
+    if let Some(size) = &size {
+        assert_eq!(rt; size.kind(), Kind::Dimension);
+    }
+    let time = Plain::Obj(object(alloc, &TIME)?);
+    let time = check_simple(alloc, Kind::Duration, &time).ok();
+    assert!(rt;
+        matches!(&time, Some(Simple::Duration(time)) if time.unit == TimeUnit::S && time.value == Dec::whole(2))
+    );
+    let color = Plain::Obj(object(alloc, &COLOR)?);
+    let color = check_simple(alloc, Kind::Color, &color).ok();
+    assert!(rt;
+        matches!(&color, Some(Simple::Color(color)) if color.space == Space::Hsl && color.hex == Some(*b"00aaff"))
+    );
+    let curve = Plain::Arr(numbers(alloc, &["0", "2", "1", "2"])?);
+    let curve = check_simple(alloc, Kind::CubicBezier, &curve).ok();
+    assert!(rt;
+        matches!(&curve, Some(Simple::CubicBezier(curve)) if curve.x2 == Dec::whole(1) && curve.y2 == Dec::whole(2))
+    );
+    let weight = check_simple(alloc, Kind::FontWeight, &Plain::Str(Text::of("bold"))).ok();
+    assert!(rt; matches!(&weight, Some(Simple::FontWeight(weight)) if *weight == Dec::whole(700)));
+    let family = check_simple(alloc, Kind::FontFamily, &Plain::Str(Text::of("Inter"))).ok();
+    assert!(rt; matches!(&family, Some(Simple::FontFamily(families)) if families.len() == 1));
+    let number = check_simple(alloc, Kind::Number, &Plain::Num("2")).ok();
+    assert!(rt; matches!(&number, Some(Simple::Number(number)) if *number == Dec::whole(2)));
+    Ok(())
+}
+
+#[test]
+fn parts_and_lists(rt: HostRuntime) -> Result<(), Fail> {
+    let alloc = rt.alloc();
+    let members = object(
+        alloc,
+        &[
+            ("n", Leaf::Number("2")),
+            ("w", Leaf::Word("bold")),
+            ("b", Leaf::Numbers(&["0", "2", "1", "2"])),
+        ],
+    )?;
     let two = Dec::whole(2);
-    assert_eq!(rt; number_under(alloc, &members, "n").ok(), Some(two));
-    let size = Size {
-        value: two,
-        unit: SizeUnit::Rem,
-    };
-    assert_eq!(rt; size_under(alloc, &members, "s").ok(), Some(size));
-    let time = Time {
-        value: two,
-        unit: TimeUnit::S,
-    };
-    assert_eq!(rt; time_under(alloc, &members, "t").ok(), Some(time));
+    assert_eq!(rt; part_under::<Dec>(alloc, &members, "n").ok(), Some(two));
     assert_eq!(rt;
-        weight_under(alloc, &members, "w").ok(),
+        part_under::<Weight>(alloc, &members, "w").ok(),
         Some(Dec::whole(700))
     );
-    let ends = curve_under(alloc, &members, "b")
-        .ok()
-        .map(|curve| (curve.y1, curve.y2));
-    assert_eq!(rt; ends, Some((two, two)));
-    let families = families_under(alloc, &members, "f")
-        .ok()
-        .map(|families| families.len());
-    assert_eq!(rt; families, Some(1));
-    let color = color_under(alloc, &members, "c")
-        .ok()
-        .map(|color| (color.space, color.third));
-    assert_eq!(rt; color, Some((Space::Hsl, Some(two))));
+    assert_eq!(rt;
+        part_under::<Text>(alloc, &members, "w")
+            .ok()
+            .map(|text| text.as_str().len()),
+        Some(4)
+    );
+    assert_eq!(rt;
+        part_under::<Curve>(alloc, &members, "b")
+            .ok()
+            .map(|curve| curve.y1),
+        Some(two)
+    );
+    let items = numbers(alloc, &["1", "2"])?;
+    assert_eq!(rt; part_at::<Dec>(alloc, &items, 1).ok(), Some(two));
+    assert_eq!(rt;
+        each_part::<Dec>(alloc, &items)
+            .ok()
+            .map(|parts| parts.len()),
+        Some(2)
+    );
+    let empty = Plain::Arr(PlainItems::new(alloc));
+    assert_eq!(rt;
+        list_of::<Dec>(alloc, &empty).ok().map(|parts| parts.len()),
+        Some(0)
+    );
+    assert!(rt; some_of::<Dec>(alloc, &empty).is_err());
+    let items = Plain::Arr(items);
+    assert_eq!(rt;
+        some_of::<Dec>(alloc, &items).ok().map(|parts| parts.len()),
+        Some(2)
+    );
     Ok(())
 }
 
@@ -282,21 +160,12 @@ fn is_broken(fault: Option<ValueFault<'_>>, wanted: ValueRule, steps: &[&str]) -
 #[test]
 fn trails_begin_at_the_value(rt: HostRuntime) -> Result<(), Fail> {
     let alloc = rt.alloc();
-    let members = members(
-        alloc,
-        &[("c", "{\"colorSpace\":\"lab\",\"components\":[0,true,0]}")],
-    )?;
-    let fault = color_under(alloc, &members, "c").err();
-    assert!(rt; is_broken(fault, ValueRule::ValueShape, &["c", "components", "1"]));
-    let missing = size_under(alloc, &members, "d").err();
+    let members = object(alloc, &[("b", Leaf::Numbers(&["0", "2", "1.5", "2"]))])?;
+    let fault = part_under::<Curve>(alloc, &members, "b").err();
+    assert!(rt; is_broken(fault, ValueRule::BezierRange, &["b", "2"]));
+    let missing = part_under::<Size>(alloc, &members, "d").err();
     assert!(rt; is_broken(missing, ValueRule::ValueShape, &[]));
-    let outer = at_item(alloc, 12, color_under(alloc, &members, "c")).err();
-    assert!(rt;
-        is_broken(
-            outer,
-            ValueRule::ValueShape,
-            &["12", "c", "components", "1"]
-        )
-    );
+    let outer = at_item(alloc, 12, part_under::<Curve>(alloc, &members, "b")).err();
+    assert!(rt; is_broken(outer, ValueRule::BezierRange, &["12", "b", "2"]));
     Ok(())
 }

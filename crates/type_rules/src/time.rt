@@ -1,15 +1,12 @@
 //! Times.
 
-ghost use Rattle.std.specs.Prelude.{◌≡◌, Ok, IfOk, IfErr};
-ghost use Rattle.json_span.specs.PlainView.{plain_view};
-ghost use Rattle.type_rules.specs.Answer.{IsBreak};
+ghost use Rattle.std.specs.Prelude.{◌≡◌};
 ghost use Rattle.type_rules.specs.Value.{time_in};
 ghost use Rattle.type_rules.specs.Words.{time_unit_name};
 
 use crate::fault::{ValueFault, ValueRule};
-use crate::forms::members_of;
-use crate::parts::number_under;
-use crate::words::word_under;
+use crate::measure::measure_of;
+use crate::parts::Part;
 use dec_fix::Dec;
 use json_span::Plain;
 use std::alloc::Global;
@@ -42,13 +39,14 @@ impl TimeUnit {
     }
 }
 
-/// The duration that the value is: an object of a number `value` and a word `unit`, `ms` or `s`, checked in this order.
-pub fn check_time<'s>(alloc: Global, plain: &Plain<'s>) -> Result<Time, ValueFault<'s>>
-    ensures ok { IfOk result (λ time. time_in (plain_view plain.now) ≡ Ok time) }
-    ensures broken { IfErr result (IsBreak (time_in (plain_view plain.now))) }
-{
-    let members = members_of(alloc, plain)?;
-    let value = number_under(alloc, members, "value")?;
-    let unit = word_under(alloc, ValueRule::DurationUnit, &UNITS, members, "unit")?;
-    Ok(Time { value, unit })
+/// An object of a number `value` and a word `unit`, `ms` or `s`, checked in this order.
+impl<'s> Part<'s> for Time {
+    type Typed = Time;
+
+    ghost part_in = { time_in };
+
+    fn check(alloc: Global, plain: &Plain<'s>) -> Result<Time, ValueFault<'s>> {
+        let (value, unit) = measure_of(alloc, ValueRule::DurationUnit, &UNITS, plain)?;
+        Ok(Time { value, unit })
+    }
 }

@@ -7,6 +7,7 @@ ghost use Rattle.type_rules.specs.Value.{weight_of_word, weight_of_number, weigh
 
 use crate::fault::{ValueFault, ValueRule, or_broken};
 use crate::forms::{as_text, check_number};
+use crate::parts::Part;
 use crate::range::{Range, ranged};
 use crate::words::meaning;
 use dec_fix::Dec;
@@ -56,13 +57,19 @@ fn weight_of_number<'s>(alloc: Global, plain: &Plain<'s>) -> Result<Dec, ValueFa
     )
 }
 
-/// The font weight that the value is: a number within 1 to 1000, or a word that stands for one.
-pub fn check_weight<'s>(alloc: Global, plain: &Plain<'s>) -> Result<Dec, ValueFault<'s>>
-    ensures ok { IfOk result (λ weight. weight_in (plain_view plain.now) ≡ Ok weight) }
-    ensures broken { IfErr result (IsBreak (weight_in (plain_view plain.now))) }
-{
-    match as_text(plain) {
-        Some(word) => weight_of_word(alloc, word.as_str()),
-        None => weight_of_number(alloc, plain),
+/// The weight of a font, which is a number.
+pub struct Weight;
+
+/// A number within 1 to 1000, or a word that stands for one.
+impl<'s> Part<'s> for Weight {
+    type Typed = Dec;
+
+    ghost part_in = { weight_in };
+
+    fn check(alloc: Global, plain: &Plain<'s>) -> Result<Dec, ValueFault<'s>> {
+        match as_text(plain) {
+            Some(word) => weight_of_word(alloc, word.as_str()),
+            None => weight_of_number(alloc, plain),
+        }
     }
 }

@@ -12,7 +12,7 @@ use json_span::{Plain, PlainFields};
 use std::alloc::Global;
 
 /// What the word stands for by the table, or none where the table does not have it.
-pub(crate) fn meaning<T: Copy>(table: &[(&str, T)], word: &str) -> Option<T>
+pub fn meaning<T: Copy>(table: &[(&str, T)], word: &str) -> Option<T>
     ensures { result ≡ meaning (rows_of table.now) word.now }
 {
     for row in table {

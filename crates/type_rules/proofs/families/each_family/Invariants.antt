@@ -1,9 +1,0 @@
--- What the items so far and those to come give, the whole list gives.
-use Rattle.std.proofs.Common.{◌≡◌, drop}
-use Rattle.json_span.specs.PlainView.{plain_items_view}
-use Rattle.type_rules.specs.Forms.{text_in, each}
-use Rattle.type_rules.proofs.Eaches.{behind}
-use Rattle.type_rules.proofs.families.each_family.Given as goal
-
-abbrev pub invariant-loop-i : goal.invariant-loop-i
-invariant-loop-i l = behind l.families (each text_in l.i (drop l.i (plain_items_view l.items))) ≡ each text_in 0 (plain_items_view l.items)

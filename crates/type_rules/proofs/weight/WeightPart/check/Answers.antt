@@ -1,0 +1,18 @@
+use Rattle.type_rules.specs.Value.{weight_in}
+use Rattle.type_rules.proofs.weight.WeightPart.check.Goals as goal
+
+pub returns-in-Some-clause-ok : goal.returns-in-Some-clause-ok
+unfolding weight_in
+returns-in-Some-clause-ok c = rw (← c.in-Some.ensures) (rw c.as_str.ensures at c.weight_of_word.ensures.ok)
+
+pub returns-in-Some-clause-broken : goal.returns-in-Some-clause-broken
+unfolding weight_in
+returns-in-Some-clause-broken c = rw (← c.in-Some.ensures) (rw c.as_str.ensures at c.weight_of_word.ensures.broken)
+
+pub returns-in-None-clause-ok : goal.returns-in-None-clause-ok
+unfolding weight_in
+returns-in-None-clause-ok c = rw (← c.in-None.ensures) c.weight_of_number.ensures.ok
+
+pub returns-in-None-clause-broken : goal.returns-in-None-clause-broken
+unfolding weight_in
+returns-in-None-clause-broken c = rw (← c.in-None.ensures) c.weight_of_number.ensures.broken
