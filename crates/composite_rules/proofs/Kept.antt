@@ -1,0 +1,221 @@
+-- What typed values keep.
+use Rattle.std.proofs.Common.{◌≡◌, ◌≢◌, ℕ, Bool, true, false, cond, List, [], ◌∷◌, codes, pos, Option, Some, None, Ok, refl, arith, inl}
+use Rattle.std.specs.Ordering.{is_gt, is_lt}
+use Rattle.std.specs.declared.cmp.Ordering.{Ordering}
+use Rattle.std.specs.declared.cmp.Ordering.TheVariants.{Less, Equal, Greater}
+use Rattle.json_span.specs.PlainView.{Value}
+use Rattle.dec_fix.specs.Decimal.{Decimal, IsExact}
+use Rattle.dec_fix.specs.Arithmetic.{IsPart, order_with, whole}
+use Rattle.name_path.specs.declared.kind.Kind.{Kind}
+use Rattle.name_path.specs.declared.kind.Kind.TheVariants as kind
+use Rattle.type_rules.specs.declared.fault.ValueRule.TheVariants.{StrokeWord, StrokeCap}
+use Rattle.type_rules.specs.Checked.{or_broken}
+use Rattle.type_rules.specs.Forms.{string_in, array_in, number_in, members_in, if_text, named, member, member_or, list_in, some_in}
+use Rattle.type_rules.specs.Words.{meaning, word_in}
+use Rattle.type_rules.specs.Value.{color_in, size_in, time_in, curve_in, families_in, weight_in, simple_value}
+use Rattle.type_rules.specs.Sound.{IsColor, IsSize, IsTime, IsCurve, IsFamilies, IsWeight}
+use Rattle.type_rules.proofs.Keeping.{made, found, member_keeps, list_keeps, some_keep, some_is_there}
+use Rattle.type_rules.proofs.Kept.{numbers_keep, colors_keep, sizes_keep, times_keep, curves_keep, families_keep, weights_keep, values_keep as simples_keep}
+use Rattle.composite_rules.specs.declared.stroke.Stroke.{Stroke}
+use Rattle.composite_rules.specs.declared.stroke.Stroke.TheVariants as stroke
+use Rattle.composite_rules.specs.declared.border.Border.{Border}
+use Rattle.composite_rules.specs.declared.transition.Transition.{Transition}
+use Rattle.composite_rules.specs.declared.shadow.ShadowItem.{ShadowItem}
+use Rattle.composite_rules.specs.declared.gradient.ColorStop.{ColorStop}
+use Rattle.composite_rules.specs.declared.typography.Typography.{Typography}
+use Rattle.composite_rules.specs.declared.typed.Typed.{Typed}
+use Rattle.composite_rules.specs.declared.typed.Typed.TheVariants as typed
+use Rattle.composite_rules.specs.Words.{stroke_words, caps}
+use Rattle.composite_rules.specs.Value.{stroke_of_word, dashes_in, stroke_in, border_in, transition_in, boolean_in, shadow_item_in, unless_zero, one_item, one_shadow, if_list, shadows_in, clamped, stop_in, gradient_in, typography_in, simple_in, value_of}
+use Rattle.composite_rules.specs.Sound.{kind_of, IsStroke, IsBorder, IsTransition, IsShadowItem, IsShadows, IsColorStop, IsStops, IsTypography, IsTyped}
+
+-- stroke styles
+
+dashes_keep : (v : Value) (s : Stroke) → dashes_in v ≡ Ok s → IsStroke s
+unfolding dashes_in
+dashes_keep v s e =
+    made (members_in v) _ s e (λ es h e1.
+    made (member (list_in size_in) (codes "dashArray") es) _ s e1 (λ lengths has e2.
+    made (member (word_in StrokeCap caps) (codes "lineCap") es) _ s e2 (λ cap is e3.
+    found IsStroke (stroke.Dashes lengths cap) s e3 (member_keeps (list_in size_in) (λ xs. IsStroke (stroke.Dashes xs cap)) (list_keeps size_in IsSize sizes_keep) (codes "dashArray") es lengths has))))
+
+strokes_by : (o : Option (List ℕ)) (v : Value) (s : Stroke) → if_text o stroke_of_word (dashes_in v) ≡ Ok s → IsStroke s
+unfolding stroke_of_word
+strokes_by (Some text) v s e = made (or_broken StrokeWord (meaning stroke_words text)) _ s e (λ word h e2. found IsStroke (stroke.Word word) s e2 tt)
+strokes_by None v s e = dashes_keep v s e
+
+pub strokes_keep : (v : Value) (s : Stroke) → stroke_in v ≡ Ok s → IsStroke s
+unfolding stroke_in
+strokes_keep v s e = strokes_by (string_in v) v s e
+
+-- borders and transitions
+
+pub borders_keep : (v : Value) (b : Border) → border_in v ≡ Ok b → IsBorder b
+unfolding border_in
+borders_keep v b e =
+    made (members_in v) _ b e (λ es h e1.
+    made (member color_in (codes "color") es) _ b e1 (λ color c e2.
+    made (member size_in (codes "width") es) _ b e2 (λ width w e3.
+    made (member stroke_in (codes "style") es) _ b e3 (λ style s e4.
+    found IsBorder (record { color = color; width = width; style = style }) b e4 (record {
+      color = member_keeps color_in IsColor colors_keep (codes "color") es color c;
+      width = member_keeps size_in IsSize sizes_keep (codes "width") es width w;
+      style = member_keeps stroke_in IsStroke strokes_keep (codes "style") es style s;
+    })))))
+
+pub transitions_keep : (v : Value) (t : Transition) → transition_in v ≡ Ok t → IsTransition t
+unfolding transition_in
+transitions_keep v t e =
+    made (members_in v) _ t e (λ es h e1.
+    made (member time_in (codes "duration") es) _ t e1 (λ duration d e2.
+    made (member time_in (codes "delay") es) _ t e2 (λ delay l e3.
+    made (member curve_in (codes "timingFunction") es) _ t e3 (λ timing f e4.
+    found IsTransition (record { duration = duration; delay = delay; timing = timing }) t e4 (record {
+      duration = member_keeps time_in IsTime times_keep (codes "duration") es duration d;
+      delay = member_keeps time_in IsTime times_keep (codes "delay") es delay l;
+      timing = member_keeps curve_in IsCurve curves_keep (codes "timingFunction") es timing f;
+    })))))
+
+-- shadows
+
+pub shadow_items_keep : (v : Value) (item : ShadowItem) → shadow_item_in v ≡ Ok item → IsShadowItem item
+unfolding shadow_item_in
+shadow_items_keep v item e =
+    made (members_in v) _ item e (λ es h e1.
+    made (member color_in (codes "color") es) _ item e1 (λ color c e2.
+    made (member size_in (codes "offsetX") es) _ item e2 (λ offset_x x e3.
+    made (member size_in (codes "offsetY") es) _ item e3 (λ offset_y y e4.
+    made (member size_in (codes "blur") es) _ item e4 (λ blur b e5.
+    made (member size_in (codes "spread") es) _ item e5 (λ spread s e6.
+    made (member_or boolean_in false (codes "inset") es) _ item e6 (λ inset i e7.
+    found IsShadowItem (record { color = color; offset_x = offset_x; offset_y = offset_y; blur = blur; spread = spread; inset = inset }) item e7 (record {
+      color = member_keeps color_in IsColor colors_keep (codes "color") es color c;
+      offset_x = member_keeps size_in IsSize sizes_keep (codes "offsetX") es offset_x x;
+      offset_y = member_keeps size_in IsSize sizes_keep (codes "offsetY") es offset_y y;
+      blur = member_keeps size_in IsSize sizes_keep (codes "blur") es blur b;
+      spread = member_keeps size_in IsSize sizes_keep (codes "spread") es spread s;
+    }))))))))
+
+one_keeps : (v : Value) (items : List ShadowItem) → one_item v ≡ Ok items → IsShadows items
+unfolding one_item
+one_keeps v items e =
+    made (shadow_item_in v) _ items e (λ item h e2.
+    found IsShadows (item ∷ []) items e2 (record { some = λ n. cc; every = (shadow_items_keep v item h, tt) }))
+
+unless_keeps : (o : Option Value) (v : Value) (items : List ShadowItem) → unless_zero o (one_item v) ≡ Ok items → IsShadows items
+unless_keeps (Some zero) v items e = absurd (let h : ⊥ = cc in h)
+unless_keeps None v items e = one_keeps v items e
+
+shadows_by : (o : Option (List Value)) (v : Value) (items : List ShadowItem) → if_list o (some_in shadow_item_in v) (one_shadow v) ≡ Ok items → IsShadows items
+unfolding one_shadow
+shadows_by (Some vs) v items e = record { some = some_is_there shadow_item_in v items e; every = some_keep shadow_item_in IsShadowItem shadow_items_keep v items e }
+shadows_by None v items e = made (members_in v) _ items e (λ es h e2. unless_keeps (named (codes "0") es) v items e2)
+
+pub shadows_keep : (v : Value) (items : List ShadowItem) → shadows_in v ≡ Ok items → IsShadows items
+unfolding shadows_in
+shadows_keep v items e = shadows_by (array_in v) v items e
+
+-- gradients
+
+not_less : (o : Ordering) → is_lt o ≡ false → o ≢ Less
+not_less Less t e = cc
+not_less Equal t e = cc
+not_less Greater t e = cc
+
+not_greater : (o : Ordering) → is_gt o ≡ false → o ≢ Greater
+not_greater Less t e = cc
+not_greater Equal t e = cc
+not_greater Greater t e = cc
+
+is_less : (o : Ordering) → o ≢ Less → is_lt o ≡ false
+is_less Less n = absurd (n refl)
+is_less Equal n = refl
+is_less Greater n = refl
+
+is_greater : (o : Ordering) → o ≢ Greater → is_gt o ≡ false
+is_greater Less n = refl
+is_greater Equal n = refl
+is_greater Greater n = absurd (n refl)
+
+record IsClamped (d n : Decimal) : Type 0 where
+  exact : IsExact d → IsExact n
+  part : IsPart n
+
+zero_exact : IsExact (whole (pos 0))
+zero_exact = record { size = omega arith; places = omega arith; short = inl refl }
+
+one_exact : IsExact (whole (pos 1))
+one_exact = record { size = omega arith; places = omega arith; short = inl refl }
+
+clamped_by : (d : Decimal) (b c : Bool) → is_lt (order_with d 0) ≡ b → is_gt (order_with d 1) ≡ c → IsClamped d (cond b (whole (pos 0)) (cond c (whole (pos 1)) d))
+clamped_by d true c e f = record { exact = λ h. zero_exact; part = record { low = λ n. cc; high = λ n. cc } }
+clamped_by d false true e f = record { exact = λ h. one_exact; part = record { low = λ n. cc; high = λ n. cc } }
+clamped_by d false false e f = record { exact = λ h. h; part = record { low = not_less (order_with d 0) e; high = not_greater (order_with d 1) f } }
+
+is_clamped : (d : Decimal) → IsClamped d (clamped d)
+is_clamped d = clamped_by d (is_lt (order_with d 0)) (is_gt (order_with d 1)) refl refl
+
+pub positions_clamp : (d : Decimal) → IsPart (clamped d)
+positions_clamp d = (is_clamped d).part
+
+pub shares_stay : (d : Decimal) → IsPart d → clamped d ≡ d
+shares_stay d h = rw (is_less (order_with d 0) h.low, is_greater (order_with d 1) h.high) refl
+
+pub stops_keep : (v : Value) (stop : ColorStop) → stop_in v ≡ Ok stop → IsColorStop stop
+unfolding stop_in
+stops_keep v stop e =
+    made (members_in v) _ stop e (λ es h e1.
+    made (member color_in (codes "color") es) _ stop e1 (λ color c e2.
+    made (member number_in (codes "position") es) _ stop e2 (λ position p e3.
+    found IsColorStop (record { color = color; position = clamped position }) stop e3 (record {
+      color = member_keeps color_in IsColor colors_keep (codes "color") es color c;
+      position = record { exact = (is_clamped position).exact (member_keeps number_in IsExact numbers_keep (codes "position") es position p); part = (is_clamped position).part };
+    }))))
+
+pub gradients_keep : (v : Value) (stops : List ColorStop) → gradient_in v ≡ Ok stops → IsStops stops
+unfolding gradient_in
+gradients_keep v stops e = record { some = some_is_there stop_in v stops e; every = some_keep stop_in IsColorStop stops_keep v stops e }
+
+-- typography
+
+pub typographies_keep : (v : Value) (t : Typography) → typography_in v ≡ Ok t → IsTypography t
+unfolding typography_in
+typographies_keep v t e =
+    made (members_in v) _ t e (λ es h e1.
+    made (member families_in (codes "fontFamily") es) _ t e1 (λ family f e2.
+    made (member size_in (codes "fontSize") es) _ t e2 (λ size s e3.
+    made (member weight_in (codes "fontWeight") es) _ t e3 (λ weight w e4.
+    made (member size_in (codes "letterSpacing") es) _ t e4 (λ spacing p e5.
+    made (member number_in (codes "lineHeight") es) _ t e5 (λ line_height l e6.
+    found IsTypography (record { family = family; size = size; weight = weight; spacing = spacing; line_height = line_height }) t e6 (record {
+      family = member_keeps families_in IsFamilies families_keep (codes "fontFamily") es family f;
+      size = member_keeps size_in IsSize sizes_keep (codes "fontSize") es size s;
+      weight = member_keeps weight_in IsWeight weights_keep (codes "fontWeight") es weight w;
+      spacing = member_keeps size_in IsSize sizes_keep (codes "letterSpacing") es spacing p;
+      line_height = member_keeps number_in IsExact numbers_keep (codes "lineHeight") es line_height l;
+    })))))))
+
+-- values
+
+abbrev pub Keeps : Kind → Typed → Type 0
+Keeps k t = (kind_of t ≡ k) × IsTyped t
+
+simples : (k : Kind) (v : Value) (t : Typed) → simple_in k v ≡ Ok t → Keeps k t
+unfolding simple_in
+simples k v t e = made (simple_value k v) _ t e (λ s h e2. found (Keeps k) (typed.Simple s) t e2 (simples_keep k v s h))
+
+pub values_keep : (k : Kind) (v : Value) (t : Typed) → value_of k v ≡ Ok t → Keeps k t
+unfolding value_of
+values_keep kind.Color v t e = simples kind.Color v t e
+values_keep kind.Dimension v t e = simples kind.Dimension v t e
+values_keep kind.FontFamily v t e = simples kind.FontFamily v t e
+values_keep kind.FontWeight v t e = simples kind.FontWeight v t e
+values_keep kind.Duration v t e = simples kind.Duration v t e
+values_keep kind.CubicBezier v t e = simples kind.CubicBezier v t e
+values_keep kind.Number v t e = simples kind.Number v t e
+values_keep kind.StrokeStyle v t e = made (stroke_in v) _ t e (λ x h e2. found (Keeps kind.StrokeStyle) (typed.StrokeStyle x) t e2 (refl, strokes_keep v x h))
+values_keep kind.Border v t e = made (border_in v) _ t e (λ x h e2. found (Keeps kind.Border) (typed.Border x) t e2 (refl, borders_keep v x h))
+values_keep kind.Transition v t e = made (transition_in v) _ t e (λ x h e2. found (Keeps kind.Transition) (typed.Transition x) t e2 (refl, transitions_keep v x h))
+values_keep kind.Shadow v t e = made (shadows_in v) _ t e (λ x h e2. found (Keeps kind.Shadow) (typed.Shadow x) t e2 (refl, shadows_keep v x h))
+values_keep kind.Gradient v t e = made (gradient_in v) _ t e (λ x h e2. found (Keeps kind.Gradient) (typed.Gradient x) t e2 (refl, gradients_keep v x h))
+values_keep kind.Typography v t e = made (typography_in v) _ t e (λ x h e2. found (Keeps kind.Typography) (typed.Typography x) t e2 (refl, typographies_keep v x h))

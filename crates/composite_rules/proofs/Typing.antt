@@ -1,0 +1,396 @@
+-- What stands at a part's steps, and the part.
+use Rattle.std.proofs.Common.{◌≡◌, ℕ, ◌+◌, Bool, true, false, cond, List, [], ◌∷◌, map, codes, Option, Some, None, Ok, refl, ap, sym, subst, ◌∙◌, arith}
+use Rattle.std.specs.Prelude.{option_and_then, option_map}
+use Rattle.std.specs.Fmt.{decimal}
+use Rattle.std.specs.List.{AllByRecursion}
+use Rattle.std.specs.Str.{bytes_eq}
+use Rattle.std.proofs.lemmas.Fmt.{decimal_digit}
+use Rattle.json_span.specs.Plain.{plain_null, plain_boolean, plain_number, plain_string, plain_array, plain_object, plains_in, plain_entries_in}
+use Rattle.json_span.specs.PlainView.{Value, Entry}
+use Rattle.dec_fix.specs.Decimal.{Decimal}
+use Rattle.name_path.specs.declared.kind.Kind.{Kind}
+use Rattle.name_path.specs.declared.kind.Kind.TheVariants as kind
+use Rattle.type_rules.specs.declared.fault.ValueRule.TheVariants.{ValueShape}
+use Rattle.type_rules.specs.declared.color.Color.{Color}
+use Rattle.type_rules.specs.declared.size.Size.{Size}
+use Rattle.type_rules.specs.declared.time.Time.{Time}
+use Rattle.type_rules.specs.declared.curve.Curve.{Curve}
+use Rattle.type_rules.specs.declared.simple.Simple.TheVariants as simple
+use Rattle.type_rules.specs.Checked.{Checked, or_broken, under, ◌>>=◌}
+use Rattle.type_rules.specs.Forms.{array_in, object_in, number_in, members_in, some_items_in, named, member, member_or, each, some_in}
+use Rattle.type_rules.specs.Words.{meaning}
+use Rattle.type_rules.specs.Value.{color_in, size_in, time_in, curve_in, families_in, weight_in, simple_value}
+use Rattle.type_rules.specs.Trails.{item_at, child, plain_at}
+use Rattle.type_rules.proofs.Keeping.{made, found, from_part}
+use Rattle.type_rules.proofs.Leading.{members_are, some_items_are}
+use Rattle.type_rules.proofs.Standing.{some_then, some_is}
+use Rattle.type_rules.proofs.WordFacts.{same_text}
+use Rattle.composite_rules.specs.declared.stroke.Stroke.{Stroke}
+use Rattle.composite_rules.specs.declared.border.Border.{Border}
+use Rattle.composite_rules.specs.declared.transition.Transition.{Transition}
+use Rattle.composite_rules.specs.declared.shadow.ShadowItem.{ShadowItem}
+use Rattle.composite_rules.specs.declared.gradient.ColorStop.{ColorStop}
+use Rattle.composite_rules.specs.declared.typography.Typography.{Typography}
+use Rattle.composite_rules.specs.declared.typed.Typed.{Typed}
+use Rattle.composite_rules.specs.declared.typed.Typed.TheVariants as typed
+use Rattle.composite_rules.specs.Value.{stroke_in, border_in, transition_in, boolean_in, shadow_item_in, unless_zero, one_item, one_shadow, if_list, shadows_in, clamped, stop_in, gradient_in, typography_in, simple_in, value_of}
+use Rattle.composite_rules.specs.Sound.{kind_of}
+use Rattle.composite_rules.specs.Parts.{Row, color_part, size_part, time_part, border_row, transition_row, shadow_row, stop_row, typography_row, only_row, member_row, item_rows, part_at}
+use Rattle.composite_rules.proofs.Kept.{values_keep}
+
+-- simple parts, and styles
+
+color_typed : (w : Value) (x : Color) → color_in w ≡ Ok x → value_of kind.Color w ≡ Ok (color_part x)
+unfolding value_of simple_in simple_value
+color_typed w x e = rw e refl
+
+size_typed : (w : Value) (x : Size) → size_in w ≡ Ok x → value_of kind.Dimension w ≡ Ok (size_part x)
+unfolding value_of simple_in simple_value
+size_typed w x e = rw e refl
+
+time_typed : (w : Value) (x : Time) → time_in w ≡ Ok x → value_of kind.Duration w ≡ Ok (time_part x)
+unfolding value_of simple_in simple_value
+time_typed w x e = rw e refl
+
+curve_typed : (w : Value) (x : Curve) → curve_in w ≡ Ok x → value_of kind.CubicBezier w ≡ Ok (typed.Simple (simple.CubicBezier x))
+unfolding value_of simple_in simple_value
+curve_typed w x e = rw e refl
+
+families_typed : (w : Value) (x : List (List ℕ)) → families_in w ≡ Ok x → value_of kind.FontFamily w ≡ Ok (typed.Simple (simple.FontFamily x))
+unfolding value_of simple_in simple_value
+families_typed w x e = rw e refl
+
+weight_typed : (w : Value) (x : Decimal) → weight_in w ≡ Ok x → value_of kind.FontWeight w ≡ Ok (typed.Simple (simple.FontWeight x))
+unfolding value_of simple_in simple_value
+weight_typed w x e = rw e refl
+
+number_typed : (w : Value) (x : Decimal) → number_in w ≡ Ok x → value_of kind.Number w ≡ Ok (typed.Simple (simple.Number x))
+unfolding value_of simple_in simple_value
+number_typed w x e = rw e refl
+
+stroke_typed : (w : Value) (x : Stroke) → stroke_in w ≡ Ok x → value_of kind.StrokeStyle w ≡ Ok (typed.StrokeStyle x)
+unfolding value_of
+stroke_typed w x e = rw e refl
+
+-- rows: what stands under the name of a part has the part as its value
+
+abbrev IsTypedIn : List Entry → List ℕ × Typed → Type 0
+IsTypedIn es r = (w : Value) → named r.0 es ≡ Some w → value_of (kind_of r.1) w ≡ Ok r.1
+
+record Rows (v : Value) (row : Row) : Type 0 where
+  es : List Entry
+  object : object_in v ≡ Some es
+  typed : AllByRecursion (IsTypedIn es) row
+
+row_by : (es : List Entry) (r : List ℕ × Typed) (row : Row) (name : List ℕ) (w : Value) (x : Typed) (b : Bool) → bytes_eq r.0 name ≡ b → IsTypedIn es r → (meaning row name ≡ Some x → value_of (kind_of x) w ≡ Ok x) → cond b (Some r.1) (meaning row name) ≡ Some x → named name es ≡ Some w → value_of (kind_of x) w ≡ Ok x
+row_by es r row name w x true t here later e n =
+    let P : Typed → Type 0 = λ z. value_of (kind_of z) w ≡ Ok z in
+    subst P (some_is r.1 x e) (here w (ap (λ m. named m es) (same_text r.0 name t) ∙ n))
+row_by es r row name w x false t here later e n = later e
+
+in_row : (es : List Entry) (row : Row) (name : List ℕ) (w : Value) (x : Typed) → AllByRecursion (IsTypedIn es) row → meaning row name ≡ Some x → named name es ≡ Some w → value_of (kind_of x) w ≡ Ok x
+in_row es [] name w x h e n = absurd (let k : ⊥ = cc in k)
+in_row es (r ∷ row) name w x (h, hs) e n = row_by es r row name w x (bytes_eq r.0 name) refl h (λ k. in_row es row name w x hs k n) e n
+
+member_is : {A : Type 0} (check : Value → Checked A) (name : List ℕ) (es : List Entry) (x : A) (t : Typed) → ((w : Value) → check w ≡ Ok x → value_of (kind_of t) w ≡ Ok t) → member check name es ≡ Ok x → IsTypedIn es (name, t)
+unfolding member
+member_is check name es x t to e w n =
+    let k : under name (check w) ≡ Ok x = (ap (λ o. or_broken ValueShape o >>= λ v. under name (check v)) (sym n)) ∙ e in
+    to w (from_part name (check w) x k)
+
+-- the child of an object, and of a list
+child_named : (v : Value) (es : List Entry) (name : List ℕ) → object_in v ≡ Some es → child name v ≡ named name es
+child_named plain_null es name o = absurd (let h : ⊥ = cc in h)
+child_named (plain_boolean b) es name o = absurd (let h : ⊥ = cc in h)
+child_named (plain_number k) es name o = absurd (let h : ⊥ = cc in h)
+child_named (plain_string s) es name o = absurd (let h : ⊥ = cc in h)
+child_named (plain_array vs) es name o = absurd (let h : ⊥ = cc in h)
+child_named (plain_object ms) es name o = ap (named name) (some_is (plain_entries_in ms) es o)
+
+child_item : (v : Value) (vs : List Value) (step : List ℕ) → array_in v ≡ Some vs → child step v ≡ item_at step 0 vs
+child_item plain_null vs step o = absurd (let h : ⊥ = cc in h)
+child_item (plain_boolean b) vs step o = absurd (let h : ⊥ = cc in h)
+child_item (plain_number k) vs step o = absurd (let h : ⊥ = cc in h)
+child_item (plain_string s) vs step o = absurd (let h : ⊥ = cc in h)
+child_item (plain_array ws) vs step o = ap (item_at step 0) (some_is (plains_in ws) vs o)
+child_item (plain_object ms) vs step o = absurd (let h : ⊥ = cc in h)
+
+last_step : (v w : Value) (name : List ℕ) → plain_at v (name ∷ []) ≡ Some w → child name v ≡ Some w
+last_step v w name e = some_then (λ u. Some u) (child name v) w e (λ u h k. h ∙ ap Some (some_is u w k))
+
+member_part : (v w : Value) (row : Row) (name : List ℕ) (x : Typed) → Rows v row → plain_at v (name ∷ []) ≡ Some w → meaning row name ≡ Some x → value_of (kind_of x) w ≡ Ok x
+member_part v w row name x r e m = in_row r.es row name w x r.typed m (sym (child_named v r.es name r.object) ∙ last_step v w name e)
+
+-- the rows of the kinds
+
+border_rows : (v : Value) (b : Border) → border_in v ≡ Ok b → Rows v (border_row b)
+unfolding border_in
+border_rows v b e =
+    made (members_in v) _ b e (λ es h e1.
+    made (member color_in (codes "color") es) _ b e1 (λ color c e2.
+    made (member size_in (codes "width") es) _ b e2 (λ width w e3.
+    made (member stroke_in (codes "style") es) _ b e3 (λ style s e4.
+    let P : Border → Type 0 = λ z. Rows v (border_row z) in
+    found P (record { color = color; width = width; style = style }) b e4 (record {
+      es = es;
+      object = members_are v es h;
+      typed = (
+        member_is color_in (codes "color") es color (color_part color) (λ u k. color_typed u color k) c,
+        (
+          member_is size_in (codes "width") es width (size_part width) (λ u k. size_typed u width k) w,
+          (member_is stroke_in (codes "style") es style (typed.StrokeStyle style) (λ u k. stroke_typed u style k) s, tt),
+        ),
+      );
+    })))))
+
+transition_rows : (v : Value) (t : Transition) → transition_in v ≡ Ok t → Rows v (transition_row t)
+unfolding transition_in
+transition_rows v t e =
+    made (members_in v) _ t e (λ es h e1.
+    made (member time_in (codes "duration") es) _ t e1 (λ duration d e2.
+    made (member time_in (codes "delay") es) _ t e2 (λ delay l e3.
+    made (member curve_in (codes "timingFunction") es) _ t e3 (λ timing f e4.
+    let P : Transition → Type 0 = λ z. Rows v (transition_row z) in
+    found P (record { duration = duration; delay = delay; timing = timing }) t e4 (record {
+      es = es;
+      object = members_are v es h;
+      typed = (
+        member_is time_in (codes "duration") es duration (time_part duration) (λ u k. time_typed u duration k) d,
+        (
+          member_is time_in (codes "delay") es delay (time_part delay) (λ u k. time_typed u delay k) l,
+          (member_is curve_in (codes "timingFunction") es timing (typed.Simple (simple.CubicBezier timing)) (λ u k. curve_typed u timing k) f, tt),
+        ),
+      );
+    })))))
+
+shadow_rows : (v : Value) (item : ShadowItem) → shadow_item_in v ≡ Ok item → Rows v (shadow_row item)
+unfolding shadow_item_in
+shadow_rows v item e =
+    made (members_in v) _ item e (λ es h e1.
+    made (member color_in (codes "color") es) _ item e1 (λ color c e2.
+    made (member size_in (codes "offsetX") es) _ item e2 (λ offset_x x e3.
+    made (member size_in (codes "offsetY") es) _ item e3 (λ offset_y y e4.
+    made (member size_in (codes "blur") es) _ item e4 (λ blur b e5.
+    made (member size_in (codes "spread") es) _ item e5 (λ spread s e6.
+    made (member_or boolean_in false (codes "inset") es) _ item e6 (λ inset i e7.
+    let P : ShadowItem → Type 0 = λ z. Rows v (shadow_row z) in
+    found P (record { color = color; offset_x = offset_x; offset_y = offset_y; blur = blur; spread = spread; inset = inset }) item e7 (record {
+      es = es;
+      object = members_are v es h;
+      typed = (
+        member_is color_in (codes "color") es color (color_part color) (λ u k. color_typed u color k) c,
+        (
+          member_is size_in (codes "offsetX") es offset_x (size_part offset_x) (λ u k. size_typed u offset_x k) x,
+          (
+            member_is size_in (codes "offsetY") es offset_y (size_part offset_y) (λ u k. size_typed u offset_y k) y,
+            (
+              member_is size_in (codes "blur") es blur (size_part blur) (λ u k. size_typed u blur k) b,
+              (member_is size_in (codes "spread") es spread (size_part spread) (λ u k. size_typed u spread k) s, tt),
+            ),
+          ),
+        ),
+      );
+    }))))))))
+
+stop_rows : (v : Value) (stop : ColorStop) → stop_in v ≡ Ok stop → Rows v (stop_row stop)
+unfolding stop_in
+stop_rows v stop e =
+    made (members_in v) _ stop e (λ es h e1.
+    made (member color_in (codes "color") es) _ stop e1 (λ color c e2.
+    made (member number_in (codes "position") es) _ stop e2 (λ position p e3.
+    let P : ColorStop → Type 0 = λ z. Rows v (stop_row z) in
+    found P (record { color = color; position = clamped position }) stop e3 (record {
+      es = es;
+      object = members_are v es h;
+      typed = (member_is color_in (codes "color") es color (color_part color) (λ u k. color_typed u color k) c, tt);
+    }))))
+
+typography_rows : (v : Value) (t : Typography) → typography_in v ≡ Ok t → Rows v (typography_row t)
+unfolding typography_in
+typography_rows v t e =
+    made (members_in v) _ t e (λ es h e1.
+    made (member families_in (codes "fontFamily") es) _ t e1 (λ family f e2.
+    made (member size_in (codes "fontSize") es) _ t e2 (λ size s e3.
+    made (member weight_in (codes "fontWeight") es) _ t e3 (λ weight w e4.
+    made (member size_in (codes "letterSpacing") es) _ t e4 (λ spacing p e5.
+    made (member number_in (codes "lineHeight") es) _ t e5 (λ line_height l e6.
+    let P : Typography → Type 0 = λ z. Rows v (typography_row z) in
+    found P (record { family = family; size = size; weight = weight; spacing = spacing; line_height = line_height }) t e6 (record {
+      es = es;
+      object = members_are v es h;
+      typed = (
+        member_is families_in (codes "fontFamily") es family (typed.Simple (simple.FontFamily family)) (λ u k. families_typed u family k) f,
+        (
+          member_is size_in (codes "fontSize") es size (size_part size) (λ u k. size_typed u size k) s,
+          (
+            member_is weight_in (codes "fontWeight") es weight (typed.Simple (simple.FontWeight weight)) (λ u k. weight_typed u weight k) w,
+            (
+              member_is size_in (codes "letterSpacing") es spacing (size_part spacing) (λ u k. size_typed u spacing k) p,
+              (member_is number_in (codes "lineHeight") es line_height (typed.Simple (simple.Number line_height)) (λ u k. number_typed u line_height k) l, tt),
+            ),
+          ),
+        ),
+      );
+    })))))))
+
+-- items of lists
+
+item_map_by : {A B : Type 0} (f : A → B) (step : List ℕ) (i : ℕ) (x : A) (xs : List A) (b : Bool) → item_at step (i + 1) (map f xs) ≡ option_map f (item_at step (i + 1) xs) → cond b (Some (f x)) (item_at step (i + 1) (map f xs)) ≡ option_map f (cond b (Some x) (item_at step (i + 1) xs))
+item_map_by f step i x xs true h = refl
+item_map_by f step i x xs false h = h
+
+item_map : {A B : Type 0} (f : A → B) (step : List ℕ) (i : ℕ) (xs : List A) → item_at step i (map f xs) ≡ option_map f (item_at step i xs)
+item_map f step i [] = refl
+item_map f step i (x ∷ xs) = item_map_by f step i x xs (bytes_eq (decimal i) step) (item_map f step (i + 1) xs)
+
+-- an item of the list, and what it was found to be
+record Pair {A : Type 0} (check : Value → Checked A) (step : List ℕ) (i : ℕ) (xs : List A) (w : Value) : Type 0 where
+  part : A
+  stands : item_at step i xs ≡ Some part
+  checks : check w ≡ Ok part
+
+pair_by : {A : Type 0} (check : Value → Checked A) (step : List ℕ) (i : ℕ) (v w : Value) (vs : List Value) (x : A) (ys : List A) (b : Bool) → bytes_eq (decimal i) step ≡ b → check v ≡ Ok x → (item_at step (i + 1) vs ≡ Some w → Pair check step (i + 1) ys w) → cond b (Some v) (item_at step (i + 1) vs) ≡ Some w → Pair check step i (x ∷ ys) w
+pair_by check step i v w vs x ys true t h later e = record { part = x; stands = ap (λ b. cond b (Some x) (item_at step (i + 1) ys)) t; checks = ap check (sym (some_is v w e)) ∙ h }
+pair_by check step i v w vs x ys false t h later e =
+    let p = later e in
+    record { part = p.part; stands = ap (λ b. cond b (Some x) (item_at step (i + 1) ys)) t ∙ p.stands; checks = p.checks }
+
+pair : {A : Type 0} (check : Value → Checked A) (step : List ℕ) (i : ℕ) (vs : List Value) (xs : List A) (w : Value) → each check i vs ≡ Ok xs → item_at step i vs ≡ Some w → Pair check step i xs w
+pair check step i [] xs w e n = absurd (let k : ⊥ = cc in k)
+pair check step i (v ∷ vs) xs w e n =
+    made (under (decimal i) (check v)) _ xs e (λ x h e2.
+    made (each check (i + 1) vs) _ xs e2 (λ ys k e3.
+    found (λ z. Pair check step i z w) (x ∷ ys) xs e3 (pair_by check step i v w vs x ys (bytes_eq (decimal i) step) refl (from_part (decimal i) (check v) x h) (λ m. pair check step (i + 1) vs ys w k m) n)))
+
+-- a list with its items
+record Items {A : Type 0} (check : Value → Checked A) (v : Value) (xs : List A) : Type 0 where
+  vs : List Value
+  array : array_in v ≡ Some vs
+  every : each check 0 vs ≡ Ok xs
+
+items_are : {A : Type 0} (check : Value → Checked A) (v : Value) (xs : List A) → some_in check v ≡ Ok xs → Items check v xs
+unfolding some_in
+items_are check v xs e = made (some_items_in v) _ xs e (λ vs h e2. record { vs = vs; array = some_items_are v vs h; every = e2 })
+
+item_part : {A : Type 0} (check : Value → Checked A) (f : A → Row) (rows : (v : Value) (x : A) → check v ≡ Ok x → Rows v (f x)) (v w : Value) (xs : List A) (index name : List ℕ) (x : Typed) → Items check v xs → plain_at v (index ∷ name ∷ []) ≡ Some w → option_and_then (λ row. meaning row name) (item_at index 0 (map f xs)) ≡ Some x → value_of (kind_of x) w ≡ Ok x
+item_part check f rows v w xs index name x l e m =
+    some_then (λ u. plain_at u (name ∷ [])) (child index v) w e (λ u h k.
+    let p = pair check index 0 l.vs xs u l.every (sym (child_item v l.vs index l.array) ∙ h) in
+    let r : item_at index 0 (map f xs) ≡ Some (f p.part) = item_map f index 0 xs ∙ ap (option_map f) p.stands in
+    member_part u w (f p.part) name x (rows u p.part p.checks) k (sym (ap (option_and_then (λ row. meaning row name)) r) ∙ m))
+
+-- values
+
+abbrev PartsOf : Value → Typed → Type 0
+PartsOf v t = (steps : List (List ℕ)) (w : Value) (part : Typed) → plain_at v steps ≡ Some w → part_at t steps ≡ Some part → value_of (kind_of part) w ≡ Ok part
+
+whole_part : (v w : Value) (t part : Typed) → value_of (kind_of t) v ≡ Ok t → plain_at v [] ≡ Some w → part_at t [] ≡ Some part → value_of (kind_of part) w ≡ Ok part
+whole_part v w t part h e p =
+    let P : Value → Typed → Type 0 = λ z x. value_of (kind_of x) z ≡ Ok x in
+    subst (λ z. P z part) (some_is v w e) (subst (λ x. P v x) (some_is t part p) h)
+
+no_parts : (v : Value) (t : Typed) → member_row t ≡ [] → item_rows t ≡ [] → value_of (kind_of t) v ≡ Ok t → PartsOf v t
+no_parts v t m i h [] w part e p = whole_part v w t part h e p
+no_parts v t m i h (name ∷ []) w part e p = let k : ◌≡◌ {A = Option Typed} None (Some part) = sym (ap (λ r. meaning r name) m) ∙ p in absurd (let z : ⊥ = cc in z)
+no_parts v t m i h (index ∷ name ∷ []) w part e p = let k : ◌≡◌ {A = Option Typed} None (Some part) = sym (ap (λ r. option_and_then (λ row. meaning row name) (item_at index 0 r)) i) ∙ p in absurd (let z : ⊥ = cc in z)
+no_parts v t m i h (a ∷ b ∷ c ∷ steps) w part e p = absurd (let z : ⊥ = cc in z)
+
+member_parts : (v : Value) (t : Typed) → Rows v (member_row t) → item_rows t ≡ [] → value_of (kind_of t) v ≡ Ok t → PartsOf v t
+member_parts v t r i h [] w part e p = whole_part v w t part h e p
+member_parts v t r i h (name ∷ []) w part e p = member_part v w (member_row t) name part r e p
+member_parts v t r i h (index ∷ name ∷ []) w part e p = let k : ◌≡◌ {A = Option Typed} None (Some part) = sym (ap (λ r. option_and_then (λ row. meaning row name) (item_at index 0 r)) i) ∙ p in absurd (let z : ⊥ = cc in z)
+member_parts v t r i h (a ∷ b ∷ c ∷ steps) w part e p = absurd (let z : ⊥ = cc in z)
+
+gradient_parts : (v : Value) (stops : List ColorStop) → gradient_in v ≡ Ok stops → value_of kind.Gradient v ≡ Ok (typed.Gradient stops) → PartsOf v (typed.Gradient stops)
+unfolding gradient_in
+gradient_parts v stops g h [] w part e p = whole_part v w (typed.Gradient stops) part h e p
+gradient_parts v stops g h (name ∷ []) w part e p = absurd (let z : ⊥ = cc in z)
+gradient_parts v stops g h (index ∷ name ∷ []) w part e p = item_part stop_in stop_row stop_rows v w stops index name part (items_are stop_in v stops g) e p
+gradient_parts v stops g h (a ∷ b ∷ c ∷ steps) w part e p = absurd (let z : ⊥ = cc in z)
+
+-- a list of one shadow has its item at `0`, which is no name of a part
+zero_if : {A : Type 0} (x y : A) (step : List ℕ) (b : Bool) → bytes_eq (decimal 0) step ≡ b → cond b (Some x) None ≡ Some y → codes "0" ≡ step
+zero_if x y step true t e = same_text (codes "0") step (ap (λ ds. bytes_eq ds step) (sym (decimal_digit 0 (omega arith))) ∙ t)
+zero_if x y step false t e = absurd (let h : ⊥ = cc in h)
+
+only_zero : {A : Type 0} (x y : A) (step : List ℕ) → item_at step 0 (x ∷ []) ≡ Some y → codes "0" ≡ step
+only_zero x y step e = zero_if x y step (bytes_eq (decimal 0) step) refl e
+
+zero_no_part : (item : ShadowItem) (x : Typed) → meaning (shadow_row item) (codes "0") ≡ Some x → ⊥
+zero_no_part item x e = cc
+
+listed_no_member : (v w : Value) (items : List ShadowItem) (name : List ℕ) (x : Typed) → Items shadow_item_in v items → plain_at v (name ∷ []) ≡ Some w → meaning (only_row items) name ≡ Some x → ⊥
+listed_no_member v w [] name x l e m = cc
+listed_no_member v w (item ∷ []) name x l e m =
+    let p = pair shadow_item_in name 0 l.vs (item ∷ []) w l.every (sym (child_item v l.vs name l.array) ∙ last_step v w name e) in
+    zero_no_part item x (ap (meaning (shadow_row item)) (only_zero item p.part name p.stands) ∙ m)
+listed_no_member v w (item ∷ next ∷ items) name x l e m = cc
+
+listed_parts : (v : Value) (items : List ShadowItem) → some_in shadow_item_in v ≡ Ok items → value_of kind.Shadow v ≡ Ok (typed.Shadow items) → PartsOf v (typed.Shadow items)
+listed_parts v items g h [] w part e p = whole_part v w (typed.Shadow items) part h e p
+listed_parts v items g h (name ∷ []) w part e p = absurd (listed_no_member v w items name part (items_are shadow_item_in v items g) e p)
+listed_parts v items g h (index ∷ name ∷ []) w part e p = item_part shadow_item_in shadow_row shadow_rows v w items index name part (items_are shadow_item_in v items g) e p
+listed_parts v items g h (a ∷ b ∷ c ∷ steps) w part e p = absurd (let z : ⊥ = cc in z)
+
+-- a shadow that is one object has no member `0`
+object_no_item : (v w : Value) (es : List Entry) (item : ShadowItem) (index name : List ℕ) (x : Typed) → object_in v ≡ Some es → named (codes "0") es ≡ None → plain_at v (index ∷ name ∷ []) ≡ Some w → option_and_then (λ row. meaning row name) (item_at index 0 (shadow_row item ∷ [])) ≡ Some x → ⊥
+object_no_item v w es item index name x o n e m =
+    some_then (λ u. plain_at u (name ∷ [])) (child index v) w e (λ u h k.
+    some_then (λ row. meaning row name) (item_at index 0 (shadow_row item ∷ [])) x m (λ row r q.
+    let there : named (codes "0") es ≡ Some u = ap (λ s. named s es) (only_zero (shadow_row item) row index r) ∙ (sym (child_named v es index o) ∙ h) in
+    let both : ◌≡◌ {A = Option Value} None (Some u) = sym n ∙ there in cc))
+
+alone_parts : (v : Value) (es : List Entry) (item : ShadowItem) → object_in v ≡ Some es → named (codes "0") es ≡ None → shadow_item_in v ≡ Ok item → value_of kind.Shadow v ≡ Ok (typed.Shadow (item ∷ [])) → PartsOf v (typed.Shadow (item ∷ []))
+alone_parts v es item o n g h [] w part e p = whole_part v w (typed.Shadow (item ∷ [])) part h e p
+alone_parts v es item o n g h (name ∷ []) w part e p = member_part v w (shadow_row item) name part (shadow_rows v item g) e p
+alone_parts v es item o n g h (index ∷ name ∷ []) w part e p = absurd (object_no_item v w es item index name part o n e p)
+alone_parts v es item o n g h (a ∷ b ∷ c ∷ steps) w part e p = absurd (let z : ⊥ = cc in z)
+
+one_parts : (v : Value) (es : List Entry) (items : List ShadowItem) (o : Option Value) → object_in v ≡ Some es → named (codes "0") es ≡ o → unless_zero o (one_item v) ≡ Ok items → value_of kind.Shadow v ≡ Ok (typed.Shadow items) → PartsOf v (typed.Shadow items)
+unfolding one_item
+one_parts v es items (Some zero) o n e h = absurd (let k : ⊥ = cc in k)
+one_parts v es items None o n e h =
+    made (shadow_item_in v) _ items e (λ item g e2.
+    let P : List ShadowItem → Type 0 = λ z. value_of kind.Shadow v ≡ Ok (typed.Shadow z) → PartsOf v (typed.Shadow z) in
+    found P (item ∷ []) items e2 (alone_parts v es item o n g) h)
+
+shadow_by : (v : Value) (items : List ShadowItem) (l : Option (List Value)) → if_list l (some_in shadow_item_in v) (one_shadow v) ≡ Ok items → value_of kind.Shadow v ≡ Ok (typed.Shadow items) → PartsOf v (typed.Shadow items)
+unfolding one_shadow
+shadow_by v items (Some vs) e h = listed_parts v items e h
+shadow_by v items None e h = made (members_in v) _ items e (λ es k e2. one_parts v es items (named (codes "0") es) (members_are v es k) refl e2 h)
+
+shadow_parts : (v : Value) (items : List ShadowItem) → shadows_in v ≡ Ok items → value_of kind.Shadow v ≡ Ok (typed.Shadow items) → PartsOf v (typed.Shadow items)
+unfolding shadows_in
+shadow_parts v items e h = shadow_by v items (array_in v) e h
+
+abbrev Whole : Value → Typed → Type 0
+Whole v t = value_of (kind_of t) v ≡ Ok t
+
+simple_parts : (k : Kind) (v : Value) (t : Typed) → simple_in k v ≡ Ok t → Whole v t → PartsOf v t
+unfolding simple_in
+simple_parts k v t e h =
+    made (simple_value k v) _ t e (λ s g e2.
+    let P : Typed → Type 0 = λ z. Whole v z → PartsOf v z in
+    found P (typed.Simple s) t e2 (λ h2. no_parts v (typed.Simple s) refl refl h2) h)
+
+by_kind : (k : Kind) (v : Value) (t : Typed) → value_of k v ≡ Ok t → Whole v t → PartsOf v t
+unfolding value_of
+by_kind kind.Color v t e h = simple_parts kind.Color v t e h
+by_kind kind.Dimension v t e h = simple_parts kind.Dimension v t e h
+by_kind kind.FontFamily v t e h = simple_parts kind.FontFamily v t e h
+by_kind kind.FontWeight v t e h = simple_parts kind.FontWeight v t e h
+by_kind kind.Duration v t e h = simple_parts kind.Duration v t e h
+by_kind kind.CubicBezier v t e h = simple_parts kind.CubicBezier v t e h
+by_kind kind.Number v t e h = simple_parts kind.Number v t e h
+by_kind kind.StrokeStyle v t e h = made (stroke_in v) _ t e (λ x g e2. found (λ z. Whole v z → PartsOf v z) (typed.StrokeStyle x) t e2 (λ h2. no_parts v (typed.StrokeStyle x) refl refl h2) h)
+by_kind kind.Border v t e h = made (border_in v) _ t e (λ x g e2. found (λ z. Whole v z → PartsOf v z) (typed.Border x) t e2 (λ h2. member_parts v (typed.Border x) (border_rows v x g) refl h2) h)
+by_kind kind.Transition v t e h = made (transition_in v) _ t e (λ x g e2. found (λ z. Whole v z → PartsOf v z) (typed.Transition x) t e2 (λ h2. member_parts v (typed.Transition x) (transition_rows v x g) refl h2) h)
+by_kind kind.Shadow v t e h = made (shadows_in v) _ t e (λ x g e2. found (λ z. Whole v z → PartsOf v z) (typed.Shadow x) t e2 (λ h2. shadow_parts v x g h2) h)
+by_kind kind.Gradient v t e h = made (gradient_in v) _ t e (λ x g e2. found (λ z. Whole v z → PartsOf v z) (typed.Gradient x) t e2 (λ h2. gradient_parts v x g h2) h)
+by_kind kind.Typography v t e h = made (typography_in v) _ t e (λ x g e2. found (λ z. Whole v z → PartsOf v z) (typed.Typography x) t e2 (λ h2. member_parts v (typed.Typography x) (typography_rows v x g) refl h2) h)
+
+pub parts_typed : (k : Kind) (v w : Value) (t part : Typed) (steps : List (List ℕ)) → value_of k v ≡ Ok t → plain_at v steps ≡ Some w → part_at t steps ≡ Some part → value_of (kind_of part) w ≡ Ok part
+parts_typed k v w t part steps e p q =
+    let same : kind_of t ≡ k = (values_keep k v t e).0 in
+    let h : value_of (kind_of t) v ≡ Ok t = ap (λ z. value_of z v) same ∙ e in
+    by_kind k v t e h steps w part p q

@@ -1,0 +1,57 @@
+-- Laws over the definitions alone.
+use Rattle.std.specs.Prelude.{◌≡◌, ◌↔◌, ℕ, List, [], ◌∷◌, codes, Some, Ok, Err}
+use Rattle.dec_fix.specs.Decimal.{Decimal}
+use Rattle.dec_fix.specs.Arithmetic.{IsPart}
+use Rattle.json_span.specs.PlainView.{Value, Entry}
+use Rattle.name_path.specs.declared.kind.Kind.{Kind}
+use Rattle.name_path.specs.declared.kind.Kind.TheVariants as kind
+use Rattle.type_rules.specs.declared.fault.ValueRule.TheVariants.{ValueShape}
+use Rattle.type_rules.specs.Forms.{object_in, named}
+use Rattle.type_rules.specs.Trails.{BreaksLead, plain_at}
+use Rattle.type_rules.specs.Words.{meaning}
+use Rattle.composite_rules.specs.declared.stroke.StrokeWord.{StrokeWord}
+use Rattle.composite_rules.specs.declared.stroke.Cap.{Cap}
+use Rattle.composite_rules.specs.declared.typed.Typed.{Typed}
+use Rattle.composite_rules.specs.Words.{stroke_words, stroke_word_name, caps, cap_name}
+use Rattle.composite_rules.specs.Value.{clamped, value_of}
+use Rattle.composite_rules.specs.Sound.{kind_of, IsTyped}
+use Rattle.composite_rules.specs.Parts.{part_at}
+
+-- a value has the kind under which it is read, and keeps what values of the kind keep
+abbrev pub KindsStay : Type 0
+KindsStay = (kind : Kind) (v : Value) (t : Typed) → value_of kind v ≡ Ok t → kind_of t ≡ kind
+
+abbrev pub ValuesKeep : Type 0
+ValuesKeep = (kind : Kind) (v : Value) (t : Typed) → value_of kind v ≡ Ok t → IsTyped t
+
+-- each of those is the value of some plain value
+abbrev pub ValuesAreWritten : Type 0
+ValuesAreWritten = (t : Typed) → IsTyped t → (v : Value) × (value_of (kind_of t) v ≡ Ok t)
+
+-- what a value breaks, it breaks at a part to which the steps lead
+abbrev pub ValuesBreakInside : Type 0
+ValuesBreakInside = (kind : Kind) → BreaksLead (value_of kind)
+
+-- a shadow that is one object breaks the rule on shapes at a member `0`, whatever its other members are
+abbrev pub ZerosBreak : Type 0
+ZerosBreak = (v zero : Value) (es : List Entry) → object_in v ≡ Some es → named (codes "0") es ≡ Some zero
+    → value_of kind.Shadow v ≡ Err (record { rule = ValueShape; trail = codes "0" ∷ [] })
+
+-- a position within 0 to 1 stays, and every other is moved there
+abbrev pub PositionsClamp : Type 0
+PositionsClamp = (d : Decimal) → IsPart (clamped d)
+
+abbrev pub SharesStay : Type 0
+SharesStay = (d : Decimal) → IsPart d → clamped d ≡ d
+
+-- what stands at a part's steps has the part as its value, under the kind that the part has
+abbrev pub PartsAreTyped : Type 0
+PartsAreTyped = (kind : Kind) (v w : Value) (t part : Typed) (steps : List (List ℕ))
+    → value_of kind v ≡ Ok t → plain_at v steps ≡ Some w → part_at t steps ≡ Some part → value_of (kind_of part) w ≡ Ok part
+
+-- a word stands for what has it as its name, and for nothing else
+abbrev pub StrokeWordsNamed : Type 0
+StrokeWordsNamed = (word : List ℕ) (s : StrokeWord) → (meaning stroke_words word ≡ Some s) ↔ (stroke_word_name s ≡ word)
+
+abbrev pub CapsNamed : Type 0
+CapsNamed = (word : List ℕ) (c : Cap) → (meaning caps word ≡ Some c) ↔ (cap_name c ≡ word)
