@@ -1,0 +1,7 @@
+-- None of the names so far is there.
+use Rattle.std.proofs.Common.{◌≡◌, drop}
+use Rattle.transforms.specs.Clash.{first_taken}
+use Rattle.transforms.proofs.clash.Clash.first_taken.Given as goal
+
+abbrev pub invariant-loop-name : goal.invariant-loop-name
+invariant-loop-name l = first_taken l.self (drop l.name-index l.names) ≡ first_taken l.self l.names

@@ -1,0 +1,11 @@
+use Rattle.transforms.proofs.Added.{names_apart, names_there, names_from_tokens}
+use Rattle.transforms.proofs.laws.clash_laws.Goals as goal
+
+pub returns-clause-apart : goal.returns-clause-apart
+returns-clause-apart c = names_apart
+
+pub returns-clause-there : goal.returns-clause-there
+returns-clause-there c = names_there
+
+pub returns-clause-tokens : goal.returns-clause-tokens
+returns-clause-tokens c = names_from_tokens

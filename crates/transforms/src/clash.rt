@@ -1,0 +1,125 @@
+// Names that more than one token has.
+
+ghost use Rattle.std.specs.Prelude.{◌≡◌, ℕ, List, Some, None, false, cond, IfOk, OnOk, OnErr, IfNone, IfSome};
+ghost use Rattle.std.specs.BTreeMap.{is_at};
+ghost use Rattle.std.specs.FinMap as map;
+ghost use Rattle.std.specs.Option.{option_copied};
+ghost use Rattle.tk_io.specs.Order.{text_cmp};
+ghost use Rattle.transforms.specs.Clash.{first_taken, with_names, is_among};
+
+use crate::Names;
+use name_path::Path;
+use std::alloc::Global;
+use std::collections::BTreeMap;
+use std::marker::Model;
+use tk_io::{Bytes, NoMemory};
+
+/// The names that tokens have on one platform, seen as a finite map from each name to the path of its token.
+#[derive(Drop)]
+pub struct Clash<'s> {
+    alloc: Global,
+    paths: BTreeMap<Vec<u8>, Path<'s>>,
+}
+
+impl<'s> Model for Clash<'s> {
+    ghost use Rattle.std.specs.Prelude.{List, ℕ};
+    ghost use Rattle.std.specs.FinMap as map;
+    ghost use Rattle.std.specs.Coded.{coded_list, coded_ℕ};
+    ghost use Rattle.tk_io.specs.Order.{text_cmp};
+    ghost use Rattle.tk_io.specs.Shown.{shown_by};
+
+    ghost Value = { map.FinMap text_cmp (List (List ℕ)) };
+
+    ghost coded = { map.code (coded_list coded_ℕ) (coded_list (coded_list coded_ℕ)) };
+
+    ghost view = { λ c. map.from_entries (shown_by (λ name. name.items) (λ path. path) c.paths.entries) };
+}
+
+impl<'s> Clash<'s> {
+    /// No names.
+    pub fn new(alloc: Global) -> Clash<'s>
+        ensures { result ≡ map.empty }
+    {
+        Clash {
+            alloc,
+            paths: BTreeMap::new(alloc),
+        }
+    }
+
+    /// Adds the names of the token at the path. Where one of them is there, the answer is the path under which the first of
+    /// these was added, and nothing is added. Where memory runs out nothing is added.
+    pub fn add(&mut self, path: &Path<'s>, names: &Names) -> Result<Option<Path<'s>>, NoMemory>
+        ensures answer { IfOk result (λ answer. answer ≡ first_taken self.old names.now) }
+        ensures kept { IfOk result (λ answer. IfSome answer (λ _. self.new ≡ self.old)) }
+        ensures added { IfOk result (λ answer. IfNone answer (self.new ≡ with_names self.old names.now path.now)) }
+        // What stands at each name where none was there.
+        ensures at { IfOk result (λ answer. IfNone answer ((q : List ℕ) → map.get self.new q ≡ cond (is_among q names.now) (Some path.now) (map.get self.old q))) }
+        ensures err { OnErr result (self.new ≡ self.old) }
+    {
+        if let Some(other) = self.first_taken(names.as_slice()) {
+            let other = other.copy()?;
+            return Ok(Some(other));
+        }
+        match self.put_all(path, names.as_slice()) {
+            Ok(()) => Ok(None),
+            Err(fault) => {
+                self.remove_all(names.as_slice());
+                Err(fault)
+            }
+        }
+    }
+
+    fn get(&self, name: &[u8]) -> Option<&Path<'s>>
+        ensures { option_copied result ≡ map.get self.now name.now }
+    {
+        self.paths.get(name)
+    }
+
+    fn first_taken(&self, names: &[Bytes]) -> Option<&Path<'s>>
+        ensures { option_copied result ≡ first_taken self.now names.now }
+    {
+        for name in names {
+            if let Some(path) = self.get(name.as_slice()) {
+                return Some(path);
+            }
+        }
+        None
+    }
+
+    fn put(&mut self, name: &[u8], path: &Path<'s>) -> Result<(), NoMemory>
+        ensures ok { OnOk result (self.new ≡ map.insert self.old name.now path.now) }
+        ensures at { OnOk result ((q : List ℕ) → map.get self.new q ≡ cond (is_at (text_cmp name.now) q) (Some path.now) (map.get self.old q)) }
+        ensures err { OnErr result (self.new ≡ self.old) }
+    {
+        let mut key = Vec::new(self.alloc);
+        key.extend_from_slice(name)?;
+        let path = path.copy()?;
+        self.paths.insert(key, path)?;
+        Ok(())
+    }
+
+    /// Adds the names one after another. Where memory runs out some of them may be there.
+    fn put_all(&mut self, path: &Path<'s>, names: &[Bytes]) -> Result<(), NoMemory>
+        ensures ok { OnOk result (self.new ≡ with_names self.old names.now path.now) }
+        ensures err { OnErr result ((q : List ℕ) → is_among q names.now ≡ false → map.get self.new q ≡ map.get self.old q) }
+    {
+        for name in names {
+            self.put(name.as_slice(), path)?;
+        }
+        Ok(())
+    }
+
+    fn remove(&mut self, name: &[u8])
+        ensures { (q : List ℕ) → map.get self.new q ≡ cond (is_at (text_cmp name.now) q) None (map.get self.old q) }
+    {
+        let _ = self.paths.remove(name);
+    }
+
+    fn remove_all(&mut self, names: &[Bytes])
+        ensures { (q : List ℕ) → map.get self.new q ≡ cond (is_among q names.now) None (map.get self.old q) }
+    {
+        for name in names {
+            self.remove(name.as_slice());
+        }
+    }
+}

@@ -1,0 +1,24 @@
+//! What platforms are given of tokens: the configuration that a text says, names on each platform, lengths in pixels, and
+//! sheets that are put together from fragments.
+//!
+//! A name is spelled character by character, so that it is a name of the platform's language whatever the path holds. Two
+//! paths may have one name: `Clash` finds the first that has it. A sheet is written in one buffer, fragment by fragment.
+#![tactic(auto)]
+
+mod clash;
+mod config;
+mod hexadecimal;
+mod laws;
+mod name;
+mod platform;
+mod scaling;
+mod sheet;
+
+pub use clash::Clash;
+pub use config::{Config, ConfigFault, read_config};
+pub use hexadecimal::hex8;
+pub use laws::{clash_laws, name_laws};
+pub use name::name_for;
+pub use platform::Platform;
+pub use scaling::scale_rem;
+pub use sheet::{Frag, Frame, Names, Sheet};
