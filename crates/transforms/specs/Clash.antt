@@ -1,5 +1,5 @@
 -- Names that tokens have, and the first token that has a name.
-use Rattle.std.specs.Prelude.{◌≡◌, ℕ, Bool, List, [], ◌∷◌, Option, Some, None, Contains, AllPairs}
+use Rattle.std.specs.Prelude.{◌≡◌, ℕ, Bool, cond, List, [], ◌∷◌, Option, Some, None, Contains, AllPairs}
 use Rattle.std.specs.BTreeMap.{is_at}
 use Rattle.std.specs.FinMap as map
 use Rattle.std.specs.List.{list_any}
@@ -24,6 +24,16 @@ with_names taken (name ∷ names) path = with_names (map.insert taken name path)
 abbrev pub is_among : List ℕ → List (List ℕ) → Bool
 is_among name names = list_any (λ other. is_at (text_cmp other) name) names
 
+-- the names are there under the path, and all other names as before
+pub record AddsNames (before after : Taken) (names path : List (List ℕ)) : Type 0 where
+  pub is : after ≡ with_names before names path
+  pub at : (name : List ℕ) → map.get after name ≡ cond (is_among name names) (Some path) (map.get before name)
+
+-- what an answer leaves: the names are added where it is none
+abbrev pub Leaves : Taken → List (List ℕ) → List (List ℕ) → Taken → Option (List (List ℕ)) → Type 0
+Leaves before names path after None = AddsNames before after names path
+Leaves before names path after (Some other) = after ≡ before
+
 -- a token's path and its names
 pub record Named : Type 0 where
   pub path : List (List ℕ)
@@ -32,7 +42,8 @@ pub record Named : Type 0 where
 -- the tokens are added one after another, none of their names is there before, and these are the names afterwards
 abbrev pub AllAdded : Taken → List Named → Taken → Type 0
 AllAdded before [] after = after ≡ before
-AllAdded before (token ∷ tokens) after = (first_taken before token.names ≡ None) × AllAdded (with_names before token.names token.path) tokens after
+AllAdded before (token ∷ tokens) after =
+    (first_taken before token.names ≡ None) × AllAdded (with_names before token.names token.path) tokens after
 
 -- no name is a name of both
 abbrev pub ShareNoName : Named → Named → Type 0

@@ -77,9 +77,16 @@ pub record IsFirstRefused (table : Members) (key : List ℕ) : Type 0 where
   pub value : Data
   pub there : get_member key table ≡ Some value
   pub refused : is_setting key value ≡ false
-  pub first : (other : List ℕ) (its : Data) → get_member other table ≡ Some its → is_setting other its ≡ false → text_cmp key other ≢ Greater
+  pub first : (other : List ℕ) (its : Data) → get_member other table ≡ Some its → is_setting other its ≡ false
+      → text_cmp key other ≢ Greater
 
--- the answer of the text is `Key` for its first refused key alone
+-- the fault that the text gives; want of memory says nothing of it
+abbrev pub IsFaultOf : List ℕ → ConfigFault → Type 0
+IsFaultOf text Toml = config_of text ≡ Err Toml
+IsFaultOf text (Key key) = config_of text ≡ Err (Key key)
+IsFaultOf text NoMemory = Unit {0}
+
+-- a key that is told is the first refused key of the text's table
 abbrev pub RefusesFirst : List ℕ → ConfigFault → Type 0
 RefusesFirst text Toml = Unit {0}
 RefusesFirst text (Key key) = (table : Members) → parse_document text ≡ Some table → IsFirstRefused table key

@@ -1,5 +1,5 @@
 -- Numbers in hexadecimal digits.
-use Rattle.std.specs.Prelude.{◌≡◌, zero, suc, ℕ, ◌+◌, ◌*◌, ◌/◌, ◌%◌, ◌^◌, ◌<◌, fold, List, [], ◌∷◌, nat_lt, if◌then◌else◌}
+use Rattle.std.specs.Prelude.{◌≡◌, zero, suc, ℕ, ◌+◌, ◌*◌, ◌/◌, ◌%◌, ◌^◌, ◌<◌, fold, List, [], ◌∷◌, ◌++◌, codes, nat_lt, if◌then◌else◌}
 use Rattle.std.specs.List.{flat_map}
 use Rattle.std.specs.Char.{digit_char, digit_value, to_ascii_uppercase}
 
@@ -21,7 +21,7 @@ hex_byte b = to_ascii_uppercase (digit_char (b / 16)) ∷ to_ascii_uppercase (di
 
 -- `#` and two digits for each byte
 abbrev pub hex_color : List ℕ → List ℕ
-hex_color bytes = 35 ∷ flat_map hex_byte bytes
+hex_color bytes = codes "#" ++ flat_map hex_byte bytes
 
 -- the number that hexadecimal digits spell
 abbrev pub hex_value : List ℕ → ℕ

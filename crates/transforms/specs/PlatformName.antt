@@ -20,7 +20,9 @@ is_kept platform c = is_ascii_alphanumeric c || ((c == 95) || (c == joint platfo
 
 -- a character: one beyond ASCII is 'u' and its number
 abbrev pub spelled_char : Platform → ℕ → List ℕ
-spelled_char platform c = if nat_lt c 128 then (if is_kept platform c then c else joint platform) ∷ [] else 117 ∷ hex_number c
+spelled_char platform c =
+    if nat_lt c 128 then (if is_kept platform c then c else joint platform) ∷ []
+    else codes "u" ++ hex_number c
 
 -- a name of a path, character by character
 abbrev pub spelled : Platform → List ℕ → List ℕ
@@ -55,7 +57,7 @@ begins_with_digit (c ∷ cs) = is_ascii_digit c
 
 -- '_' before a name that begins with a digit
 abbrev pub behind_mark : List ℕ → List ℕ
-behind_mark name = if begins_with_digit name then 95 ∷ name else name
+behind_mark name = if begins_with_digit name then codes "_" ++ name else name
 
 -- the name of the token at the path
 abbrev pub name_on : Platform → List ℕ → List (List ℕ) → List ℕ
@@ -79,5 +81,5 @@ is_name_on Swift name = is_identifier name
 
 -- a name stays one with an ending of characters that a name can hold
 abbrev pub EndingsStay : Type 0
-EndingsStay = (platform : Platform) (name ending : List ℕ) → is_name_on platform name ≡ true → list_all (is_kept platform) ending ≡ true
-    → is_name_on platform (name ++ ending) ≡ true
+EndingsStay = (platform : Platform) (name ending : List ℕ) → is_name_on platform name ≡ true
+    → list_all (is_kept platform) ending ≡ true → is_name_on platform (name ++ ending) ≡ true

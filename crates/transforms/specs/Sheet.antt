@@ -38,3 +38,12 @@ pub record Holds (sheet : OpenSheet) (frame : FrameData) (bodies : List (List �
   pub frame_is : sheet.frame ≡ frame
   pub text_is : sheet.text ≡ frame.head ++ glued frame.glue bodies
   pub has_body_is : sheet.has_body ≡ is_some bodies
+
+-- the sheet has one body more, whatever it held
+abbrev pub Gains : OpenSheet → OpenSheet → List ℕ → Type 0
+Gains before after body =
+    (frame : FrameData) (bodies : List (List ℕ)) → Holds before frame bodies → Holds after frame (bodies ++ body ∷ [])
+
+-- the bytes are the sheet of all that it holds
+abbrev pub IsTextOf : OpenSheet → List ℕ → Type 0
+IsTextOf sheet bytes = (frame : FrameData) (bodies : List (List ℕ)) → Holds sheet frame bodies → bytes ≡ sheet_text frame bodies

@@ -1,2 +1,4 @@
 pub mod Joined
 pub mod Glue
+pub mod Elsewhere
+pub mod Unread

@@ -1,11 +1,10 @@
 // Names that more than one token has.
 
-ghost use Rattle.std.specs.Prelude.{◌≡◌, ℕ, List, Some, None, false, cond, IfOk, OnOk, OnErr, IfNone, IfSome};
-ghost use Rattle.std.specs.BTreeMap.{is_at};
+ghost use Rattle.std.specs.Prelude.{◌≡◌, IfOk, OnOk, OnErr};
 ghost use Rattle.std.specs.FinMap as map;
 ghost use Rattle.std.specs.Option.{option_copied};
-ghost use Rattle.tk_io.specs.Order.{text_cmp};
-ghost use Rattle.transforms.specs.Clash.{first_taken, with_names, is_among};
+ghost use Rattle.transforms.specs.Clash.{first_taken, with_names, Leaves};
+ghost use Rattle.transforms.specs.inner.Elsewhere.{PutsName, SameElsewhere, RemovesName, RemovesNames};
 
 use crate::Names;
 use name_path::Path;
@@ -50,10 +49,7 @@ impl<'s> Clash<'s> {
     /// these was added, and nothing is added. Where memory runs out nothing is added.
     pub fn add(&mut self, path: &Path<'s>, names: &Names) -> Result<Option<Path<'s>>, NoMemory>
         ensures answer { IfOk result (λ answer. answer ≡ first_taken self.old names.now) }
-        ensures kept { IfOk result (λ answer. IfSome answer (λ _. self.new ≡ self.old)) }
-        ensures added { IfOk result (λ answer. IfNone answer (self.new ≡ with_names self.old names.now path.now)) }
-        // What stands at each name where none was there.
-        ensures at { IfOk result (λ answer. IfNone answer ((q : List ℕ) → map.get self.new q ≡ cond (is_among q names.now) (Some path.now) (map.get self.old q))) }
+        ensures leaves { IfOk result (Leaves self.old names.now path.now self.new) }
         ensures err { OnErr result (self.new ≡ self.old) }
     {
         if let Some(other) = self.first_taken(names.as_slice()) {
@@ -88,7 +84,7 @@ impl<'s> Clash<'s> {
 
     fn put(&mut self, name: &[u8], path: &Path<'s>) -> Result<(), NoMemory>
         ensures ok { OnOk result (self.new ≡ map.insert self.old name.now path.now) }
-        ensures at { OnOk result ((q : List ℕ) → map.get self.new q ≡ cond (is_at (text_cmp name.now) q) (Some path.now) (map.get self.old q)) }
+        ensures at { OnOk result (PutsName self.old self.new name.now path.now) }
         ensures err { OnErr result (self.new ≡ self.old) }
     {
         let mut key = Vec::new(self.alloc);
@@ -101,7 +97,7 @@ impl<'s> Clash<'s> {
     /// Adds the names one after another. Where memory runs out some of them may be there.
     fn put_all(&mut self, path: &Path<'s>, names: &[Bytes]) -> Result<(), NoMemory>
         ensures ok { OnOk result (self.new ≡ with_names self.old names.now path.now) }
-        ensures err { OnErr result ((q : List ℕ) → is_among q names.now ≡ false → map.get self.new q ≡ map.get self.old q) }
+        ensures err { OnErr result (SameElsewhere self.old self.new names.now) }
     {
         for name in names {
             self.put(name.as_slice(), path)?;
@@ -110,13 +106,13 @@ impl<'s> Clash<'s> {
     }
 
     fn remove(&mut self, name: &[u8])
-        ensures { (q : List ℕ) → map.get self.new q ≡ cond (is_at (text_cmp name.now) q) None (map.get self.old q) }
+        ensures { RemovesName self.old self.new name.now }
     {
         let _ = self.paths.remove(name);
     }
 
     fn remove_all(&mut self, names: &[Bytes])
-        ensures { (q : List ℕ) → map.get self.new q ≡ cond (is_among q names.now) None (map.get self.old q) }
+        ensures { RemovesNames self.old self.new names.now }
     {
         for name in names {
             self.remove(name.as_slice());

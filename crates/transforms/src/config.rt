@@ -6,7 +6,8 @@ ghost use Rattle.std.specs.Char.{is_ascii_alphanumeric};
 ghost use Rattle.toml.specs.Data.{get_member};
 ghost use Rattle.toml.specs.Parse.{parse_document};
 ghost use Rattle.toml.specs.View.{view, table_view};
-ghost use Rattle.transforms.specs.Config.{is_prefix, plain, prefix_in, base_in, is_setting, first_refused, settings_in, config_of, IsFirstRefused, RefusesFirst};
+ghost use Rattle.transforms.specs.inner.Unread.{IsUnread};
+ghost use Rattle.transforms.specs.Config.{is_prefix, plain, prefix_in, base_in, is_setting, first_refused, settings_in, config_of, IsFirstRefused, IsFaultOf, RefusesFirst};
 
 use std::alloc::Global;
 use std::marker::Model;
@@ -49,6 +50,7 @@ impl From<NoMemory> for ConfigFault {
 
 impl Model for Config {
     ghost use Rattle.std.specs.Prelude.{◌≡◌, true};
+    ghost use Rattle.transforms.specs.inner.Unread.{IsUnread};
     ghost use Rattle.transforms.specs.Config.{Settings, is_prefix};
 
     ghost Value = { Settings };
@@ -191,7 +193,7 @@ fn settings_in(alloc: Global, table: &Table) -> Result<Config, NoMemory>
 
 fn table_of(alloc: Global, text: &str) -> Result<Table, ConfigFault>
     ensures read { IfOk result (λ table. parse_document text.now ≡ Some (table_view table)) }
-    ensures refused { IfErr result (λ fault. fault ≢ ConfigFault.NoMemory → (fault ≡ ConfigFault.Toml) × (parse_document text.now ≡ None)) }
+    ensures refused { IfErr result (IsUnread text.now) }
 {
     match toml::table_from_str(alloc, text) {
         Ok(table) => Ok(table),
@@ -208,7 +210,7 @@ fn table_of(alloc: Global, text: &str) -> Result<Table, ConfigFault>
 /// letters and digits), `rem_base` (1 to 100) and `references` (a boolean); what is not given is as in `Config::plain`.
 pub fn read_config(alloc: Global, text: &str) -> Result<Config, ConfigFault>
     ensures ok { IfOk result (λ config. config_of text.now ≡ Ok config) }
-    ensures refused { IfErr result (λ fault. fault ≢ ConfigFault.NoMemory → config_of text.now ≡ Err fault) }
+    ensures refused { IfErr result (IsFaultOf text.now) }
     // The key of a refusal is the first refused key in byte order.
     ensures first { IfErr result (RefusesFirst text.now) }
 {

@@ -13,6 +13,8 @@ mod name;
 mod platform;
 mod scaling;
 mod sheet;
+#[cfg(test)]
+mod tests;
 
 pub use clash::Clash;
 pub use config::{Config, ConfigFault, read_config};

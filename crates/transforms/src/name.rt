@@ -118,8 +118,9 @@ fn append_joined(
         append_names(platform, names, out)?;
         return Ok(());
     }
+    let joint = [platform.joint()];
     out.append(prefix)?;
-    out.append(&[platform.joint()])?;
+    out.append(&joint)?;
     append_names(platform, names, out)?;
     Ok(())
 }
@@ -159,7 +160,8 @@ fn identifier(
     path: &Path<'_>,
 ) -> Result<Bytes, NoMemory>
     ensures is { IfOk result (λ name. name ≡ behind_mark (joined platform prefix.now path.now)) }
-    ensures named { IfOk result (λ name. joint platform ≡ 95 → is_prefix prefix.now ≡ true → IsTokenPath path.now → is_identifier name ≡ true) }
+    ensures named { joint platform ≡ joint Platform.Android → is_prefix prefix.now ≡ true → IsTokenPath path.now
+        → IfOk result (λ name. is_identifier name ≡ true) }
 {
     let mut name = Bytes::new(alloc);
     append_joined(platform, prefix, path, &mut name)?;

@@ -1,7 +1,7 @@
 // Sheets, and the fragments that they are made of.
 
-ghost use Rattle.std.specs.Prelude.{◌≡◌, ◌++◌, ◌∷◌, [], List, ℕ, IfOk, OnOk, OnErr};
-ghost use Rattle.transforms.specs.Sheet.{FrameData, Holds, sheet_text};
+ghost use Rattle.std.specs.Prelude.{◌≡◌, [], IfOk, OnOk, OnErr};
+ghost use Rattle.transforms.specs.Sheet.{Holds, Gains, IsTextOf};
 ghost use Rattle.transforms.specs.View.{frame_view};
 ghost use Rattle.transforms.specs.inner.Glue.{without_loose, LooseGlueEnds};
 
@@ -69,7 +69,7 @@ impl Sheet {
     /// Adds the fragment's body at the end, behind the glue where there is a body before it. Where memory runs out the sheet
     /// stays.
     pub fn add(&mut self, frag: &Frag) -> Result<(), NoMemory>
-        ensures ok { (frame : FrameData) (bodies : List (List ℕ)) → Holds self.old frame bodies → OnOk result (Holds self.new frame (bodies ++ frag.now.body ∷ [])) }
+        ensures ok { OnOk result (Gains self.old self.new frag.now.body) }
         ensures err { OnErr result (self.new ≡ self.old) }
     {
         if self.has_body && !self.has_loose_glue {
@@ -85,7 +85,7 @@ impl Sheet {
     /// The bytes of the sheet: the head, the bodies with the glue between, `last` where there is a body, and the tail. Where
     /// memory runs out nothing is handed back.
     pub fn finish(self) -> Result<Bytes, NoMemory>
-        ensures { (frame : FrameData) (bodies : List (List ℕ)) → Holds self frame bodies → IfOk result (λ bytes. bytes ≡ sheet_text frame bodies) }
+        ensures { IfOk result (IsTextOf self) }
     {
         let mut text = front(self.text, self.frame.glue, self.has_loose_glue)?;
         if self.has_body {

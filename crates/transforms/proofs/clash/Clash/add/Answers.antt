@@ -4,10 +4,10 @@ use Rattle.transforms.specs.Clash.{first_taken, with_names, is_among}
 use Rattle.transforms.proofs.Taken.{get-with_names, taken_away}
 use Rattle.transforms.proofs.clash.Clash.add.Goals as goal
 
-pub returns-in-Ok-clause-at : goal.returns-in-Ok-clause-at
-returns-in-Ok-clause-at c q =
-    ap (λ m. map.get m q) (c.in-Ok.ensures.ok ∙ ap (λ names. with_names c.args.self.now names c.args.path.now) c.as_slice-2.ensures)
-    ∙ get-with_names c.args.self.now c.args.names.now c.args.path.now q
+pub returns-in-Ok-clause-leaves : goal.returns-in-Ok-clause-leaves
+returns-in-Ok-clause-leaves c =
+    let is = c.in-Ok.ensures.ok ∙ ap (λ names. with_names c.args.self.now names c.args.path.now) c.as_slice-2.ensures in
+    record { is = is; at = λ q. ap (λ m. map.get m q) is ∙ get-with_names c.args.self.now c.args.names.now c.args.path.now q }
 
 pub returns-in-Err-clause-err : goal.returns-in-Err-clause-err
 returns-in-Err-clause-err c =

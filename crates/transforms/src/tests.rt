@@ -1,0 +1,165 @@
+// Configurations, names, sheets and clashes, and each call once.
+use crate::{
+    Clash, Config, ConfigFault, Frag, Frame, Names, Platform, Sheet, hex8, name_for, read_config,
+    scale_rem,
+};
+use dec_fix::Dec;
+use name_path::Path;
+use std::alloc::Global;
+use std::test::Fail;
+use tk_io::{Bytes, NoMemory, Text};
+
+mod table;
+
+/// What a configuration text is to say: the prefix, the pixels of a rem and whether references are spelled; or that it is
+/// no TOML; or its first refused key.
+#[derive(Clone, Copy)]
+enum Wanted {
+    Says(&'static str, u8, bool),
+    NotToml,
+    Refuses(&'static str),
+}
+
+fn says(answer: &Result<Config, ConfigFault>, wanted: Wanted) -> bool {
+    match (answer, wanted) {
+        (Ok(config), Wanted::Says(prefix, rem_base, references)) => {
+            config.prefix.as_slice() == prefix.as_bytes()
+                && config.rem_base == rem_base
+                && config.references == references
+        }
+        (Err(ConfigFault::Toml), Wanted::NotToml) => true,
+        (Err(ConfigFault::Key(key)), Wanted::Refuses(name)) => key.as_slice() == name.as_bytes(),
+        _ => false,
+    }
+}
+
+#[test]
+fn configurations_are_read(rt: HostRuntime) -> Result<(), Fail> {
+    for (text, wanted) in table::CONFIGS {
+        let answer = read_config(rt.alloc(), text);
+        assert!(rt; says(&answer, wanted), "{text}");
+    }
+    Ok(())
+}
+
+fn config(alloc: Global, prefix: &str) -> Result<Config, Fail> {
+    if prefix.is_empty() {
+        return Ok(Config::plain(alloc));
+    }
+    let text = format!(in alloc; "prefix = \"{prefix}\"")?;
+    match read_config(alloc, text.as_str()) {
+        Ok(config) => Ok(config),
+        Err(_) => Err(Fail::from(NoMemory)),
+    }
+}
+
+fn path<'s>(alloc: Global, text: &'s str) -> Result<Path<'s>, NoMemory> {
+    let mut path = Path::new(alloc);
+    for name in text.split('.') {
+        path.push(Text::of(name))?;
+    }
+    Ok(path)
+}
+
+#[test]
+fn names_are_spelled(rt: HostRuntime) -> Result<(), Fail> {
+    let alloc = rt.alloc();
+    for (prefix, text, css, android, swift) in table::NAMES {
+        let config = config(alloc, prefix)?;
+        let path = path(alloc, text)?;
+        for (platform, wanted) in [
+            (Platform::Css, css),
+            (Platform::Android, android),
+            (Platform::Swift, swift),
+        ] {
+            let name = name_for(alloc, platform, &path, &config)?;
+            assert_eq!(rt; name.as_slice(), wanted.as_bytes(), "{text}");
+        }
+    }
+    Ok(())
+}
+
+fn bytes(alloc: Global, text: &str) -> Result<Bytes, NoMemory> {
+    let mut bytes = Bytes::new(alloc);
+    bytes.append(text.as_bytes())?;
+    Ok(bytes)
+}
+
+fn names(alloc: Global, texts: &[&str]) -> Result<Names, NoMemory> {
+    let mut names = Names::new(alloc);
+    for text in texts {
+        names.push(bytes(alloc, text)?)?;
+    }
+    Ok(names)
+}
+
+/// The frame of a JSON object with a member on each line.
+const MEMBERS: Frame = Frame {
+    head: b"{\n",
+    glue: b",\n",
+    last: b"\n",
+    tail: b"}\n",
+};
+
+fn sheet(alloc: Global, frame: Frame, bodies: &[&str]) -> Result<Bytes, NoMemory> {
+    let mut sheet = Sheet::start(alloc, frame)?;
+    for body in bodies {
+        sheet.add(&Frag {
+            names: Names::new(alloc),
+            body: bytes(alloc, body)?,
+        })?;
+    }
+    sheet.finish()
+}
+
+#[test]
+fn sheets_are_framed(rt: HostRuntime) -> Result<(), Fail> {
+    let alloc = rt.alloc();
+    let none = sheet(alloc, MEMBERS, &[])?;
+    assert_eq!(rt; none.as_slice(), b"{\n}\n".as_slice());
+    let one = sheet(alloc, MEMBERS, &["x"])?;
+    assert_eq!(rt; one.as_slice(), b"{\nx\n}\n".as_slice());
+    let two = sheet(alloc, MEMBERS, &["x", "y"])?;
+    assert_eq!(rt; two.as_slice(), b"{\nx,\ny\n}\n".as_slice());
+    Ok(())
+}
+
+fn is_at(answer: &Option<Path<'_>>, names: &[&str]) -> bool {
+    match answer {
+        Some(path) => path
+            .as_slice()
+            .iter()
+            .map(|name| name.as_str())
+            .eq(names.iter().copied()),
+        None => false,
+    }
+}
+
+#[test]
+fn clashes_name_the_first(rt: HostRuntime) -> Result<(), Fail> {
+    let alloc = rt.alloc();
+    let mut clash = Clash::new(alloc);
+    let first = clash.add(&path(alloc, "a")?, &names(alloc, &["x", "y"])?)?;
+    assert!(rt; first.is_none());
+    let second = clash.add(&path(alloc, "a.b")?, &names(alloc, &["z"])?)?;
+    assert!(rt; second.is_none());
+    let both = clash.add(&path(alloc, "b")?, &names(alloc, &["w", "z", "y"])?)?;
+    assert!(rt; is_at(&both, &["a", "b"]));
+    let not_added = clash.add(&path(alloc, "c")?, &names(alloc, &["w"])?)?;
+    assert!(rt; not_added.is_none());
+    Ok(())
+}
+
+#[test]
+fn lengths_and_colors(rt: HostRuntime) -> Result<(), Fail> {
+    let Ok(length) = Dec::read("1.5") else {
+        return Err(Fail::from(NoMemory));
+    };
+    let mut text = Bytes::new(rt.alloc());
+    scale_rem(&length, true, 10).write(&mut text)?;
+    text.append(b" ")?;
+    scale_rem(&length, false, 10).write(&mut text)?;
+    assert_eq!(rt; text.as_slice(), b"15 1.5".as_slice());
+    assert_eq!(rt; hex8(128, 51, 0, 255), *b"#803300FF");
+    Ok(())
+}
