@@ -1,9 +1,13 @@
 pub mod OneAnswer
+mod BareTrees
 mod Counting
 mod Expands
 mod Finding
 mod Finds
 mod Flats
+mod Halves
+mod Measures
+mod Merges
 mod Naming
 mod Numbers
 mod Options
@@ -13,8 +17,6 @@ mod Puts
 mod Ready
 mod Reports
 mod Tables
-mod TokenViews
-mod Tokens
 mod Trees
 mod Turns
 mod Verdict

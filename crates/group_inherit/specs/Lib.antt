@@ -1,10 +1,12 @@
 pub mod Answer
 pub mod Around
+pub mod Bare
 pub mod Checking
 pub mod Codes
 pub mod Expansion
 pub mod Extension
 pub mod Flattening
+pub mod Halves
 pub mod Laws
 pub mod Merging
 pub mod NodeShown

@@ -1,6 +1,6 @@
 //! The tokens of a flat tree.
 
-use name_path::{Kind, PathMap};
+use name_path::Kind;
 use std::marker::Model;
 use std::rc::Rc;
 use token_tree::{Mark, TokenDef};
@@ -28,6 +28,3 @@ impl<'s> Model for Entry<'s> {
 
     ghost view = { entry_data };
 }
-
-/// A flat tree: tokens under their paths, seen as a finite map whose keys are in path order.
-pub type Flat<'s> = PathMap<'s, Entry<'s>>;

@@ -11,7 +11,7 @@ ghost use Rattle.ring.specs.Values.{Comes};
 ghost use Rattle.group_inherit.specs.Expansion.{in_place, left_over, with_groups, behind_groups, expand, numbered, expand_at};
 ghost use Rattle.group_inherit.specs.Tables.{values_in};
 
-use crate::copying::{copy_child, copy_group, copy_marks};
+use crate::copying::copy_mark;
 use crate::merging::over;
 use crate::numbered::Node;
 use std::alloc::Global;
@@ -77,7 +77,7 @@ fn expansion<'s>(
     ensures { IfOk result (λ g. group_view g ≡ expand (group_view group.now) (values_in table.now row.now)) }
 {
     let (members, next) = expand_members(alloc, &group.members, table, row)?;
-    let deprecated = copy_marks(group.deprecated.as_ref())?;
+    let deprecated = copy_mark(group.deprecated.as_ref())?;
     let local = Group {
         kind: group.kind,
         deprecated,
@@ -104,9 +104,9 @@ fn expand_members<'s>(
 {
     let mut expanded = Members::new(alloc);
     let mut next = 0;
-    for (name, child) in members.entries(alloc)?.as_slice() {
-        let (child, behind) = expand_child(alloc, child, table, row, next)?;
-        expanded.put(name, child)?;
+    for member in members.as_slice() {
+        let (child, behind) = expand_child(&member.child, table, row, next)?;
+        expanded.put(&member.name, child)?;
         next = behind;
     }
     Ok((expanded, next))
@@ -114,7 +114,6 @@ fn expand_members<'s>(
 
 // A token, or the expansion of the next child group, and the place behind it in the row.
 fn expand_child<'s>(
-    alloc: Global,
     child: &Child<'s>,
     table: &[Group<'s>],
     row: &[usize],
@@ -127,13 +126,13 @@ fn expand_child<'s>(
     ensures at { IfOk result (λ made. made.1 ≤ length row.now) }
 {
     match child {
-        Child::Token(_) => Ok((copy_child(alloc, child)?, next)),
+        Child::Token(_) => Ok((child.copy()?, next)),
         Child::Group(_) => {
             if next < row.len() {
-                let expanded = copy_group(alloc, &table[row[next]])?;
+                let expanded = table[row[next]].copy()?;
                 return Ok((Child::Group(expanded), next + 1));
             }
-            Ok((copy_child(alloc, child)?, next))
+            Ok((child.copy()?, next))
         }
     }
 }

@@ -1,103 +1,59 @@
-//! From a group to the flat tree of its tokens.
+//! The flat tree of a tree whose groups extend others.
 
-ghost use Rattle.std.specs.Prelude.{◌≡◌, ℕ, List, IfOk, OnOk};
-ghost use Rattle.std.specs.Option.{option_or};
-ghost use Rattle.std.specs.FinMap as map;
-ghost use Rattle.token_tree.specs.Tree.{a_group};
-ghost use Rattle.token_tree.specs.Shown.{child_view, group_view};
-ghost use Rattle.group_inherit.specs.Flattening.{flattened, tokens_in, tokens_at, flat_of, flattened_at, token_under};
-ghost use Rattle.group_inherit.specs.Putting.{put_all};
-ghost use Rattle.group_inherit.specs.Around.{nearest_view};
+ghost use Rattle.std.specs.Prelude.{◌≡◌, ◌+◌, OnOk, IfOk, IfErr};
+ghost use Rattle.token_tree.specs.Shown.{group_view};
+ghost use Rattle.group_inherit.specs.Answer.{IsSound, IsFlat, IsTreeBreak};
 
-use crate::copying::copy_marks;
-use crate::entry::{Entry, Flat};
-use name_path::{Kind, Path};
+use crate::bare::{bare_size, check_size};
+use crate::checked::checked;
+use crate::expanding::expansions;
+use crate::fault::TreeFault;
+use crate::flat_tree::Flat;
+use crate::walking::flat_of;
 use std::alloc::Global;
-use std::rc::Rc;
-use tk_io::{NoMemory, Text};
-use token_tree::{Child, Group, Mark, TokenDef};
+use std::sync::ledger::Ledger;
+use tk_io::Steps;
+use token_tree::Group;
 
-// What the nearest groups that have a `$type` or a `$deprecated` say.
-#[derive(Clone, Copy)]
-struct Nearest<'a, 's> {
-    kind: Option<Kind>,
-    mark: Option<&'a Mark<'s>>,
-}
-
-/// The tokens of an expanded group by their paths. The group has few levels, so recursion follows them.
-pub(crate) fn flat<'s>(alloc: Global, group: &Group<'s>) -> Result<Flat<'s>, NoMemory>
-    ensures flat { IfOk result (λ f. f ≡ flat_of (group_view group.now)) }
-    // What stands at each path.
-    ensures at { IfOk result (λ f. (path : List (List ℕ)) → map.get f path ≡ flattened_at path (group_view group.now)) }
-{
-    let mut flat = Flat::new(alloc);
-    let path = Path::new(alloc);
-    let above = Nearest {
-        kind: None,
-        mark: None,
-    };
-    put_group(alloc, &path, &above, group, &mut flat)?;
-    Ok(flat)
-}
-
-// Adds the tokens of the group at the path.
-#[cycle(put)]
-fn put_group<'s>(
+/// The tokens of a tree by their paths, after each group that extends another is expanded (Format Module 2025.10, groups
+/// and `$extends`): each with its definition, and with the `$type` and the `$deprecated` of the nearest group upwards
+/// that has one. One step of `merges`, whatever it answers.
+///
+/// # Errors
+/// The first rule that the tree breaks, in this order: [`TreeFault::ExtendsTarget`] where a target is no group of the
+/// tree, [`TreeFault::ExtendsCycle`] where groups need each other in a ring, [`TreeFault::TooManyTokens`] where there are
+/// more than 16,384 members with those that are inherited, [`TreeFault::TooHigh`] where there are more than 64 levels.
+/// [`TreeFault::NoMemory`].
+pub fn flatten<'s, M: Ledger>(
     alloc: Global,
-    path: &Path<'s>,
-    above: &Nearest<'_, 's>,
-    group: &Group<'s>,
-    flat: &mut Flat<'s>,
-) -> Result<(), NoMemory>
-    ensures flat { OnOk result (flat.new ≡ put_all (tokens_in path.now (nearest_view above.now) (group_view group.now)) flat.old) }
-    ensures at { OnOk result ((q : List (List ℕ)) → map.get flat.new q ≡ option_or (token_under path.now (nearest_view above.now) (a_group (group_view group.now)) q) (map.get flat.old q)) }
+    tree: &Group<'s>,
+    merges: &mut Steps<M>,
+) -> Result<Flat<'s>, TreeFault<'s>>
+    ensures step { merges.new ≡ merges.old + 1 }
+    ensures sound { OnOk result (IsSound (group_view tree.now)) }
+    ensures ok { IfOk result (λ f. IsFlat (group_view tree.now) f) }
+    ensures broken { IfErr result (λ e. IsTreeBreak (group_view tree.now) e) }
 {
-    let nearest = Nearest {
-        kind: group.kind.or(above.kind),
-        mark: group.deprecated.as_ref().or(above.mark),
+    merges.tick();
+    let Some(size) = bare_size(tree) else {
+        return flatten_extending(alloc, tree);
     };
-    for (name, child) in group.members.entries(alloc)?.as_slice() {
-        let mut path = path.copy()?;
-        path.push(name.copy()?)?;
-        put_child(alloc, &path, &nearest, child, flat)?;
-    }
-    Ok(())
+    check_size(tree, size)?;
+    Ok(flat_of(alloc, tree)?)
 }
 
-// Adds the token, or the tokens of the group, at the path.
-#[cycle(put)]
-fn put_child<'s>(
-    alloc: Global,
-    path: &Path<'s>,
-    nearest: &Nearest<'_, 's>,
-    child: &Child<'s>,
-    flat: &mut Flat<'s>,
-) -> Result<(), NoMemory>
-    ensures flat { OnOk result (flat.new ≡ put_all (tokens_at path.now (nearest_view nearest.now) (child_view child.now)) flat.old) }
-    ensures at { OnOk result ((q : List (List ℕ)) → map.get flat.new q ≡ option_or (token_under path.now (nearest_view nearest.now) (child_view child.now) q) (map.get flat.old q)) }
+// The same where groups extend others.
+fn flatten_extending<'s>(alloc: Global, tree: &Group<'s>) -> Result<Flat<'s>, TreeFault<'s>>
+    ensures sound { OnOk result (IsSound (group_view tree.now)) }
+    ensures ok { IfOk result (λ f. IsFlat (group_view tree.now) f) }
+    ensures broken { IfErr result (λ e. IsTreeBreak (group_view tree.now) e) }
 {
-    match child {
-        Child::Token(def) => put_token(path, nearest, def, flat),
-        Child::Group(group) => put_group(alloc, path, nearest, group, flat),
-    }
-}
-
-fn put_token<'s>(
-    path: &Path<'s>,
-    nearest: &Nearest<'_, 's>,
-    def: &Rc<TokenDef<'s>>,
-    flat: &mut Flat<'s>,
-) -> Result<(), NoMemory>
-    ensures { OnOk result (flat.new ≡ map.insert flat.old path.now (flattened (nearest_view nearest.now) def.now.value)) }
-{
-    let def = def.clone()?;
-    let group_mark = copy_marks(nearest.mark)?;
-    flat.put(
-        path,
-        Entry {
-            def,
-            group_kind: nearest.kind,
-            group_mark,
-        },
-    )
+    let ready = checked(alloc, tree)?;
+    let table = expansions(
+        alloc,
+        ready.nodes.as_slice(),
+        ready.rows.as_slice(),
+        ready.order.as_slice(),
+    )?;
+    Ok(flat_of(alloc, &table[0])?)
 }

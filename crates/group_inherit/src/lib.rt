@@ -2,12 +2,13 @@
 //! Module 2025.10, sections on groups and on `$extends`).
 #![tactic(auto)]
 
+mod bare;
 mod checked;
 mod copying;
 mod entry;
 mod expanding;
 mod fault;
-mod flat;
+mod flat_tree;
 mod flattening;
 mod laws;
 mod merging;
@@ -17,9 +18,11 @@ mod sizes;
 mod targets;
 #[cfg(test)]
 mod tests;
+mod walking;
 
-pub use entry::{Entry, Flat};
+pub use entry::Entry;
 pub use fault::{FileSpan, TreeFault};
-pub use flat::flatten;
+pub use flat_tree::Flat;
+pub use flattening::flatten;
 pub use laws::{one_answer, over_by_name};
 pub use merging::over;

@@ -1,19 +1,21 @@
 //! One group over another.
 
-ghost use Rattle.std.specs.Prelude.{◌≡◌, IfOk, option_map, not};
+ghost use Rattle.std.specs.Prelude.{◌≡◌, Some, IfOk, OnOk, drop, map as map_list};
 ghost use Rattle.std.specs.FinMap as map;
 ghost use Rattle.token_tree.specs.Tree.{children_of};
-ghost use Rattle.token_tree.specs.Shown.{child_view, members_view, group_view};
+ghost use Rattle.token_tree.specs.Shown.{child_view, member_view, members_view, group_view};
 ghost use Rattle.group_inherit.specs.Merging.{over, over_members, over_child};
+ghost use Rattle.group_inherit.specs.Putting.{put_all};
 
-use crate::copying::{copy_child, copy_group, copy_marks, copy_target};
+use crate::copying::{copy_mark, copy_target};
 use std::alloc::Global;
+use std::cmp::Ordering;
 use tk_io::NoMemory;
-use token_tree::{Child, Group, Members};
+use token_tree::{Child, Group, Member, Members};
 
 /// The later group over the earlier one: each property of the later one that is given, else that of the earlier one, and
 /// the members of both. Two groups of one name are merged in the same way; in every other meeting the later member
-/// replaces the earlier one whole. Definitions are shared.
+/// replaces the earlier one whole. What does not meet is shared.
 #[cycle(over)]
 pub fn over<'s>(
     alloc: Global,
@@ -23,7 +25,7 @@ pub fn over<'s>(
     ensures { IfOk result (λ g. group_view g ≡ over (group_view later.now) (group_view earlier.now)) }
 {
     let members = over_members(alloc, &later.members, &earlier.members)?;
-    let deprecated = copy_marks(later.deprecated.as_ref().or(earlier.deprecated.as_ref()))?;
+    let deprecated = copy_mark(later.deprecated.as_ref().or(earlier.deprecated.as_ref()))?;
     let extends = copy_target(later.extends.as_ref().or(earlier.extends.as_ref()))?;
     Ok(Group {
         kind: later.kind.or(earlier.kind),
@@ -42,50 +44,84 @@ fn over_members<'s>(
 ) -> Result<Members<'s>, NoMemory>
     ensures { IfOk result (λ ms. members_view ms ≡ over_members (children_of (map.entries (members_view later.now))) (members_view earlier.now)) }
 {
-    let mut members = others(alloc, earlier, later)?;
-    for (name, child) in later.entries(alloc)?.as_slice() {
-        let child = over_child(alloc, child, earlier.get(name))?;
-        members.put(name, child)?;
+    if later.is_empty() {
+        return earlier.copy();
     }
+    merged(alloc, later, earlier)
+}
+
+// The members of both, in one pass over the two lists.
+#[cycle(over)]
+fn merged<'s>(
+    alloc: Global,
+    later: &Members<'s>,
+    earlier: &Members<'s>,
+) -> Result<Members<'s>, NoMemory>
+    ensures { IfOk result (λ ms. members_view ms ≡ over_members (children_of (map.entries (members_view later.now))) (members_view earlier.now)) }
+{
+    let upper = later.as_slice();
+    let lower = earlier.as_slice();
+    let mut members = Members::new(alloc);
+    let mut i = 0;
+    let mut j = 0;
+    while i < upper.len() && j < lower.len() {
+        let above = &upper[i];
+        let below = &lower[j];
+        match above.name.cmp(&below.name) {
+            Ordering::Less => {
+                put_copy(&mut members, above)?;
+                i += 1;
+            }
+            Ordering::Equal => {
+                let child = over_child(alloc, &above.child, &below.child)?;
+                members.put(&above.name, child)?;
+                i += 1;
+                j += 1;
+            }
+            Ordering::Greater => {
+                put_copy(&mut members, below)?;
+                j += 1;
+            }
+        }
+    }
+    put_from(&mut members, upper, i)?;
+    put_from(&mut members, lower, j)?;
     Ok(members)
 }
 
-// The later member over what has its name.
+// Adds the members of the list from the i-th on.
+fn put_from<'s>(members: &mut Members<'s>, list: &[Member<'s>], i: usize) -> Result<(), NoMemory>
+    ensures { OnOk result (members_view members.new ≡ put_all (drop i (map_list member_view list.now)) (members_view members.old)) }
+{
+    for k in i..list.len() {
+        put_copy(members, &list[k])?;
+    }
+    Ok(())
+}
+
+// Adds the member, whose child is shared.
+fn put_copy<'s>(members: &mut Members<'s>, member: &Member<'s>) -> Result<(), NoMemory>
+    ensures { OnOk result (members_view members.new ≡ map.insert (members_view members.old) member.now.name (child_view member.now.child)) }
+{
+    let child = member.child.copy()?;
+    members.put(&member.name, child)?;
+    Ok(())
+}
+
+// The later member over the earlier one of its name.
 #[cycle(over)]
 fn over_child<'s>(
     alloc: Global,
     later: &Child<'s>,
-    earlier: Option<&Child<'s>>,
+    earlier: &Child<'s>,
 ) -> Result<Child<'s>, NoMemory>
-    ensures { IfOk result (λ c. child_view c ≡ over_child (child_view later.now) (option_map (λ e. child_view e.now) earlier.entry)) }
+    ensures { IfOk result (λ c. child_view c ≡ over_child (child_view later.now) (Some (child_view earlier.now))) }
 {
     let Child::Group(upper) = later else {
-        return copy_child(alloc, later);
+        return later.copy();
     };
-    let Some(earlier) = earlier else {
-        return Ok(Child::Group(copy_group(alloc, upper)?));
+    let Child::Group(lower) = earlier else {
+        return later.copy();
     };
-    match earlier {
-        Child::Token(_) => Ok(Child::Group(copy_group(alloc, upper)?)),
-        Child::Group(lower) => Ok(Child::Group(over(alloc, upper, lower)?)),
-    }
-}
-
-// The members whose names the other group does not have.
-fn others<'s>(
-    alloc: Global,
-    members: &Members<'s>,
-    than: &Members<'s>,
-) -> Result<Members<'s>, NoMemory>
-    ensures { IfOk result (λ ms. members_view ms ≡ map.retain_keys (members_view members.now) (λ name. not (map.contains_key (members_view than.now) name))) }
-{
-    let mut kept = Members::new(alloc);
-    for (name, child) in members.entries(alloc)?.as_slice() {
-        if than.get(name).is_some() {
-            continue;
-        }
-        let copy = copy_child(alloc, child)?;
-        kept.put(name, copy)?;
-    }
-    Ok(kept)
+    Ok(Child::Group(over(alloc, upper, lower)?))
 }

@@ -28,13 +28,12 @@ pub(crate) fn numbered_groups<'t, 's>(
 {
     let mut nodes = Vec::new(alloc);
     let root = Path::new(alloc);
-    add_groups(alloc, &mut nodes, &root, tree)?;
+    add_groups(&mut nodes, &root, tree)?;
     Ok(nodes)
 }
 
 // Adds a group and those below it.
 fn add_groups<'t, 's>(
-    alloc: Global,
     nodes: &mut Vec<Node<'t, 's>>,
     path: &Path<'s>,
     group: &'t Group<'s>,
@@ -44,13 +43,13 @@ fn add_groups<'t, 's>(
 {
     let own = path.copy()?;
     nodes.push(Node { group, path: own })?;
-    for (name, child) in group.members.entries(alloc)?.as_slice() {
-        let Child::Group(inner) = child else {
+    for member in group.members.as_slice() {
+        let Child::Group(inner) = &member.child else {
             continue;
         };
         let mut below = path.copy()?;
-        below.push(name.copy()?)?;
-        add_groups(alloc, nodes, &below, inner)?;
+        below.push(member.name.copy()?)?;
+        add_groups(nodes, &below, inner)?;
     }
     Ok(())
 }

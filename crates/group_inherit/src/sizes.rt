@@ -17,11 +17,11 @@ use std::alloc::Global;
 use tk_io::NoMemory;
 use token_tree::Group;
 
-const MOST_TOKENS: u64 = 16_384;
+pub(crate) const MOST_TOKENS: u64 = 16_384;
 
-const HIGHEST: u64 = 64;
+pub(crate) const HIGHEST: u64 = 64;
 
-const LIMIT: u64 = 1_000_000;
+pub(crate) const LIMIT: u64 = 1_000_000;
 
 // How many members each group has.
 fn own_counts(alloc: Global, nodes: &[Node<'_, '_>]) -> Result<Vec<u64>, NoMemory>

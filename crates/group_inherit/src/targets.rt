@@ -56,11 +56,11 @@ fn child_numbers<'s>(
     ensures { IfOk result (λ row. map (λ v. Some v) row.items ≡ map (λ name. map_of.get places.now (node.now.path ++ name ∷ [])) (group_names (group_view node.now.group.now))) }
 {
     let mut row = Vec::new(alloc);
-    for (name, child) in node.group.members.entries(alloc)?.as_slice() {
-        let Child::Group(_) = child else {
+    for member in node.group.members.as_slice() {
+        let Child::Group(_) = &member.child else {
             continue;
         };
-        row.push(child_number(&node.path, name, places)?)?;
+        row.push(child_number(&node.path, &member.name, places)?)?;
     }
     Ok(row)
 }

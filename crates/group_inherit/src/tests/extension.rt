@@ -1,94 +1,71 @@
-//! Trees with the rules of extension that an independent reader finds broken in them.
+//! Trees whose groups extend others, with their tokens or the rules that an independent reader finds broken in them.
 
-use super::{flat_tree, tree_of};
+use super::{append_fault, outcome};
 use crate::checked::checked;
-use crate::{FileSpan, TreeFault};
-use name_path::{Path, print_group};
+use crate::one_answer;
+use name_path::Path;
 use std::alloc::{AllocError, Global};
 use std::test::Fail;
 use tk_io::{Bytes, NoMemory, Text};
 use token_tree::{Child, Extends, Group, Members};
 
-/// Files, with the groups and the span of the rule that each breaks. A ring is told from a lost target by the flag.
-static FILES: [(&str, Option<(bool, &[&str], usize, usize)>); 11] = [
-    ("{}", None),
+/// Files, and their tokens or the rule that each breaks with the groups and the span.
+static FILES: [(&str, &str); 14] = [
     (
-        "{\"a\":{\"$extends\":\"{b}\"},\"b\":{\"t\":{\"$value\":1}}}",
-        None,
+        r#"{"a":{"g":{"x":{"$value":1},"y":{"$value":2}},"$type":"color"},"b":{"$extends":"{a}","g":{"y":{"$value":3}},"$deprecated":true}}"#,
+        "a.g.x=1:color;a.g.y=2:color;b.g.x=1:color!yes;b.g.y=3:color!yes;",
     ),
     (
-        "{\"a\":{\"$extends\":\"{b}\"}}",
-        Some((false, &["#/a"], 17, 22)),
+        r##"{"base":{"$type":"number","$deprecated":true,"$root":{"$value":1},"in":{"x":{"$value":2},"y":{"$deprecated":false,"$value":3}}},"mid":{"$extends":"{base}","in":{"x":{"$value":5}}},"top":{"$extends":"#/mid"}}"##,
+        "base.$root=1:number!yes;base.in.x=2:number!yes;base.in.y=3:number!yes;mid.$root=1:number!yes;mid.in.x=5:number!yes;mid.in.y=3:number!yes;top.$root=1:number!yes;top.in.x=5:number!yes;top.in.y=3:number!yes;",
     ),
     (
-        "{\"b\":{\"$extends\":\"{x}\"},\"a\":{\"c\":{\"$extends\":\"{y.z}\"}}}",
-        Some((false, &["#/a/c"], 45, 52)),
+        r#"{"a":{"$extends":"{b}","t":{"u":{"$value":1}}},"b":{"t":{"$value":2},"s":{"$value":3}}}"#,
+        "a.s=3;a.t.u=1;b.s=3;b.t=2;",
+    ),
+    ("{}", ""),
+    (
+        r#"{"a":{"$extends":"{b}"},"b":{"t":{"$value":1}}}"#,
+        "a.t=1;b.t=1;",
+    ),
+    (r#"{"a":{"$extends":"{b}"}}"#, "lost #/a t:17-22"),
+    (
+        r#"{"b":{"$extends":"{x}"},"a":{"c":{"$extends":"{y.z}"}}}"#,
+        "lost #/a/c t:45-52",
     ),
     (
-        "{\"a\":{\"$extends\":\"{t}\"},\"t\":{\"$value\":1}}",
-        Some((false, &["#/a"], 17, 22)),
+        r#"{"a":{"$extends":"{t}"},"t":{"$value":1}}"#,
+        "lost #/a t:17-22",
     ),
-    ("{\"$extends\":\"#\"}", Some((true, &["#"], 12, 15))),
+    (r##"{"$extends":"#"}"##, "ring # t:12-15"),
+    (r##"{"a":{"$extends":"#"}}"##, "ring # #/a t:17-20"),
     (
-        "{\"a\":{\"$extends\":\"#\"}}",
-        Some((true, &["#", "#/a"], 17, 20)),
-    ),
-    (
-        "{\"a\":{\"$extends\":\"{a.b}\",\"b\":{\"$extends\":\"{a}\"}}}",
-        Some((true, &["#/a", "#/a/b"], 17, 24)),
+        r#"{"a":{"$extends":"{a.b}","b":{"$extends":"{a}"}}}"#,
+        "ring #/a #/a/b t:17-24",
     ),
     (
-        "{\"a\":{\"$extends\":\"{b}\"},\"b\":{\"$extends\":\"{c}\"},\"c\":{\"$extends\":\"{b}\"}}",
-        Some((true, &["#/b", "#/c"], 40, 45)),
+        r#"{"a":{"$extends":"{b}"},"b":{"$extends":"{c}"},"c":{"$extends":"{b}"}}"#,
+        "ring #/b #/c t:40-45",
     ),
     (
-        "{\"a\":{\"$extends\":\"{c.d}\"},\"c\":{\"d\":{\"$extends\":\"{c.e}\"},\"e\":{\"$extends\":\"{a}\"}}}",
-        Some((true, &["#/a", "#/c/d", "#/c/e"], 17, 24)),
+        r#"{"a":{"$extends":"{c.d}"},"c":{"d":{"$extends":"{c.e}"},"e":{"$extends":"{a}"}}}"#,
+        "ring #/a #/c/d #/c/e t:17-24",
     ),
     (
-        "{\"a\":{\"b\":{\"$extends\":\"{a}\"}},\"c\":{\"$extends\":\"{x}\"}}",
-        Some((false, &["#/c"], 46, 51)),
+        r#"{"a":{"b":{"$extends":"{a}"}},"c":{"$extends":"{x}"}}"#,
+        "lost #/c t:46-51",
     ),
 ];
 
-fn fault_of<'s>(alloc: Global, text: &'s str) -> Option<TreeFault<'s>> {
-    let tree = tree_of(alloc, text)?;
-    flat_tree(alloc, &tree).err()
-}
-
-fn are_paths(alloc: Global, paths: &[Path<'_>], wanted: &[&str]) -> Result<bool, NoMemory> {
-    if paths.len() != wanted.len() {
-        return Ok(false);
-    }
-    for (path, text) in paths.iter().zip(wanted.iter()) {
-        let mut printed = Bytes::new(alloc);
-        print_group(path, &mut printed)?;
-        if printed.as_slice() != text.as_bytes() {
-            return Ok(false);
-        }
-    }
-    Ok(true)
-}
-
-fn is_span(span: &FileSpan<'_>, start: usize, end: usize) -> bool {
-    span.file == "t" && span.start == start && span.end == end
-}
-
 #[test]
 fn files(rt: HostRuntime) -> Result<(), Fail> {
-    for (text, wanted) in &FILES {
-        match (fault_of(rt.alloc(), text), wanted) {
-            (None, None) => {}
-            (Some(TreeFault::ExtendsTarget(path, span)), Some((false, names, start, end))) => {
-                assert!(rt; are_paths(rt.alloc(), &[path], names)?, "{text}");
-                assert!(rt; is_span(&span, *start, *end), "{text}");
-            }
-            (Some(TreeFault::ExtendsCycle(ring, span)), Some((true, names, start, end))) => {
-                assert!(rt; are_paths(rt.alloc(), ring.as_slice(), names)?, "{text}");
-                assert!(rt; is_span(&span, *start, *end), "{text}");
-            }
-            _ => assert!(rt; false, "{text}"),
-        }
+    one_answer();
+    for (file, wanted) in &FILES {
+        assert_eq!(rt;
+            outcome(rt.alloc(), file)?.as_slice(),
+            wanted.as_bytes(),
+            "{file}"
+        );
     }
     Ok(())
 }
@@ -112,28 +89,31 @@ fn levels(alloc: Global, many: usize, twice: bool) -> Result<String, AllocError>
     Ok(text)
 }
 
+/// How many such groups there are, whether each has two child groups, and what rule they break.
+static SIZES: [(usize, bool, &str); 5] = [
+    (12, true, ""),
+    (13, true, "many 32752"),
+    (19, true, "many 1000000"),
+    (63, false, ""),
+    (64, false, "high 65"),
+];
+
 #[test]
 fn sizes(rt: HostRuntime) -> Result<(), Fail> {
-    let alloc = rt.alloc();
-    assert!(rt; fault_of(alloc, levels(alloc, 12, true)?.as_str()).is_none());
-    let many = levels(alloc, 13, true)?;
-    assert!(rt;
-        matches!(
-            fault_of(alloc, many.as_str()),
-            Some(TreeFault::TooManyTokens(32_752))
-        )
-    );
-    let most = levels(alloc, 19, true)?;
-    assert!(rt;
-        matches!(
-            fault_of(alloc, most.as_str()),
-            Some(TreeFault::TooManyTokens(1_000_000))
-        )
-    );
-    assert!(rt; fault_of(alloc, levels(alloc, 63, false)?.as_str()).is_none());
-    let high = levels(alloc, 64, false)?;
-    assert!(rt; matches!(fault_of(alloc, high.as_str()), Some(TreeFault::TooHigh(65))));
+    for (many, twice, wanted) in &SIZES {
+        let file = levels(rt.alloc(), *many, *twice)?;
+        assert_eq!(rt;
+            outcome(rt.alloc(), file.as_str())?.as_slice(),
+            wanted.as_bytes(),
+            "{many}"
+        );
+    }
     Ok(())
+}
+
+// Names in byte order, where there are fewer than 900,000.
+fn name_of(alloc: Global, i: usize) -> Result<Text<'static>, NoMemory> {
+    Ok(Text::owned(alloc, &format!(in alloc; "{}", i.saturating_add(100_000))?)?)
 }
 
 // A chain of groups, each of which extends the next.
@@ -141,7 +121,7 @@ fn chain(alloc: Global, many: usize) -> Result<Group<'static>, NoMemory> {
     let mut members = Members::new(alloc);
     for i in 0..many {
         let mut target = Path::new(alloc);
-        target.push(Text::owned(alloc, &format!(in alloc; "{}", i + 1)?)?)?;
+        target.push(name_of(alloc, i + 1)?)?;
         let extends = Extends {
             target,
             file: "t",
@@ -154,10 +134,7 @@ fn chain(alloc: Global, many: usize) -> Result<Group<'static>, NoMemory> {
             extends: if i + 1 < many { Some(extends) } else { None },
             members: Members::new(alloc),
         };
-        members.put(
-            &Text::owned(alloc, &format!(in alloc; "{i}")?)?,
-            Child::Group(group),
-        )?;
+        members.put(&name_of(alloc, i)?, Child::Group(group))?;
     }
     Ok(Group {
         kind: None,
@@ -167,24 +144,26 @@ fn chain(alloc: Global, many: usize) -> Result<Group<'static>, NoMemory> {
     })
 }
 
+fn fault_of(alloc: Global, tree: &Group<'_>) -> Result<Bytes, NoMemory> {
+    let mut out = Bytes::new(alloc);
+    if let Err(fault) = checked(alloc, tree) {
+        append_fault(alloc, &mut out, &fault)?;
+    }
+    Ok(out)
+}
+
+/// How long chains are, and what rule they break.
+static CHAINS: [(usize, &str); 2] = [(16_000, ""), (100_000, "many 100000")];
+
 #[test]
 fn long_chains(rt: HostRuntime) -> Result<(), Fail> {
-    let short = chain(rt.alloc(), 16_000)?;
-    match checked(rt.alloc(), &short) {
-        Ok(ready) => {
-            assert_eq!(rt;
-                (ready.nodes.len(), ready.rows.len(), ready.order.len()),
-                (16_001, 16_001, 16_001)
-            );
-        }
-        Err(_) => assert!(rt; false),
+    for (many, wanted) in &CHAINS {
+        let tree = chain(rt.alloc(), *many)?;
+        assert_eq!(rt;
+            fault_of(rt.alloc(), &tree)?.as_slice(),
+            wanted.as_bytes(),
+            "{many}"
+        );
     }
-    let long = chain(rt.alloc(), 100_000)?;
-    assert!(rt;
-        matches!(
-            checked(rt.alloc(), &long).err(),
-            Some(TreeFault::TooManyTokens(100_000))
-        )
-    );
     Ok(())
 }

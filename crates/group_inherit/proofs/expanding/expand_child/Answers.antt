@@ -2,7 +2,6 @@ use Rattle.std.proofs.Common.{◌+◌, ◌<◌, ◌∷◌, sym, ap, ◌∙◌, d
 use Rattle.std.proofs.lemmas.List.Elements.{All-get_or}
 use Rattle.token_tree.specs.Tree.{Child, a_group}
 use Rattle.token_tree.specs.Shown.{child_view}
-use Rattle.token_tree.proofs.Views.{child_group}
 use Rattle.group_inherit.specs.Expansion.{in_place, left_over}
 use Rattle.group_inherit.specs.Tables.{values_in}
 use Rattle.group_inherit.proofs.Tables.{value, value_read, values_first}
@@ -16,11 +15,10 @@ returns-then-next-row-clause-child c =
     let w = get_or row next 0 in
     let rest = values_in table (drop (next + 1) row) in
     let within : w < length table = All-get_or (λ x. x < length table) row next 0 c.if-next-row.true c.requires.row in
-    let is = ap child_view c.in-Group.is ∙ child_group c.in-Group.field-0 in
-    child_group c.in_ok-expanded-in-Group.expanded
-    ∙ (ap a_group (c.in_ok-expanded-in-Group.ensures ∙ sym (value_read table w c.index-table-row.result within c.index-table-row.is))
+    let is = ap child_view c.in-Group.is in
+    ap a_group (c.in_ok-expanded-in-Group.ensures ∙ sym (value_read table w c.index-table-row.result within c.index-table-row.is))
     ∙ (ap (λ (p : Child). in_place p (value table w ∷ rest)) (sym is)
-    ∙ ap (in_place (child_view c.args.child.now)) (sym (values_first table row next c.if-next-row.true))))
+    ∙ ap (in_place (child_view c.args.child.now)) (sym (values_first table row next c.if-next-row.true)))
 
 pub returns-then-next-row-clause-left : goal.returns-then-next-row-clause-left
 returns-then-next-row-clause-left c =
@@ -29,6 +27,6 @@ returns-then-next-row-clause-left c =
     let next = c.args.next in
     let w = get_or row next 0 in
     let rest = values_in table (drop (next + 1) row) in
-    let is = ap child_view c.in-Group.is ∙ child_group c.in-Group.field-0 in
+    let is = ap child_view c.in-Group.is in
     ap (λ (p : Child). left_over p (value table w ∷ rest)) (sym is)
     ∙ ap (left_over (child_view c.args.child.now)) (sym (values_first table row next c.if-next-row.true))

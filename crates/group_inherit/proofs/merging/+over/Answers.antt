@@ -1,13 +1,19 @@
-use Rattle.std.proofs.Common.{◌≡◌, option_map, arith, ap, ap₂, sym, ◌∙◌, refl}
+use Rattle.std.proofs.Common.{◌≡◌, ℕ, ◌<◌, true, T, List, [], inl, inr, ◌⊎◌, ◌==◌, drop, option_map, arith, ap, ap₂, sym, subst, ◌∙◌, refl}
 use Rattle.std.proofs.Common.{map as map_list}
+use Rattle.std.proofs.lemmas.Bool.Decides.{nat_tests}
+use Rattle.std.proofs.lemmas.Result.{IfOk-weaker}
 use Rattle.std.specs.FinMap as map
+use Rattle.std.specs.FinMap.Entries.{is_sorted}
+use Rattle.tk_io.specs.Order.{text_cmp}
 use Rattle.token_tree.specs.Tree.{Properties, group_with, children_of}
-use Rattle.token_tree.specs.Shown.{extends_view, child_view, members_view, properties_view}
+use Rattle.token_tree.specs.Shown.{extends_view, child_view, member_view, members_view, properties_view}
+use Rattle.token_tree.specs.declared.tree.Member.{Member}
 use Rattle.group_inherit.specs.Merging.{over_properties, over_members, over_child}
-use Rattle.group_inherit.specs.Putting.{put_all}
 use Rattle.group_inherit.proofs.Options.{copied_or, map_or}
-use Rattle.group_inherit.proofs.Overs.{all_laid, others, over_put, named_entries}
-use Rattle.group_inherit.proofs.Turns.{shown, none_left, entry_lighter, turn}
+use Rattle.group_inherit.proofs.Overs.{named_entries}
+use Rattle.group_inherit.proofs.Merges.{Entries, none_merged, later_turn, earlier_turn, both_turn, all_merged, over_of, over_nothing}
+use Rattle.group_inherit.proofs.Turns.{none_left, entry_lighter}
+use Rattle.group_inherit.proofs.merging.+over.Goals.{merged-then-loop-i-test+else-j-lower, merged-else-loop-i-test}
 use Rattle.group_inherit.proofs.merging.+over.Goals as goal
 
 pub over-returns : goal.over-returns
@@ -22,29 +28,72 @@ over-returns t c =
     λ i. record { kind = c.or-3.ensures i; deprecated = deprecated i; extends = extends i } in
     ap₂ group_with own (c.in_ok-members.ensures ∙ ap (over_members (children_of (map.entries (members_view l.members)))) (sym (named_entries (members_view e.members))))
 
-pub over_members-over_child-requires : goal.over_members-over_child-requires
-over_members-over_child-requires t c =
-    let items = c.as_slice-name-items.result.now in
-    let same = ap (map_list shown) c.as_slice-name-items.ensures.value ∙ c.in_ok-entries.ensures in
-    let h = entry_lighter items (map.entries (members_view c.args.later.now)) c.loop-name.name-index c.loop-name-item.result same c.loop-name-test.true c.loop-name-item.is in
+empty_of : (n : ℕ) → (n == 0) ≡ true → n ≡ 0
+empty_of n h = grind (arith, nat_tests)
+
+pub over_members-returns-then-is_empty : goal.over_members-returns-then-is_empty
+over_members-returns-then-is_empty t c =
+    let none : map.len c.args.later.now ≡ 0 = empty_of (map.len c.args.later.now) (sym c.is_empty.ensures ∙ c.if-is_empty.true) in
+    IfOk-weaker c.copy.result _ (λ ms. ms ≡ over_members (children_of (map.entries c.args.later.now)) c.args.earlier.now) (λ ms is. is ∙ sym (over_nothing c.args.later.now c.args.earlier.now none)) c.copy.ensures
+
+pub merged-over_child-requires : goal.merged-over_child-requires
+merged-over_child-requires t c =
+    let h = entry_lighter c.as_slice-upper.result.now (map.entries (members_view c.args.later.now)) c.loop-i.i c.index-upper-i.result c.as_slice-upper.ensures c.loop-i-test.true c.index-upper-i.is in
     (omega (arith, h, c.decreases), tt)
 
-pub over_members-loop-name-preserved : goal.over_members-loop-name-preserved
-over_members-loop-name-preserved t c =
-    let x = c.loop-name-item.result in
-    let earlier = members_view c.args.earlier.now in
-    turn (all_laid earlier) c.as_slice-name-items.result.now c.loop-name.name-index x x.0.now (over_child (child_view x.1.now) (map.get earlier x.0.now)) (members_view c.loop-name.members) (members_view c.put.new.self)
-    c.loop-name-test.true c.loop-name-item.is refl
-    (c.in_ok-put.ensures.ok ∙ ap (map.insert (members_view c.loop-name.members) x.0.now) (c.in_ok-child.ensures ∙ ap (over_child (child_view x.1.now)) c.get.ensures))
-    ∙ c.loop-name.invariant
+pub merged-loop-i-init : goal.merged-loop-i-init
+merged-loop-i-init t c = record {
+  upper = omega arith;
+  lower = omega arith;
+  at = none_merged (map_list member_view c.as_slice-upper.result.now) (map_list member_view c.as_slice-lower.result.now) c.new-members.result c.new-members.ensures;
+}
 
-pub over_members-returns : goal.over_members-returns
-over_members-returns t c =
-    let items = c.as_slice-name-items.result.now in
-    let later = members_view c.args.later.now in
-    let earlier = members_view c.args.earlier.now in
-    let same = ap (map_list shown) c.as_slice-name-items.ensures.value ∙ c.in_ok-entries.ensures in
-    ap (λ l. put_all (all_laid earlier l) (members_view c.loop-name.members)) (sym (none_left shown items c.loop-name.name-index c.loop-name-test.false))
-    ∙ (c.loop-name.invariant
-    ∙ (ap (λ l. put_all (all_laid earlier l) (others earlier later)) same
-    ∙ over_put later earlier))
+pub merged-loop-i-preserved-in-Less : goal.merged-loop-i-preserved-in-Less
+merged-loop-i-preserved-in-Less t c =
+    let s : T (is_sorted text_cmp (map_list member_view c.as_slice-upper.result.now)) = subst (λ (l : Entries). T (is_sorted text_cmp l)) (sym c.as_slice-upper.ensures) (map.entries_sorted c.args.later.now) in
+    let r : T (is_sorted text_cmp (map_list member_view c.as_slice-lower.result.now)) = subst (λ (l : Entries). T (is_sorted text_cmp l)) (sym c.as_slice-lower.ensures) (map.entries_sorted c.args.earlier.now) in
+    record {
+      upper = omega (arith, c.loop-i-test.true);
+      lower = c.loop-i.invariant.lower;
+      at = λ q. later_turn c.as_slice-upper.result.now c.as_slice-lower.result.now c.loop-i.i c.loop-i.j c.index-upper-i.result c.index-lower-j.result c.loop-i.members c.put_copy.new.members s r
+          c.loop-i-test.true c.if-j-lower.true c.index-upper-i.is c.index-lower-j.is (sym c.cmp.ensures ∙ c.in-Less.is) c.in_ok-put_copy-in-Less.ensures q
+          ∙ c.loop-i.invariant.at q;
+    }
+
+pub merged-loop-i-preserved-in-Equal : goal.merged-loop-i-preserved-in-Equal
+merged-loop-i-preserved-in-Equal t c =
+    let s : T (is_sorted text_cmp (map_list member_view c.as_slice-upper.result.now)) = subst (λ (l : Entries). T (is_sorted text_cmp l)) (sym c.as_slice-upper.ensures) (map.entries_sorted c.args.later.now) in
+    let r : T (is_sorted text_cmp (map_list member_view c.as_slice-lower.result.now)) = subst (λ (l : Entries). T (is_sorted text_cmp l)) (sym c.as_slice-lower.ensures) (map.entries_sorted c.args.earlier.now) in
+    record {
+      upper = omega (arith, c.loop-i-test.true);
+      lower = omega (arith, c.if-j-lower.true);
+      at = λ q. both_turn c.as_slice-upper.result.now c.as_slice-lower.result.now c.loop-i.i c.loop-i.j c.index-upper-i.result c.index-lower-j.result c.loop-i.members c.put.new.self s r
+          c.loop-i-test.true c.if-j-lower.true c.index-upper-i.is c.index-lower-j.is (child_view c.in_ok-child-in-Equal.child) (sym c.cmp.ensures ∙ c.in-Equal.is) c.in_ok-child-in-Equal.ensures c.in_ok-put-in-Equal.ensures.ok q
+          ∙ c.loop-i.invariant.at q;
+    }
+
+pub merged-loop-i-preserved : goal.merged-loop-i-preserved
+merged-loop-i-preserved t c =
+    let s : T (is_sorted text_cmp (map_list member_view c.as_slice-upper.result.now)) = subst (λ (l : Entries). T (is_sorted text_cmp l)) (sym c.as_slice-upper.ensures) (map.entries_sorted c.args.later.now) in
+    let r : T (is_sorted text_cmp (map_list member_view c.as_slice-lower.result.now)) = subst (λ (l : Entries). T (is_sorted text_cmp l)) (sym c.as_slice-lower.ensures) (map.entries_sorted c.args.earlier.now) in
+    record {
+      upper = c.loop-i.invariant.upper;
+      lower = omega (arith, c.if-j-lower.true);
+      at = λ q. earlier_turn c.as_slice-upper.result.now c.as_slice-lower.result.now c.loop-i.i c.loop-i.j c.index-upper-i.result c.index-lower-j.result c.loop-i.members c.put_copy-in-Greater.new.members s r
+          c.loop-i-test.true c.if-j-lower.true c.index-upper-i.is c.index-lower-j.is (sym c.cmp.ensures ∙ c.in-Greater.is) c.in_ok-put_copy-in-Greater.ensures q
+          ∙ c.loop-i.invariant.at q;
+    }
+
+pub merged-returns : goal.merged-returns
+merged-returns t c =
+    let upper : List Member = c.as_slice-upper.result.now in
+    let lower : List Member = c.as_slice-lower.result.now in
+    let s : T (is_sorted text_cmp (map_list member_view upper)) = subst (λ (l : Entries). T (is_sorted text_cmp l)) (sym c.as_slice-upper.ensures) (map.entries_sorted c.args.later.now) in
+    let r : T (is_sorted text_cmp (map_list member_view lower)) = subst (λ (l : Entries). T (is_sorted text_cmp l)) (sym c.as_slice-lower.ensures) (map.entries_sorted c.args.earlier.now) in
+    let ended : (drop c.loop-i.i (map_list member_view upper) ≡ []) ⊎ (drop c.loop-i.j (map_list member_view lower) ≡ []) =
+    elim c.loop-i-test.branch [
+      | merged-then-loop-i-test+else-j-lower w ↦ inr (none_left member_view lower c.loop-i.j w.if-j-lower.false)
+      | merged-else-loop-i-test w ↦ inl (none_left member_view upper c.loop-i.i w.loop-i-test.false)
+    ] in
+    over_of c.args.later.now c.args.earlier.now c.put_from-2.new.members (map_list member_view upper) (map_list member_view lower) c.as_slice-upper.ensures c.as_slice-lower.ensures
+    (all_merged (map_list member_view upper) (map_list member_view lower) c.loop-i.i c.loop-i.j c.loop-i.members c.put_from.new.members c.put_from-2.new.members s r ended c.loop-i.invariant.at c.in_ok-put_from.ensures c.in_ok-put_from-2.ensures)

@@ -4,81 +4,79 @@ use Rattle.std.specs.FinMap as map_of
 use Rattle.std.specs.FinMap.Entries.{is_sorted}
 use Rattle.tk_io.specs.Order.{text_cmp}
 use Rattle.token_tree.specs.Tree.{a_token, a_group, children_of}
-use Rattle.token_tree.specs.Shown.{child_view, members_view, group_view}
-use Rattle.token_tree.proofs.Views.{child_group}
+use Rattle.token_tree.specs.Shown.{member_view, child_view, members_view, group_view}
 use Rattle.group_inherit.specs.Extension.{groups_from, groups_among}
 use Rattle.group_inherit.specs.Numbering.{GroupAt}
 use Rattle.group_inherit.specs.NodeShown.{node_view, nodes_view}
 use Rattle.group_inherit.specs.declared.numbered.Node.{Node}
 use Rattle.group_inherit.proofs.Naming.{sorted_drop, sorted_lacks}
 use Rattle.group_inherit.proofs.Numbers.{Entries, Progress, past_token, past_group, size_in, size_at}
-use Rattle.group_inherit.proofs.Turns.{shown, first_left, none_left}
-use Rattle.group_inherit.proofs.TokenViews.{child_token}
+use Rattle.group_inherit.proofs.Turns.{first_left, none_left}
 use Rattle.group_inherit.proofs.numbered.+add_groups.Goals as goal
 
 pub add_groups-requires : goal.add_groups-requires
 add_groups-requires t c =
-    let items = c.as_slice-name-items.result.now in
+    let items = c.as_slice-member-items.result.now in
     let es : Entries = map_of.entries (members_view c.args.group.now.members) in
-    let i = c.loop-name.name-index in
-    let x = c.loop-name-item.result in
-    let same : map shown items ≡ es = ap (map shown) c.as_slice-name-items.ensures.value ∙ c.in_ok-entries.ensures in
-    let first : drop i es ≡ shown x ∷ drop (i + 1) es = subst (λ (l : Entries). drop i l ≡ shown x ∷ drop (i + 1) l) same (first_left shown items i x c.loop-name-test.true c.loop-name-item.is) in
-    let is : child_view x.1.now ≡ a_group (group_view c.in-Group.inner) = ap child_view c.in-Group.is ∙ child_group c.in-Group.inner in
-    (omega (arith, size_at es i (shown x) (drop (i + 1) es) first, ap size_in is, c.decreases), tt)
+    let i = c.loop-member.member-index in
+    let x = c.member-item.result in
+    let same : map member_view items ≡ es = c.as_slice-member-items.ensures in
+    let first : drop i es ≡ member_view x ∷ drop (i + 1) es = subst (λ (l : Entries). drop i l ≡ member_view x ∷ drop (i + 1) l) same (first_left member_view items i x c.loop-member-test.true c.member-item.is) in
+    let is : child_view x.child ≡ a_group (group_view c.in-Group.inner) = ap child_view c.in-Group.is in
+    (omega (arith, size_at es i (member_view x) (drop (i + 1) es) first, ap size_in is, c.decreases), tt)
 
-pub loop-name-preserved : goal.loop-name-preserved
-loop-name-preserved t c =
-    let items = c.as_slice-name-items.result.now in
+pub loop-member-preserved : goal.loop-member-preserved
+loop-member-preserved t c =
+    let items = c.as_slice-member-items.result.now in
     let es : Entries = map_of.entries (members_view c.args.group.now.members) in
-    let i = c.loop-name.name-index in
-    let x = c.loop-name-item.result in
-    let same : map shown items ≡ es = ap (map shown) c.as_slice-name-items.ensures.value ∙ c.in_ok-entries.ensures in
+    let i = c.loop-member.member-index in
+    let x = c.member-item.result in
+    let same : map member_view items ≡ es = c.as_slice-member-items.ensures in
     let left = drop (i + 1) es in
-    let first : drop i es ≡ shown x ∷ left = subst (λ (l : Entries). drop i l ≡ shown x ∷ drop (i + 1) l) same (first_left shown items i x c.loop-name-test.true c.loop-name-item.is) in
-    let is : child_view x.1.now ≡ a_group (group_view c.in-Group.inner) = ap child_view c.in-Group.is ∙ child_group c.in-Group.inner in
+    let first : drop i es ≡ member_view x ∷ left = subst (λ (l : Entries). drop i l ≡ member_view x ∷ drop (i + 1) l) same (first_left member_view items i x c.loop-member-test.true c.member-item.is) in
+    let is : child_view x.child ≡ a_group (group_view c.in-Group.inner) = ap child_view c.in-Group.is in
     let all = nodes_view c.push.new.self.items ++ groups_among c.args.path.now (children_of es) in
-    let nodes = nodes_view c.loop-name.nodes.items in
-    let p : Progress c.args.path.now all es nodes (shown x ∷ left) = subst (Progress c.args.path.now all es nodes) first c.loop-name.invariant in
-    let below : c.push-in-loop-name.new.self ≡ c.args.path.now ++ x.0.now ∷ [] =
+    let nodes = nodes_view c.loop-member.nodes.items in
+    let p : Progress c.args.path.now all es nodes (member_view x ∷ left) = subst (Progress c.args.path.now all es nodes) first c.loop-member.invariant in
+    let below : c.push-in-loop-member.new.self ≡ c.args.path.now ++ x.name ∷ [] =
     c.in_ok-push-2.ensures.ok ∙ (ap (λ (q : List (List ℕ)). q ++ c.in_ok-copy.field-0 ∷ []) c.in_ok-below.ensures ∙ ap (λ (n : List ℕ). c.args.path.now ++ n ∷ []) c.in_ok-copy.ensures) in
-    let added : nodes_view c.add_groups.new.nodes.items ≡ nodes ++ groups_from (c.args.path.now ++ x.0.now ∷ []) (group_view c.in-Group.inner) =
+    let added : nodes_view c.add_groups.new.nodes.items ≡ nodes ++ groups_from (c.args.path.now ++ x.name ∷ []) (group_view c.in-Group.inner) =
     c.in_ok-add_groups.ensures.all ∙ ap (λ (q : List (List ℕ)). nodes ++ groups_from q (group_view c.in-Group.inner)) below in
-    past_group c.args.path.now all es nodes (nodes_view c.add_groups.new.nodes.items) x.0.now (child_view x.1.now) left (group_view c.in-Group.inner) is
-    (sorted_lacks (shown x) left (subst (λ (l : Entries). T (is_sorted text_cmp l)) first (sorted_drop i es (map_of.entries_sorted (members_view c.args.group.now.members))))) added c.in_ok-add_groups.ensures.named p
+    past_group c.args.path.now all es nodes (nodes_view c.add_groups.new.nodes.items) x.name (child_view x.child) left (group_view c.in-Group.inner) is
+    (sorted_lacks (member_view x) left (subst (λ (l : Entries). T (is_sorted text_cmp l)) first (sorted_drop i es (map_of.entries_sorted (members_view c.args.group.now.members))))) added c.in_ok-add_groups.ensures.named p
 
-pub loop-name-preserved-in_default : goal.loop-name-preserved-in_default
-loop-name-preserved-in_default t c =
-    let items = c.as_slice-name-items.result.now in
+pub loop-member-preserved-in_default : goal.loop-member-preserved-in_default
+loop-member-preserved-in_default t c =
+    let items = c.as_slice-member-items.result.now in
     let es : Entries = map_of.entries (members_view c.args.group.now.members) in
-    let i = c.loop-name.name-index in
-    let x = c.loop-name-item.result in
-    let same : map shown items ≡ es = ap (map shown) c.as_slice-name-items.ensures.value ∙ c.in_ok-entries.ensures in
+    let i = c.loop-member.member-index in
+    let x = c.member-item.result in
+    let same : map member_view items ≡ es = c.as_slice-member-items.ensures in
     let left = drop (i + 1) es in
-    let first : drop i es ≡ shown x ∷ left = subst (λ (l : Entries). drop i l ≡ shown x ∷ drop (i + 1) l) same (first_left shown items i x c.loop-name-test.true c.loop-name-item.is) in
+    let first : drop i es ≡ member_view x ∷ left = subst (λ (l : Entries). drop i l ≡ member_view x ∷ drop (i + 1) l) same (first_left member_view items i x c.loop-member-test.true c.member-item.is) in
     let all = nodes_view c.push.new.self.items ++ groups_among c.args.path.now (children_of es) in
-    let nodes = nodes_view c.loop-name.nodes.items in
-    let p : Progress c.args.path.now all es nodes (shown x ∷ left) = subst (Progress c.args.path.now all es nodes) first c.loop-name.invariant in
-    past_token c.args.path.now all es nodes x.0.now (child_view x.1.now) left c.in_default.field-0.value (ap child_view c.in_default.is ∙ child_token c.in_default.field-0)
-    (sorted_lacks (shown x) left (subst (λ (l : Entries). T (is_sorted text_cmp l)) first (sorted_drop i es (map_of.entries_sorted (members_view c.args.group.now.members))))) p
+    let nodes = nodes_view c.loop-member.nodes.items in
+    let p : Progress c.args.path.now all es nodes (member_view x ∷ left) = subst (Progress c.args.path.now all es nodes) first c.loop-member.invariant in
+    past_token c.args.path.now all es nodes x.name (child_view x.child) left c.in_default.field-0.value (ap child_view c.in_default.is)
+    (sorted_lacks (member_view x) left (subst (λ (l : Entries). T (is_sorted text_cmp l)) first (sorted_drop i es (map_of.entries_sorted (members_view c.args.group.now.members))))) p
 
 pub returns : goal.returns
 returns t c =
-    let items = c.as_slice-name-items.result.now in
+    let items = c.as_slice-member-items.result.now in
     let es : Entries = map_of.entries (members_view c.args.group.now.members) in
-    let i = c.loop-name.name-index in
-    let same : map shown items ≡ es = ap (map shown) c.as_slice-name-items.ensures.value ∙ c.in_ok-entries.ensures in
-    let gone : drop i es ≡ [] = subst (λ (l : Entries). drop i l ≡ []) same (none_left shown items i c.loop-name-test.false) in
+    let i = c.loop-member.member-index in
+    let same : map member_view items ≡ es = c.as_slice-member-items.ensures in
+    let gone : drop i es ≡ [] = subst (λ (l : Entries). drop i l ≡ []) same (none_left member_view items i c.loop-member-test.false) in
     let g = c.args.group.now in
     let old = nodes_view c.args.nodes.now.items in
     let before = nodes_view c.push.new.self.items in
-    let after = nodes_view c.loop-name.nodes.items in
+    let after = nodes_view c.loop-member.nodes.items in
     let node : Node = record { group = c.args.group; path = c.in_ok-own.own } in
     let this : GroupAt = (c.args.path.now, group_view g) in
     let made : before ≡ old ++ this ∷ [] =
     ap nodes_view c.in_ok-push.ensures.items ∙ (map_push node_view c.args.nodes.now.items node ∙ ap (λ (p : List (List ℕ)). old ++ (p, group_view g) ∷ []) c.in_ok-own.ensures) in
     let rest = groups_among c.args.path.now (children_of es) in
-    let k : Progress c.args.path.now (before ++ rest) es after [] = subst (Progress c.args.path.now (before ++ rest) es after) gone c.loop-name.invariant in
+    let k : Progress c.args.path.now (before ++ rest) es after [] = subst (Progress c.args.path.now (before ++ rest) es after) gone c.loop-member.invariant in
     record {
       all = sym (append-nil after) ∙ (k.nodes_are ∙ (ap (λ (ns : List GroupAt). ns ++ rest) made ∙ append_assoc old (this ∷ []) rest));
       named = k.named tt;

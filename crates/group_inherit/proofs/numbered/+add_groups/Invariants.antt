@@ -11,7 +11,7 @@ abbrev pub decreases-add_groups : goal.decreases-add_groups
 decreases-add_groups l = size_of (group_view l.group.now)
 
 -- what is added so far, and what is left of the children
-abbrev pub invariant-loop-name : goal.invariant-loop-name
-invariant-loop-name l =
+abbrev pub invariant-loop-member : goal.invariant-loop-member
+invariant-loop-member l =
     let es = map_of.entries (members_view l.group.members) in
-    Progress l.path (nodes_view l.initial.nodes.items ++ groups_among l.path (children_of es)) es (nodes_view l.nodes.items) (drop l.name-index es)
+    Progress l.path (nodes_view l.initial.nodes.items ++ groups_among l.path (children_of es)) es (nodes_view l.nodes.items) (drop l.member-index es)

@@ -1,0 +1,60 @@
+-- Groups in which no group extends another, and how large they are.
+use Rattle.std.specs.Prelude.{◌≡◌, ℕ, suc, ◌+◌, max, min, List, [], ◌∷◌, None, T}
+use Rattle.std.specs.FinMap.Entries.{is_sorted}
+use Rattle.tk_io.specs.Order.{text_cmp}
+use Rattle.token_tree.specs.Tree.{Child, a_token, a_group, Group, group, Children, no_children, child}
+
+abbrev pub entries_in : Children → List (List ℕ × Child)
+entries_in no_children = []
+entries_in (child name c cs) = (name, c) ∷ entries_in cs
+
+abbrev mutual
+  -- no group extends another, and the children of each stand in byte order of names
+  pub IsBare : Group → Type 0
+  IsBare (group ps cs) = (ps.extends ≡ None) × T (is_sorted text_cmp (entries_in cs)) × AreBare cs
+
+  pub AreBare : Children → Type 0
+  AreBare no_children = Unit {0}
+  AreBare (child name c cs) = IsBareChild c × AreBare cs
+
+  pub IsBareChild : Child → Type 0
+  IsBareChild (a_token d) = Unit {0}
+  IsBareChild (a_group g) = IsBare g
+
+abbrev mutual
+  -- how many members there are, those of groups below included
+  pub members_of : Group → ℕ
+  members_of (group ps cs) = members_among cs
+
+  pub members_among : Children → ℕ
+  members_among no_children = 0
+  members_among (child name c cs) = suc (members_in c + members_among cs)
+
+  pub members_in : Child → ℕ
+  members_in (a_token d) = 0
+  members_in (a_group g) = members_of g
+
+abbrev mutual
+  -- how many levels there are down to the tokens
+  pub levels_of : Group → ℕ
+  levels_of (group ps cs) = levels_among cs
+
+  pub levels_among : Children → ℕ
+  levels_among no_children = 0
+  levels_among (child name c cs) = max (levels_in c) (levels_among cs)
+
+  pub levels_in : Child → ℕ
+  levels_in (a_token d) = 1
+  levels_in (a_group g) = levels_of g + 1
+
+-- a bare group, and how large it is, each number at most a million
+pub record IsSize (g : Group) (members levels : ℕ) : Type 0 where
+  pub bare : IsBare g
+  pub many : members ≡ min (members_of g) 1000000
+  pub high : levels ≡ min (levels_of g) 1000000
+
+-- the same of a child
+pub record IsChildSize (c : Child) (members levels : ℕ) : Type 0 where
+  pub bare : IsBareChild c
+  pub many : members ≡ min (members_in c) 1000000
+  pub high : levels ≡ min (levels_in c) 1000000
