@@ -239,14 +239,11 @@ leads_all old new ds i j p q leads =
     subst (λ x. AreChanges old new x) (append-nil ds) (leads [] (subst (λ x. AreChanges x (drop j new) []) (sym a) (subst (λ x. AreChanges [] x []) (sym b) no_changes)))
 
 -- the first of what is left, as a look-up at the index shows it
-pub at_head : (es : List (Bor (List ℕ) × Bor (List ℕ))) (i : ℕ) (head : Option (Bor (List ℕ) × Bor (List ℕ))) → head ≡ slice_get es i → slice_get (drop i (shown es)) 0 ≡ option_map shown_entry head
-at_head es i head e = head_drop i (shown es) ∙ (slice_get-map shown_entry es i ∙ ap (option_map shown_entry) (sym e))
+pub at_head : (es : Entries) (i : ℕ) (head : Option (Bor (List ℕ) × Bor (List ℕ))) → option_map shown_entry head ≡ slice_get es i → slice_get (drop i es) 0 ≡ option_map shown_entry head
+at_head es i head e = head_drop i es ∙ sym e
 
-pub at_none : (es : List (Bor (List ℕ) × Bor (List ℕ))) (i : ℕ) → None ≡ slice_get es i → slice_get (shown es) i ≡ None
-at_none es i e = slice_get-map shown_entry es i ∙ ap (option_map shown_entry) (sym e)
-
-pub step_bound : (es : List (Bor (List ℕ) × Bor (List ℕ))) (i m : ℕ) → i ≤ length es → m ≤ length (drop i (shown es)) → i + m ≤ length es
-step_bound es i m h l = omega (arith, length-drop i (shown es), length-map es shown_entry)
+pub step_bound : (es : Entries) (i m : ℕ) → i ≤ length es → m ≤ length (drop i es) → i + m ≤ length es
+step_bound es i m h l = omega (arith, length-drop i es)
 
 pub nearer : (i m j n a b : ℕ) → 0 < m + n → i + m ≤ a → j + n ≤ b → (a - (i + m)) + (b - (j + n)) < (a - i) + (b - j)
 nearer i m j n a b some p q = omega arith

@@ -1,10 +1,10 @@
 -- Pieces written one after another.
-use Rattle.std.proofs.Common.{◌≡◌, ℕ, zero, suc, List, [], ◌∷◌, ◌++◌, map, Option, Some, Result, Ok, Err, OnErr, refl, ap, subst, ◌∙◌, append_assoc}
+use Rattle.std.proofs.Common.{◌≡◌, ◌<◌, ℕ, zero, suc, List, [], ◌∷◌, ◌++◌, map, length, Option, Some, Result, Ok, Err, OnErr, refl, ap, subst, ◌∙◌, append_assoc, length-append, arith}
 use Rattle.std.proofs.lemmas.Option.{none-some, same_Some}
 use Rattle.std.specs.Io.KnownBytes.{Appends}
 use Rattle.std.specs.List.{slice_get}
 use Rattle.std.proofs.KnownBytes.{Appends-trans}
-use Rattle.tk_io.specs.Writing.{AppendsFront}
+use Rattle.tk_io.specs.Writing.{AppendsFront, AppendsPart}
 use Rattle.edit_script.specs.Delta.{ChangeData}
 use Rattle.edit_script.specs.Shown.{Lined, with_line}
 
@@ -16,22 +16,27 @@ pub on_err_then : {T E P Q : Type 0} (r : Result T E) → (P → Q) → OnErr r 
 on_err_then (Ok x) f p = tt
 on_err_then (Err e) f p = f p
 
--- a front of the first piece is a front of all
-pub front_more : (a b : Option (List ℕ)) (all piece rest : List ℕ) → AppendsFront a b piece → all ≡ piece ++ rest → AppendsFront a b all
-front_more a b all piece rest q e =
-    let (front, back, split, appended) = q in
-    (front, back ++ rest, e ∙ (ap (λ l. l ++ rest) split ∙ append_assoc front back rest), appended)
+-- a part of a piece is a front of it
+pub front_of_part : (a b : Option (List ℕ)) (piece : List ℕ) → AppendsPart a b piece → AppendsFront a b piece
+front_of_part a b piece q = let (front, back, split, some, appended) = q in (front, back, split, appended)
+
+-- a part of the first piece is a part of all
+pub part_more : (a b : Option (List ℕ)) (all piece rest : List ℕ) → AppendsPart a b piece → all ≡ piece ++ rest → AppendsPart a b all
+part_more a b all piece rest q e =
+    let (front, back, split, some, appended) = q in
+    (front, back ++ rest, e ∙ (ap (λ l. l ++ rest) split ∙ append_assoc front back rest), omega (arith, some, length-append back rest), appended)
 
 regroup : (a b c d : List ℕ) → a ++ ((b ++ c) ++ d) ≡ (a ++ b) ++ (c ++ d)
 regroup a b c d = simp append_assoc
 
--- what went before, and a front of the next piece
-pub front_after : (a b c : Option (List ℕ)) (all done piece rest : List ℕ) → Appends a b done → AppendsFront b c piece → all ≡ done ++ (piece ++ rest) → AppendsFront a c all
-front_after a b c all done piece rest p q e =
-    let (front, back, split, appended) = q in (
+-- what went before, and a part of the next piece
+pub part_after : (a b c : Option (List ℕ)) (all done piece rest : List ℕ) → Appends a b done → AppendsPart b c piece → all ≡ done ++ (piece ++ rest) → AppendsPart a c all
+part_after a b c all done piece rest p q e =
+    let (front, back, split, some, appended) = q in (
       done ++ front,
       back ++ rest,
       e ∙ (ap (λ l. done ++ (l ++ rest)) split ∙ regroup done front back rest),
+      omega (arith, some, length-append back rest),
       Appends-trans a b c done front p appended,
     )
 

@@ -1,8 +1,11 @@
 -- How two lists of outputs in path order are gone over together, path by path.
-use Rattle.std.specs.Prelude.{◌≡◌, ◌<◌, ◌≤◌, ℕ, ◌+◌, T, List, [], ◌∷◌, ◌++◌, Some, None, length, map, drop}
+use Rattle.std.specs.Prelude.{◌≡◌, ◌<◌, ◌≤◌, ℕ, ◌+◌, T, List, [], ◌∷◌, ◌++◌, Some, None, length, drop}
 use Rattle.std.specs.Borrow.{Bor}
 use Rattle.std.specs.FinMap.{find, is_sorted}
+use Rattle.std.specs.String.{string_bytes}
+use Rattle.std.specs.declared.string.String.{String}
 use Rattle.tk_io.specs.Order.{text_cmp}
+use Rattle.tk_io.specs.Shown.{shown_by}
 use Rattle.edit_script.specs.Delta.{ChangeData, change_of}
 use Rattle.edit_script.specs.declared.merging.Found.{Found}
 use Rattle.edit_script.specs.declared.merging.Found.TheVariants as found
@@ -11,12 +14,12 @@ use Rattle.edit_script.specs.declared.merging.Found.TheVariants as found
 abbrev pub Entries : Type 0
 Entries = List (List ℕ × List ℕ)
 
--- an entry by its path and bytes
+-- a path and bytes that are lent
 abbrev pub shown_entry : Bor (List ℕ) × Bor (List ℕ) → List ℕ × List ℕ
 shown_entry e = (e.0.now, e.1.now)
 
-abbrev pub shown : List (Bor (List ℕ) × Bor (List ℕ)) → Entries
-shown es = map shown_entry es
+abbrev pub shown : {Z : Type 0} → List (String Z × List ℕ) → Entries
+shown entries = shown_by string_bytes (λ body. body) entries
 
 -- the changes rise, and say of each path how it changed
 pub record AreChanges (old new : Entries) (cs : List ChangeData) : Type 0 where

@@ -3,7 +3,7 @@ ghost use Rattle.std.specs.Prelude.{◌≡◌, ◌+◌, ◌≤◌, ◌++◌, len
 ghost use Rattle.std.specs.Fmt.{decimal};
 ghost use Rattle.std.specs.Io.KnownBytes.{Appends};
 ghost use Rattle.tk_io.specs.Causes.{HasCause};
-ghost use Rattle.tk_io.specs.Writing.{AppendsFront};
+ghost use Rattle.tk_io.specs.Writing.{AppendsPart};
 ghost use Rattle.edit_script.specs.Stream.{line_text};
 
 use itoa::Buffer;
@@ -23,10 +23,10 @@ pub enum Line {
 /// Writes the line with its line end, as one piece.
 ///
 /// # Errors
-/// `Failed` only where the sink's faults rose; a front of the line was appended then.
+/// `Failed` only where the sink's faults rose; a part of the line was appended then, and not all of it.
 pub fn write_line<K: Sink>(out: &mut K, line: &Line) -> Result<(), Failed>
     ensures whole { OnOk result (Appends (K.written out.old) (K.written out.new) (line_text line.now)) }
-    ensures part { OnErr result (AppendsFront (K.written out.old) (K.written out.new) (line_text line.now)) }
+    ensures part { OnErr result (AppendsPart (K.written out.old) (K.written out.new) (line_text line.now)) }
     ensures cause { HasCause (K.faults out.old) (K.faults out.new) result }
 {
     match line {
@@ -40,7 +40,7 @@ pub fn write_line<K: Sink>(out: &mut K, line: &Line) -> Result<(), Failed>
 fn write_numbered<K: Sink>(out: &mut K, word: &[u8], number: u64) -> Result<(), Failed>
     requires { length word.now ≤ 7 }
     ensures whole { OnOk result (Appends (K.written out.old) (K.written out.new) (word.now ++ decimal number ++ codes "\n")) }
-    ensures part { OnErr result (AppendsFront (K.written out.old) (K.written out.new) (word.now ++ decimal number ++ codes "\n")) }
+    ensures part { OnErr result (AppendsPart (K.written out.old) (K.written out.new) (word.now ++ decimal number ++ codes "\n")) }
     ensures cause { HasCause (K.faults out.old) (K.faults out.new) result }
 {
     let mut buffer = Buffer::new();

@@ -1,7 +1,7 @@
 // The changes from some outputs to others.
 ghost use Rattle.std.specs.Prelude.{◌≡◌, ◌<◌, ◌^◌, T, List, map, ◌++◌, length, None, IfOk, OnOk, MatchOption};
 ghost use Rattle.std.specs.List.{slice_get};
-ghost use Rattle.std.specs.Option.{option_map};
+ghost use Rattle.std.specs.Option.{option_copied, option_map};
 ghost use Rattle.std.specs.FinMap.{is_sorted};
 ghost use Rattle.std.specs.FinMap as finite;
 ghost use Rattle.tk_io.specs.Order.{text_cmp};
@@ -13,7 +13,7 @@ use crate::record_line::{file_line, gone_line};
 use crate::{Change, Changes};
 use std::alloc::Global;
 use std::cmp::Ordering;
-use tk_io::{NoMemory, Outputs};
+use tk_io::{Bytes, NoMemory, Outputs};
 
 /// The changes from the old outputs to the new ones, in byte order of paths: gone where only the old have the path, and
 /// written where only the new have it or have other bytes there. An output that stays as it was has no change. Each
@@ -21,24 +21,22 @@ use tk_io::{NoMemory, Outputs};
 pub fn delta<'a>(alloc: Global, old: &'a Outputs, new: &'a Outputs) -> Result<Changes<'a>, NoMemory>
     ensures { IfOk result (λ cs. (d : Delta) × IsDelta old.entry.now new.entry.now d × (cs ≡ map with_line (finite.entries d))) }
 {
-    let old_entries = old.entries(alloc)?;
-    let new_entries = new.entries(alloc)?;
-    merge(alloc, old_entries.as_slice(), new_entries.as_slice())
+    merge(alloc, old.entries(), new.entries())
 }
 
-// A path with its bytes.
-type Entry<'a> = (&'a str, &'a [u8]);
+// The path of an output, with its bytes.
+type Entry = (String, Bytes);
 
 // The changes from one list of entries in path order to another.
-fn merge<'a>(alloc: Global, old: &[Entry<'a>], new: &[Entry<'a>]) -> Result<Changes<'a>, NoMemory>
-    requires old { T (is_sorted text_cmp (shown old.now)) × (length old.now < 2 ^ 64) }
-    requires new { T (is_sorted text_cmp (shown new.now)) × (length new.now < 2 ^ 64) }
-    ensures { IfOk result (λ cs. (ds : List ChangeData) × AreChanges (shown old.now) (shown new.now) ds × (cs ≡ map with_line ds)) }
+fn merge<'a>(alloc: Global, old: &'a [Entry], new: &'a [Entry]) -> Result<Changes<'a>, NoMemory>
+    requires old { T (is_sorted text_cmp (shown old.now)) × (length (shown old.now) < 2 ^ 64) }
+    requires new { T (is_sorted text_cmp (shown new.now)) × (length (shown new.now) < 2 ^ 64) }
+    ensures { IfOk result (λ cs. (ds : List ChangeData) × AreChanges (shown old.entry.now) (shown new.entry.now) ds × (cs ≡ map with_line ds)) }
 {
     let mut changes = Changes::new(alloc);
     let mut i = 0;
     let mut j = 0;
-    while let Some((found, olds, news)) = first_found(entry_at(old, i), entry_at(new, j)) {
+    while let Some((found, olds, news)) = first_found(output_at(old, i), output_at(new, j)) {
         add(alloc, &mut changes, found)?;
         i += olds;
         j += news;
@@ -47,10 +45,20 @@ fn merge<'a>(alloc: Global, old: &[Entry<'a>], new: &[Entry<'a>]) -> Result<Chan
 }
 
 // The i-th entry, counted from 0.
-fn entry_at<'a>(entries: &[Entry<'a>], i: usize) -> Option<Entry<'a>>
-    ensures { result ≡ slice_get entries.now i }
+fn entry_at(entries: &[Entry], i: usize) -> Option<&Entry>
+    ensures { option_copied result ≡ slice_get entries.now i }
 {
-    entries.get(i).copied()
+    entries.get(i)
+}
+
+// Its path and its bytes.
+fn output_at(entries: &[Entry], i: usize) -> Option<(&str, &[u8])>
+    ensures { option_map shown_entry result ≡ slice_get (shown entries.now) i }
+{
+    match entry_at(entries, i) {
+        Some((path, body)) => Some((path.as_str(), body.as_slice())),
+        None => None,
+    }
 }
 
 // What became of a path.
@@ -63,8 +71,8 @@ enum Found<'a> {
 // What became of the first path of two lists of entries, by their first entries, and how many entries of each list have
 // that path; none where both lists are empty.
 fn first_found<'a>(
-    old: Option<Entry<'a>>,
-    new: Option<Entry<'a>>,
+    old: Option<(&'a str, &'a [u8])>,
+    new: Option<(&'a str, &'a [u8])>,
 ) -> Option<(Found<'a>, usize, usize)>
     ensures { MatchOption result ((old.entry ≡ None) × (new.entry ≡ None))
         (λ s. (os : Entries) → (ns : Entries) → slice_get os 0 ≡ option_map shown_entry old.entry → slice_get ns 0 ≡ option_map shown_entry new.entry → IsStep os ns (found_changes s.0) s.1 s.2) }

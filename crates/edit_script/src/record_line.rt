@@ -2,7 +2,7 @@
 ghost use Rattle.std.specs.Prelude.{◌≡◌, Some, None, IfOk, OnOk, OnErr};
 ghost use Rattle.std.specs.Io.KnownBytes.{Appends};
 ghost use Rattle.tk_io.specs.Causes.{HasCause};
-ghost use Rattle.tk_io.specs.Writing.{AppendsFront};
+ghost use Rattle.tk_io.specs.Writing.{AppendsPart};
 ghost use Rattle.edit_script.specs.Shown.{lined_of, with_line};
 ghost use Rattle.edit_script.specs.Stream.{record_line, record_of};
 
@@ -40,11 +40,11 @@ pub(crate) fn file_line(alloc: Global, path: &str, bytes: &[u8]) -> Result<Bytes
 /// and then one 0x0A. The change carries its record's first line, as `delta` makes it.
 ///
 /// # Errors
-/// `Failed` only where the sink's faults rose; a front of the record was appended then.
+/// `Failed` only where the sink's faults rose; a part of the record was appended then, and not all of it.
 pub fn write_change<K: Sink>(out: &mut K, change: &Change<'_>) -> Result<(), Failed>
     requires { lined_of change.now ≡ with_line (lined_of change.now).0 }
     ensures whole { OnOk result (Appends (K.written out.old) (K.written out.new) (record_of (lined_of change.now).0)) }
-    ensures part { OnErr result (AppendsFront (K.written out.old) (K.written out.new) (record_of (lined_of change.now).0)) }
+    ensures part { OnErr result (AppendsPart (K.written out.old) (K.written out.new) (record_of (lined_of change.now).0)) }
     ensures cause { HasCause (K.faults out.old) (K.faults out.new) result }
 {
     match change {

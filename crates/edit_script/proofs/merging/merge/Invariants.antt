@@ -7,7 +7,7 @@ use Rattle.edit_script.proofs.Rising.{Leads}
 use Rattle.edit_script.proofs.merging.merge.Given as goal
 
 abbrev pub invariant-loop-found : goal.invariant-loop-found
-invariant-loop-found l = (l.i ≤ length l.old) × (l.j ≤ length l.new) × ((ds : List ChangeData) × (l.changes ≡ map with_line ds) × Leads (shown l.old) (shown l.new) ds l.i l.j)
+invariant-loop-found l = (l.i ≤ length (shown l.old)) × (l.j ≤ length (shown l.new)) × ((ds : List ChangeData) × (l.changes ≡ map with_line ds) × Leads (shown l.old) (shown l.new) ds l.i l.j)
 
 abbrev pub decreases-loop-found : goal.decreases-loop-found
-decreases-loop-found l = (length l.old - l.i) + (length l.new - l.j)
+decreases-loop-found l = (length (shown l.old) - l.i) + (length (shown l.new) - l.j)
