@@ -8,7 +8,7 @@ ghost use Rattle.name_path.specs.declared.place.Place.{Place};
 ghost use Rattle.name_path.specs.declared.reading.RefStop.TheVariants.{NoMemory as OutOfMemory};
 
 use crate::escapes::unescaped;
-use crate::pieces::{before, behind, pieces};
+use crate::pieces::{around, before, behind, pieces};
 use crate::{Path, Place, Trail};
 use std::alloc::Global;
 use tk_io::{NoMemory, Text};
@@ -80,6 +80,21 @@ pub fn read_curly<'s>(alloc: Global, text: &Text<'s>) -> Result<Path<'s>, RefSto
     Ok(path)
 }
 
+/// The step that a segment without `/` spells. One without `~` spells itself.
+fn step_of<'s>(alloc: Global, segment: &str) -> Result<Text<'s>, RefStop>
+    requires { All (λ b. b ≢ 47) segment.now }
+    ensures step { IfOk result (λ step. segment.now ≡ escaped step) }
+    ensures bad { IsErrOf result RefStop.BadRef → (step : List ℕ) → segment.now ≢ escaped step }
+{
+    match around(segment, '~') {
+        None => Ok(Text::owned(alloc, segment)?),
+        Some(_) => {
+            let step = unescaped(alloc, segment)?;
+            Ok(Text::owned(alloc, step.as_str())?)
+        }
+    }
+}
+
 /// The steps that the segments spell.
 fn decoded<'s>(alloc: Global, segments: &[&str]) -> Result<Trail<'s>, RefStop>
     requires { EachLacks 47 (texts_of segments.now) }
@@ -88,8 +103,7 @@ fn decoded<'s>(alloc: Global, segments: &[&str]) -> Result<Trail<'s>, RefStop>
 {
     let mut steps = Trail::new(alloc);
     for segment in segments {
-        let step = unescaped(alloc, segment)?;
-        steps.push(Text::owned(alloc, step.as_str())?)?;
+        steps.push(step_of(alloc, segment)?)?;
     }
     Ok(steps)
 }

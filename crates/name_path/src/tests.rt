@@ -243,6 +243,14 @@ fn keeps_values_in_path_order(rt: HostRuntime) -> Result<(), Fail> {
     assert_eq!(rt; value_at(&map, 0), 1);
     assert_eq!(rt; value_at(&map, 1), 2);
     assert_eq!(rt; value_at(&map, 2), 3);
+    assert_eq!(rt; map.as_slice().len(), 3);
+    for (value, name) in ["m", "c", "x", "b", "y"].iter().enumerate() {
+        put(&mut map, alloc, &[name], 10 + value as u8)?;
+    }
+    for (i, value) in [1, 2, 3, 13, 11, 10, 12, 14].iter().enumerate() {
+        assert_eq!(rt; value_at(&map, i), *value);
+    }
+    assert!(rt; map.at(8).is_none());
     let path = path_of(alloc, &["a", "b"])?;
     assert!(rt; map.get(&path).is_some());
     Ok(())
