@@ -1,7 +1,7 @@
 pub mod Scaling
 pub mod Digits
 pub mod Short
-pub mod Laws
+pub mod OneShortest
 pub mod SameNumber
 pub mod Placed
 pub mod LastDigits

@@ -6,7 +6,7 @@ use Rattle.std.proofs.Math.IntN.{pos-*ℤ-pos, negsuc-*ℤ-pos}
 use Rattle.std.proofs.lemmas.Int.{unsigned_abs-mul}
 use Rattle.dec_fix.specs.Decimal.{Decimal, IsSameNumber, IsShort, is_negative, signed, shortest, decimal_of}
 use Rattle.dec_fix.specs.Arithmetic.{times, over_1000}
-use Rattle.dec_fix.proofs.Laws.{shortest-same, shortest-short, short_once}
+use Rattle.dec_fix.proofs.OneShortest.{shortest-same, shortest-short, short_once}
 
 -- signs and sizes
 pub signed_same : (c : ℤ) → signed (is_negative c) (unsigned_abs c) ≡ c

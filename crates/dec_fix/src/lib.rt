@@ -9,12 +9,14 @@ mod arithmetic;
 mod bytes;
 mod decimal;
 mod front;
+mod laws;
 mod parts;
 mod reading;
 mod significand;
 mod writing;
 
 pub use decimal::{Dec, NotDec};
+pub use laws::{one_number, one_value, read_is_spelled, written_is_read};
 
 #[cfg(test)]
 mod tests;
