@@ -22,7 +22,7 @@ use Rattle.json_span.specs.declared.table.Span.{Span}
 use Rattle.json_span.proofs.Spans.{length-spans_of, length-member_spans, spans-push, member_spans-push, grown, closed, scalar_spans}
 use Rattle.json_span.specs.Building.{IsSmall, Opens, IsComma, IsClose, Gives, flaw_view, empty_tree}
 use Rattle.json_span.specs.ListsLeft.{list_left, then_elements, then_members, ElementsLeft, MembersLeft, ArrayLeft, ObjectLeft}
-use Rattle.json_span.specs.Names.{IsName, AreNames, names_flaw, names_of}
+use Rattle.json_span.specs.Names.{IsName, AreNames, names_flaw}
 use Rattle.json_span.specs.declared.names.NameSpan.{NameSpan}
 use Rattle.json_span.proofs.Naming.{are_push}
 use Rattle.json_span.specs.declared.kind.Bracket as declared
@@ -30,7 +30,7 @@ use Rattle.json_span.specs.declared.kind.Bracket.TheVariants.{Square, Curly}
 use Rattle.json_span.specs.declared.kind.Scalar.{Scalar}
 use Rattle.json_span.specs.declared.build.Built.TheVariants.{Whole, Flawed}
 use Rattle.json_span.specs.declared.flaw.Flaw as declared_flaw
-use Rattle.json_span.specs.declared.flaw.Flaw.TheVariants.{Dup, Deep}
+use Rattle.json_span.specs.declared.flaw.Flaw.TheVariants.{Deep}
 use Rattle.json_span.proofs.Steered.{honest_json}
 use Rattle.json_span.proofs.Scans as scan
 use Rattle.json_span.proofs.Skips as skip

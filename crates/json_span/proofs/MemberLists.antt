@@ -1,5 +1,5 @@
 -- The turns of building an object.
-use Rattle.std.proofs.Common.{◌≡◌, ℕ, ◌≤◌, List, [], ◌∷◌, ◌++◌, length, drop, true, false, Bool, cond, ◌||◌, not, refl, sym, ap, ◌∙◌, subst, arith, length-drop, Option, Some, None}
+use Rattle.std.proofs.Common.{◌≡◌, ℕ, ◌≤◌, List, [], ◌∷◌, ◌++◌, length, drop, true, false, Bool, cond, refl, sym, ap, ◌∙◌, subst, arith, length-drop, Option, Some, None}
 use Rattle.grammar.specs.Grammar.{seq, Reads}
 use Rattle.grammar.specs.Predict.{Steers, on_both}
 use Rattle.grammar.proofs.Predicts.{reads}

@@ -1,5 +1,5 @@
 -- The names of an object's members, as a builder keeps them.
-use Rattle.std.specs.Prelude.{◌≡◌, ℕ, ◌+◌, ◌-◌, ◌≤◌, true, List, [], ◌∷◌, take, drop, slice_range, Option, Some, None, if◌then◌else◌}
+use Rattle.std.specs.Prelude.{◌≡◌, ℕ, ◌+◌, ◌-◌, ◌≤◌, true, List, [], ◌∷◌, drop, slice_range, Option, Some, None, if◌then◌else◌}
 use Rattle.grammar.specs.Grammar.{named}
 use Rattle.json_span.specs.Grammar.{string}
 use Rattle.json_span.specs.Tree.{Entry}

@@ -1,4 +1,4 @@
-use Rattle.std.proofs.Common.{◌≡◌, [], ◌∷◌, ◌++◌, length, drop, take, true, false, refl, sym, ◌∙◌, ap, subst, arith, rules, append-nil, Ok, Some, option_map}
+use Rattle.std.proofs.Common.{◌≡◌, [], ◌∷◌, ◌++◌, true, false, refl, sym, ◌∙◌, subst, arith, rules, append-nil, Ok, option_map}
 use Rattle.json_span.specs.Names.{AreNames, names_flaw}
 use Rattle.std.proofs.lemmas.Result.{err_from_is_err_and}
 use Rattle.json_span.specs.Steered.{square, curly}

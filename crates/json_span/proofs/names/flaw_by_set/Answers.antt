@@ -1,6 +1,4 @@
-use Rattle.std.proofs.Common.{◌≡◌, ◌<◌, length, get_or, Some, true, false, rules, sym, ap, ◌∙◌, subst}
-use Rattle.std.specs.BTreeSet.{contains}
-use Rattle.tk_io.specs.Order.{text_cmp}
+use Rattle.std.proofs.Common.{◌≡◌, get_or, Some, rules, sym, ap, ◌∙◌, subst}
 use Rattle.std.proofs.lemmas.Option.{slice_get-get_or}
 use Rattle.json_span.specs.Table.{IsString}
 use Rattle.json_span.proofs.Naming as naming

@@ -1,6 +1,5 @@
-use Rattle.std.proofs.Common.{◌≡◌, ◌<◌, length, get_or, Some, true, false, rules, sym, ap, ◌∙◌}
+use Rattle.std.proofs.Common.{get_or, Some, rules, sym, ap, ◌∙◌}
 use Rattle.std.proofs.lemmas.Option.{slice_get-get_or}
-use Rattle.json_span.specs.Table.{IsString}
 use Rattle.json_span.proofs.Naming as naming
 use Rattle.json_span.proofs.names.flaw_in_pairs.Goals as goal
 

@@ -1,9 +1,8 @@
-use Rattle.std.proofs.Common.{◌≡◌, ◌+◌, ◌<◌, ◌∷◌, [], take, length, Some, true, false, rules, sym, ap, ◌∙◌, subst, arith}
-use Rattle.std.specs.Prelude.{slice_get}
+use Rattle.std.proofs.Common.{◌≡◌, ◌<◌, [], take, length, true, false, rules, sym, ap, ◌∙◌, subst}
 use Rattle.std.specs.Str.{bytes_eq}
 use Rattle.std.proofs.lemmas.Option.{slice_get-get_or}
 use Rattle.json_span.specs.Flaw.{is_seen}
-use Rattle.json_span.specs.Names.{IsName, names_of}
+use Rattle.json_span.specs.Names.{names_of}
 use Rattle.json_span.proofs.Naming as naming
 use Rattle.json_span.proofs.names.is_before.Goals as goal
 

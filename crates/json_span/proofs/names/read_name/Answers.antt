@@ -1,4 +1,4 @@
-use Rattle.std.proofs.Common.{◌≡◌, ◌+◌, ◌<◌, length, drop, true, refl, sym, subst, arith, rules}
+use Rattle.std.proofs.Common.{◌+◌, ◌<◌, length, drop, refl, sym, subst, arith}
 use Rattle.std.proofs.lemmas.Result.{err_from_is_err_and}
 use Rattle.std.specs.Prelude.{slice_range}
 use Rattle.json_span.specs.Reading.{StringAt}
