@@ -38,3 +38,5 @@ pub mod Unders
 pub mod Lying
 pub mod Fitting
 pub mod Matching
+pub mod InOrder
+pub mod FirstFlaw

@@ -5,6 +5,7 @@ use Rattle.json_span.proofs.Unique.{shows_one}
 use Rattle.json_span.proofs.Answered.{answered}
 use Rattle.json_span.proofs.Slices.{slices_show}
 use Rattle.json_span.proofs.OneAnswer.{text_shows, shows_text, one_answer}
+use Rattle.json_span.proofs.FirstFlaw.{first_is_least, none_is_none}
 use Rattle.json_span.proofs.laws.json_laws.Goals as goal
 
 pub returns : goal.returns
@@ -15,4 +16,6 @@ returns c = record {
   answer = one_answer;
   answered = answered;
   slices = slices_show;
+  first = first_is_least;
+  none = none_is_none;
 }
