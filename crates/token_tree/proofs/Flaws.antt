@@ -8,7 +8,7 @@ left_none : (a b : Option Flaw) → or_else a b ≡ None → a ≡ None
 left_none None b e = refl
 left_none (Some x) b e = cc
 
-right_none : (a b : Option Flaw) → or_else a b ≡ None → b ≡ None
+pub right_none : (a b : Option Flaw) → or_else a b ≡ None → b ≡ None
 right_none None b e = e
 right_none (Some x) b e = cc
 
@@ -16,11 +16,11 @@ both_none : (a b : Option Flaw) → a ≡ None → b ≡ None → or_else a b �
 both_none a b p q = ap (λ x. or_else x b) p ∙ q
 
 -- a name is not seen before, and what follows has no flaw
-not_seen : (t : Bool) (f : Flaw) (o : Option Flaw) → cond t (Some f) o ≡ None → t ≡ false
+pub not_seen : (t : Bool) (f : Flaw) (o : Option Flaw) → cond t (Some f) o ≡ None → t ≡ false
 not_seen true f o e = cc
 not_seen false f o e = refl
 
-rest_none : (t : Bool) (f : Flaw) (o : Option Flaw) → cond t (Some f) o ≡ None → o ≡ None
+pub rest_none : (t : Bool) (f : Flaw) (o : Option Flaw) → cond t (Some f) o ≡ None → o ≡ None
 rest_none true f o e = cc
 rest_none false f o e = e
 

@@ -1,15 +1,15 @@
 -- Groups, member by member.
-use Rattle.std.proofs.Common.{◌≡◌, ℕ, ◌+◌, Bool, true, false, not, List, [], ◌++◌, drop, Some, None, refl, sym, ap, ◌∙◌, cond}
+use Rattle.std.proofs.Common.{◌≡◌, ℕ, Bool, true, false, not, List, ◌++◌, Some, None, refl, sym, ap, ◌∙◌, cond}
 use Rattle.std.specs.Prelude.{slice_get}
-use Rattle.json_span.specs.Tree.{Tree, a_null, a_boolean, a_number, a_string, an_array, an_object, Placed, placed, Entry, entries_in, members_of, tree_of, object_in}
+use Rattle.json_span.specs.Tree.{Tree, a_null, a_boolean, a_number, a_string, an_array, an_object, Placed, placed, Entry, entries_in, members_of, tree_of, start_of, end_of, object_in}
 use Rattle.json_span.proofs.Views.{entries_in-of}
+use Rattle.token_tree.specs.declared.fault.Rule.{Rule}
 use Rattle.token_tree.specs.declared.fault.Rule.TheVariants as rule
-use Rattle.token_tree.specs.Tree.{Named, a_token, a_group}
+use Rattle.token_tree.specs.Tree.{a_token, a_group}
 use Rattle.token_tree.specs.Answer.{AreMembers}
-use Rattle.token_tree.specs.Shape.{members_in, entries_at, is_object, are_token, is_token, at_value, token_breaks, group_member_breaks, group_breaks, child_breaks, shape_breaks, put_children, put_child, child_of, def_of, group_of}
+use Rattle.token_tree.specs.Shape.{Break, members_in, entries_at, is_object, are_token, is_token, at_value, token_breaks, group_breaks, child_breaks, shape_breaks, child_of, def_of, group_of}
 use Rattle.token_tree.proofs.Keeps.{members_again}
 use Rattle.token_tree.proofs.Sound.{entries_are}
-use Rattle.token_tree.proofs.Steps.{next}
 
 -- a value with members is an object of these
 pub object_is : (v : Tree) (es : List Entry) → object_in v ≡ Some es → v ≡ an_object (members_of es)
@@ -27,18 +27,6 @@ no_object (a_number k) e = refl
 no_object (a_string s) e = refl
 no_object (an_array ns) e = refl
 no_object (an_object ms) e = absurd (cc)
-
-pub next_group_breaks : (es : List Entry) (i : ℕ) (e : Entry) → slice_get es i ≡ Some e → group_breaks (members_of (drop i es)) ≡ group_member_breaks e (child_breaks e.value) ++ group_breaks (members_of (drop (i + 1) es))
-next_group_breaks es i e g = ap (λ z. group_breaks (members_of z)) (next es i e g)
-
-pub none_in_member : (es : List Entry) (i : ℕ) (e : Entry) → slice_get es i ≡ Some e → group_member_breaks e (child_breaks e.value) ≡ [] → group_breaks (members_of (drop (i + 1) es)) ≡ group_breaks (members_of (drop i es))
-none_in_member es i e g h = sym (next_group_breaks es i e g ∙ ap (λ z. z ++ group_breaks (members_of (drop (i + 1) es))) h)
-
-pub next_children : (file text : List ℕ) (es : List Entry) (i : ℕ) (e : Entry) (old new : Named) → slice_get es i ≡ Some e → new ≡ put_child file text e old
-    → put_children file text (members_of (drop (i + 1) es)) new ≡ put_children file text (members_of (drop i es)) old
-next_children file text es i e old new g h =
-    ap (put_children file text (members_of (drop (i + 1) es))) h
-    ∙ sym (ap (λ z. put_children file text (members_of z) old) (next es i e g))
 
 if_true : {A : Type 0} (b : Bool) (x y : A) → b ≡ true → cond b x y ≡ x
 if_true b x y e = ap (λ t. cond t x y) e
@@ -65,6 +53,14 @@ pub group_child : (file text : List ℕ) (n : Placed) (es : List Entry) → AreM
 group_child file text (placed v start end) es h t =
     if_false (is_token (placed v start end)) (a_token (def_of file text (placed v start end))) (a_group (group_of file text v)) (token_is (placed v start end) es h ∙ t)
     ∙ ap (λ z. a_group (group_of file text z)) h
+
+pub token_child : (file text : List ℕ) (n : Placed) (es : List Entry) → AreMembers n es → are_token es ≡ true → child_of file text n ≡ a_token (def_of file text n)
+token_child file text (placed v start end) es h t =
+    if_true (is_token (placed v start end)) (a_token (def_of file text (placed v start end))) (a_group (group_of file text v)) (token_is (placed v start end) es h ∙ t)
+
+-- the first of these breaks
+pub first_at : (r : Rule) (n : Placed) (bs : List Break) (s e : ℕ) → s ≡ start_of n → e ≡ end_of n → slice_get (at_value r n ++ bs) 0 ≡ Some (record { rule = r; start = s; end = e })
+first_at r n bs s e p q = λ i. Some (record { rule = r; start = sym p i; end = sym q i })
 
 -- the root
 

@@ -1,4 +1,5 @@
 pub mod SortedLists
+pub mod StableSorts
 pub mod NameLists
 pub mod Names
 pub mod Targets
@@ -9,6 +10,7 @@ pub mod Flaws
 pub mod Moved
 pub mod Sound
 pub mod Places
+pub mod Children
 pub mod Keeps
 pub mod Groups
 pub mod Views

@@ -1,19 +1,26 @@
 -- Lists of members in the order of their names: the lemmas on sorted lists at the order of texts.
-use Rattle.std.proofs.Common.{◌≡◌, ℕ, zero, suc, ◌+◌, ◌-◌, ◌<◌, ◌≤◌, T, List, [], ◌∷◌, length, get_or, set, Some, None, Result, Ok, Err, OnOk, OnErr, Less, Equal, Greater, refl, sym, ap, subst, ◌∙◌, arith}
+use Rattle.std.proofs.Common.{◌≡◌, ℕ, zero, suc, ◌+◌, ◌-◌, ◌<◌, ◌≤◌, T, List, [], ◌∷◌, length, get_or, set, Some, None, Result, Ok, Err, OnOk, OnErr, Bool, Bor, Ordering, Less, Equal, Greater, refl, sym, ap, subst, ◌∙◌, arith}
 use Rattle.std.proofs.lemmas.List.{length-map}
 use Rattle.std.specs.Cmp.Lexicographic.{nat_list_cmp_total}
 use Rattle.std.specs.FinMap as finite
 use Rattle.std.specs.FinMap.{is_sorted, find, put}
 use Rattle.std.specs.FinMap.Entries.{is_sorted-put}
+use Rattle.std.specs.Fn.{Called}
 use Rattle.std.specs.List.{insert}
+use Rattle.std.specs.List.Sorted.{IsSortedBy, IsStableBy, IsSortedByClosure, IsStableByClosure}
+use Rattle.std.specs.Ordering.{is_lt}
+use Rattle.std.proofs.lemmas.Fn.{always_returns_same}
+use Rattle.std.proofs.lemmas.List.Sorted.{ranks_by}
+use denote.Param.Members.{Mut}
 use Rattle.tk_io.specs.Order.{text_cmp}
 use Rattle.tk_io.proofs.TextMaps.{text_cmp-IsAntisymmetric}
 use Rattle.token_tree.specs.Tree.{Child as ChildData, Named}
 use Rattle.token_tree.specs.Shown.{member_view, child_view}
-use Rattle.token_tree.specs.Listed.{entries_of, entries_in, named_in, IsPlaceOf, IsGapFor}
+use Rattle.token_tree.specs.Listed.{entries_of, entries_in, named_in, IsPlaceOf, IsGapFor, NamesApart}
 use Rattle.token_tree.specs.declared.tree.Member.{Member}
 use Rattle.token_tree.specs.declared.tree.Members.TheInside.{Inside}
 use Rattle.token_tree.proofs.SortedLists as sorted
+use Rattle.token_tree.proofs.StableSorts as stable
 
 -- what a comparison with the member at a place says
 
@@ -88,3 +95,22 @@ either_sorted (Err x) name c old new s ok err = subst (λ l. T (is_sorted text_c
 pub where_ok : {A B : Type 0} {P Q : Type 0} (r : Result A B) → (P → Q) → OnOk r P → OnOk r Q
 where_ok (Ok x) f p = f p
 where_ok (Err x) f p = tt
+
+-- a sort by names
+
+abbrev pub before : Member → Member → Bool
+before x y = is_lt (text_cmp x.name y.name)
+
+pub sorts : {F : Type 0} {g : Mut F (Bor Member × (Bor Member × Unit {0})) Ordering} {f : F} (list : List Member) → IsSortedByClosure g f list
+    → ((a : Bor Member × (Bor Member × Unit {0})) (r : Ordering) (f' : F) → Called g f a r f' → (r ≡ text_cmp a.0.now.name a.1.0.now.name) × (f' ≡ f)) → IsSortedBy before list
+sorts {g = g} {f = f} list s h = s before (ranks_by nat_list_cmp_total (λ m. m.name)) (always_returns_same g (λ a r. is_lt r ≡ before a.0.now a.1.0.now) f (λ a r f' k. (ap is_lt (h a r f' k).0, (h a r f' k).1)))
+
+pub keeps_ties : {F : Type 0} {g : Mut F (Bor Member × (Bor Member × Unit {0})) Ordering} {f : F} (old new : List Member) → IsStableByClosure g f old new
+    → ((a : Bor Member × (Bor Member × Unit {0})) (r : Ordering) (f' : F) → Called g f a r f' → (r ≡ text_cmp a.0.now.name a.1.0.now.name) × (f' ≡ f)) → IsStableBy before old new
+keeps_ties {g = g} {f = f} old new s h = s before (ranks_by nat_list_cmp_total (λ m. m.name)) (always_returns_same g (λ a r. is_lt r ≡ before a.0.now a.1.0.now) f (λ a r f' k. (ap is_lt (h a r f' k).0, (h a r f' k).1)))
+
+pub in_order : (old new : List Member) → NamesApart old → IsSortedBy before new → IsStableBy before old new → T (is_sorted text_cmp (entries_of new))
+in_order old new = stable.sorted_strictly nat_list_cmp_total text_cmp-IsAntisymmetric member_view old new
+
+pub same_map : (old new : List Member) → T (is_sorted text_cmp (entries_of new)) → IsStableBy before old new → finite.from_sorted {R = text_cmp} (entries_of new) ≡ finite.from_entries (entries_of old)
+same_map old new = stable.same_sorted nat_list_cmp_total text_cmp-IsAntisymmetric member_view old new

@@ -1,10 +1,12 @@
 -- Parts of parts, and where the values of members stand.
-use Rattle.std.proofs.Common.{◌≡◌, ℕ, zero, suc, List, [], ◌∷◌, Some, subst, sym}
+use Rattle.std.proofs.Common.{◌≡◌, ℕ, zero, suc, ◌+◌, List, [], ◌∷◌, Some, None, subst, sym}
 use Rattle.std.specs.Prelude.{slice_get}
-use Rattle.json_span.specs.Tree.{Tree, Placed, placed, Elements, Members, Entry, members_of, under}
+use Rattle.json_span.specs.Tree.{Tree, Placed, placed, Elements, Members, Entry, an_object, members_of, under}
+use Rattle.json_span.specs.Flaw.{too_deep, most_open, flaw_at}
 use Rattle.json_span.specs.Parts.{IsPart, itself, inside, IsIn, in_array, in_object, IsElement, this_element, later_element, IsMember, this_member, later_member}
-use Rattle.token_tree.specs.Answer.{AreMembers, EachStands}
+use Rattle.token_tree.specs.Answer.{AreMembers, EachStands, NamesDiffer}
 use Rattle.token_tree.specs.Promise.{StandsIn}
+use Rattle.token_tree.proofs.Flaws.{part_flawless}
 use Rattle.token_tree.proofs.Sound.{among}
 
 mutual
@@ -45,3 +47,14 @@ under_part n es name m h u = let a = among name es m u in subst (λ z. IsPart z 
 
 pub under_stands : (text : List ℕ) (n : Placed) (es : List Entry) → AreMembers n es → StandsIn text n → (name : List ℕ) (m : Placed) → under name es ≡ Some m → StandsIn text m
 under_stands text n es h s name m u = part_stands text m n (under_part n es name m h u) s
+
+-- the names of an object that stands in a text without a flaw differ
+roomed : (v : Tree) (room start : ℕ) (es : List Entry) → v ≡ an_object (members_of es) → flaw_at room start v ≡ None → NamesDiffer es
+roomed v zero start es h f = absurd (no_room (subst (λ z. flaw_at zero start z ≡ None) h f))
+  where
+    no_room : Some (too_deep start (start + 1)) ≡ None → ⊥
+    no_room e = cc
+roomed v (suc room) start es h f = (room, subst (λ z. flaw_at (suc room) start z ≡ None) h f)
+
+pub names_differ : (text : List ℕ) (n : Placed) (es : List Entry) → AreMembers n es → StandsIn text n → NamesDiffer es
+names_differ text (placed v start end) es h s = roomed v most_open start es h (part_flawless most_open s.part s.flawless)

@@ -1,7 +1,6 @@
 -- How much a JSON value holds: more than each of its parts.
-use Rattle.std.proofs.Common.{◌≡◌, ℕ, zero, suc, ◌+◌, ◌<◌, List, [], ◌∷◌, Some, arith, ap}
-use Rattle.std.specs.Prelude.{slice_get}
-use Rattle.json_span.specs.Tree.{Tree, a_null, a_boolean, a_number, a_string, an_array, an_object, Placed, placed, Elements, no_elements, element, Members, no_members, member, Entry, elements_of, members_of}
+use Rattle.std.proofs.Common.{◌≡◌, ℕ, ◌+◌, refl}
+use Rattle.json_span.specs.Tree.{Tree, a_null, a_boolean, a_number, a_string, an_array, an_object, Placed, placed, Elements, no_elements, element, Members, no_members, member, tree_of}
 
 abbrev mutual
   pub node_weight : Placed → ℕ
@@ -23,12 +22,5 @@ abbrev mutual
   members_weight no_members = 0
   members_weight (member name start end n ms) = node_weight n + 3 + members_weight ms
 
-pub element_lighter : (ns : List Placed) (i : ℕ) (n : Placed) → slice_get ns i ≡ Some n → node_weight n + 2 < elements_weight (elements_of ns)
-element_lighter [] i n e = cc
-element_lighter (m ∷ ns) zero n e = let h : m ≡ n = cc in omega (arith, ap node_weight h)
-element_lighter (m ∷ ns) (suc i) n e = omega (arith, element_lighter ns i n e)
-
-pub member_lighter : (es : List Entry) (i : ℕ) (e : Entry) → slice_get es i ≡ Some e → node_weight e.value + 2 < members_weight (members_of es)
-member_lighter [] i e h = cc
-member_lighter (f ∷ es) zero e h = let k : f ≡ e = cc in omega (arith, ap (λ (x : Entry). node_weight x.value) k)
-member_lighter (f ∷ es) (suc i) e h = omega (arith, member_lighter es i e h)
+pub weight_of : (n : Placed) → node_weight n ≡ tree_weight (tree_of n) + 3
+weight_of (placed v start end) = refl

@@ -1,10 +1,11 @@
 //! Lists of members in the order of their names.
 
-ghost use Rattle.std.specs.Prelude.{◌≡◌, T, IfOk, IfErr, OnOk, OnErr};
+ghost use Rattle.std.specs.Prelude.{◌≡◌, T, [], ◌++◌, IfOk, IfErr, OnOk, OnErr, option_map};
+ghost use Rattle.std.specs.FinMap as map;
 ghost use Rattle.std.specs.FinMap.{is_sorted, put};
 ghost use Rattle.tk_io.specs.Order.{text_cmp};
-ghost use Rattle.token_tree.specs.Shown.{child_view};
-ghost use Rattle.token_tree.specs.Listed.{entries_of, IsPlaceOf, IsGapFor};
+ghost use Rattle.token_tree.specs.Shown.{child_view, member_view};
+ghost use Rattle.token_tree.specs.Listed.{entries_of, IsPlaceOf, IsGapFor, NamesApart, with_front};
 
 use crate::tree::Member;
 use std::alloc::Global;
@@ -54,6 +55,30 @@ pub(crate) fn put_member<'s>(list: &mut Vec<Member<'s>>, member: Member<'s>) -> 
         Ok(i) => list[i] = member,
         Err(i) => list.insert(i, member)?,
     }
+    Ok(())
+}
+
+/// Sorts members by their names, no two of which are equal.
+pub(crate) fn sort_members<'s>(list: &mut Vec<Member<'s>>) -> Result<(), NoMemory>
+    requires { NamesApart list.old.items }
+    ensures sorted { OnOk result (T (is_sorted text_cmp (entries_of list.new.items))) }
+    ensures same { OnOk result (map.from_sorted {R = text_cmp} (entries_of list.new.items) ≡ map.from_entries (entries_of list.old.items)) }
+{
+    list.sort_by(|left, right| left.name.cmp(&right.name))?;
+    Ok(())
+}
+
+/// Appends the member, where there is one.
+pub(crate) fn push_some<'s>(
+    list: &mut Vec<Member<'s>>,
+    member: Option<Member<'s>>,
+) -> Result<(), NoMemory>
+    ensures { OnOk result (entries_of list.new.items ≡ entries_of list.old.items ++ with_front (option_map member_view member.entry) []) }
+{
+    let Some(member) = member else {
+        return Ok(());
+    };
+    list.push(member)?;
     Ok(())
 }
 

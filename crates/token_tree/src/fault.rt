@@ -3,7 +3,7 @@
 ghost use Rattle.std.specs.Prelude.{◌≡◌};
 ghost use Rattle.token_tree.specs.declared.fault.ShapeFault.TheVariants.{NoMemory as OutOfMemory};
 
-use std::alloc::AllocFailed;
+use std::alloc::{AllocError, AllocFailed};
 use tk_io::NoMemory;
 
 /// A rule that a token file breaks (Format Module 2025.10, groups and tokens).
@@ -36,6 +36,14 @@ impl From<NoMemory> for ShapeFault {
     ghost from_gives = { λ _ e. e ≡ OutOfMemory };
 
     fn from(_: NoMemory) -> ShapeFault {
+        ShapeFault::NoMemory
+    }
+}
+
+impl From<AllocError> for ShapeFault {
+    ghost from_gives = { λ _ e. e ≡ OutOfMemory };
+
+    fn from(_: AllocError) -> ShapeFault {
         ShapeFault::NoMemory
     }
 }

@@ -9,7 +9,7 @@ ghost use Rattle.token_tree.specs.Shown.{group_view};
 
 use crate::fault::{Rule, ShapeFault};
 use crate::group::read_group;
-use crate::listed::are_token;
+use crate::properties::are_token;
 use crate::tree::Group;
 use json_span::Node;
 use std::alloc::Global;
@@ -32,11 +32,11 @@ pub fn shape<'s>(
     ensures ok { IfOk result (λ g. group_view g ≡ shape_of file.entry.now text.entry.now (node_view root.now)) }
     ensures broken { IfErr result (IsFirst (shape_breaks (node_view root.now))) }
 {
-    let Some(fields) = root.value.as_object() else {
-        return Err(ShapeFault::Broken(Rule::Root, root.start, root.end));
+    let Some(fields) = root.as_object() else {
+        return Err(ShapeFault::Broken(Rule::Root, root.start(), root.end()));
     };
-    if are_token(fields) {
-        return Err(ShapeFault::Broken(Rule::Root, root.start, root.end));
+    if are_token(&fields) {
+        return Err(ShapeFault::Broken(Rule::Root, root.start(), root.end()));
     }
-    read_group(alloc, file, text, fields)
+    read_group(alloc, file, text, &fields)
 }

@@ -16,100 +16,91 @@ use tk_io::{Steps, Text};
 static FILES: [(&str, Option<(Rule, usize, usize)>); 60] = [
     ("{}", None),
     (" { } ", None),
-    ("{\"a\":1}", Some((Rule::Member, 5, 6))),
-    ("{\"a\":{\"$value\":1}}", None),
+    (r#"{"a":1}"#, Some((Rule::Member, 5, 6))),
+    (r#"{"a":{"$value":1}}"#, None),
     ("[]", Some((Rule::Root, 0, 2))),
     ("1", Some((Rule::Root, 0, 1))),
     ("null", Some((Rule::Root, 0, 4))),
-    (" {\"$value\":1,\"a\":1}", Some((Rule::Root, 1, 19))),
-    ("{\"$ref\":\"#/a\"}", Some((Rule::Root, 0, 14))),
-    ("{\"a.b\":{}}", Some((Rule::Name, 1, 6))),
-    ("{\"\":1}", Some((Rule::Name, 1, 3))),
-    ("{\"a{\":{}}", Some((Rule::Name, 1, 5))),
-    ("{\"a}\":{}}", Some((Rule::Name, 1, 5))),
-    ("{\"a~/\":{}}", None),
-    ("{\"a\":null}", Some((Rule::Member, 5, 9))),
-    ("{\"a\":[]}", Some((Rule::Member, 5, 7))),
+    (r#" {"$value":1,"a":1}"#, Some((Rule::Root, 1, 19))),
+    (r##"{"$ref":"#/a"}"##, Some((Rule::Root, 0, 14))),
+    (r#"{"a.b":{}}"#, Some((Rule::Name, 1, 6))),
+    (r#"{"":1}"#, Some((Rule::Name, 1, 3))),
+    (r#"{"a{":{}}"#, Some((Rule::Name, 1, 5))),
+    (r#"{"a}":{}}"#, Some((Rule::Name, 1, 5))),
+    (r#"{"a~/":{}}"#, None),
+    (r#"{"a":null}"#, Some((Rule::Member, 5, 9))),
+    (r#"{"a":[]}"#, Some((Rule::Member, 5, 7))),
     (
-        "{\"a\":{\"$value\":1,\"b\":1}}",
+        r#"{"a":{"$value":1,"b":1}}"#,
         Some((Rule::TokenChild, 17, 20)),
     ),
     (
-        "{\"a\":{\"$value\":1,\"\":1}}",
+        r#"{"a":{"$value":1,"":1}}"#,
         Some((Rule::TokenChild, 17, 19)),
     ),
-    ("{\"$root\":{}}", Some((Rule::RootToken, 9, 11))),
-    ("{\"$root\":1}", Some((Rule::RootToken, 9, 10))),
-    ("{\"$root\":{\"$value\":1}}", None),
+    (r#"{"$root":{}}"#, Some((Rule::RootToken, 9, 11))),
+    (r#"{"$root":1}"#, Some((Rule::RootToken, 9, 10))),
+    (r#"{"$root":{"$value":1}}"#, None),
     (
-        "{\"$root\":{\"$ref\":\"#/a\",\"b\":1}}",
+        r##"{"$root":{"$ref":"#/a","b":1}}"##,
         Some((Rule::TokenChild, 23, 26)),
     ),
-    ("{\"$type\":\"string\"}", Some((Rule::Property, 9, 17))),
-    ("{\"$type\":\"color\"}", None),
-    ("{\"$type\":\"Color\"}", Some((Rule::Property, 9, 16))),
-    ("{\"$type\":7}", Some((Rule::Property, 9, 10))),
-    ("{\"$description\":\"x\"}", None),
-    ("{\"$description\":null}", Some((Rule::Property, 16, 20))),
-    ("{\"$extensions\":{\"a\":{\"\":1}}}", None),
-    ("{\"$extensions\":[]}", Some((Rule::Property, 15, 17))),
-    ("{\"$deprecated\":false}", None),
-    ("{\"$deprecated\":true}", None),
-    ("{\"$deprecated\":\"x\"}", None),
-    ("{\"$deprecated\":1}", Some((Rule::Property, 15, 16))),
-    ("{\"$deprecated\":null}", Some((Rule::Property, 15, 19))),
-    ("{\"$extends\":\"{}\"}", Some((Rule::Property, 12, 16))),
-    ("{\"$extends\":\"#/\"}", Some((Rule::Property, 12, 16))),
-    ("{\"$extends\":\"#\"}", None),
-    ("{\"$extends\":\"{a.b}\"}", None),
-    ("{\"$extends\":\"#/a~0~1/b\"}", None),
-    ("{\"$extends\":\"#/a~2\"}", Some((Rule::Property, 12, 19))),
+    (r#"{"$type":"string"}"#, Some((Rule::Property, 9, 17))),
+    (r#"{"$type":"color"}"#, None),
+    (r#"{"$type":"Color"}"#, Some((Rule::Property, 9, 16))),
+    (r#"{"$type":7}"#, Some((Rule::Property, 9, 10))),
+    (r#"{"$description":"x"}"#, None),
+    (r#"{"$description":null}"#, Some((Rule::Property, 16, 20))),
+    (r#"{"$extensions":{"a":{"":1}}}"#, None),
+    (r#"{"$extensions":[]}"#, Some((Rule::Property, 15, 17))),
+    (r#"{"$deprecated":false}"#, None),
+    (r#"{"$deprecated":true}"#, None),
+    (r#"{"$deprecated":"x"}"#, None),
+    (r#"{"$deprecated":1}"#, Some((Rule::Property, 15, 16))),
+    (r#"{"$deprecated":null}"#, Some((Rule::Property, 15, 19))),
+    (r#"{"$extends":"{}"}"#, Some((Rule::Property, 12, 16))),
+    (r##"{"$extends":"#/"}"##, Some((Rule::Property, 12, 16))),
+    (r##"{"$extends":"#"}"##, None),
+    (r#"{"$extends":"{a.b}"}"#, None),
+    (r##"{"$extends":"#/a~0~1/b"}"##, None),
+    (r##"{"$extends":"#/a~2"}"##, Some((Rule::Property, 12, 19))),
     (
-        "{\"$extends\":\"{a.$root}\"}",
+        r#"{"$extends":"{a.$root}"}"#,
         Some((Rule::Property, 12, 23)),
     ),
-    ("{\"$extends\":\"a\"}", Some((Rule::Property, 12, 15))),
-    ("{\"$extends\":7}", Some((Rule::Property, 12, 13))),
+    (r#"{"$extends":"a"}"#, Some((Rule::Property, 12, 15))),
+    (r#"{"$extends":7}"#, Some((Rule::Property, 12, 13))),
     (
-        "{\"a\":{\"$ref\":\"#/b\",\"$value\":1}}",
+        r##"{"a":{"$ref":"#/b","$value":1}}"##,
         Some((Rule::Property, 13, 18)),
     ),
     (
-        "{\"a\":{\"$value\":1,\"$ref\":1}}",
+        r#"{"a":{"$value":1,"$ref":1}}"#,
         Some((Rule::Property, 24, 25)),
     ),
-    ("{\"a\":{\"$ref\":7}}", Some((Rule::Property, 13, 14))),
-    ("{\"a\":{\"$ref\":\"x\"}}", None),
+    (r#"{"a":{"$ref":7}}"#, Some((Rule::Property, 13, 14))),
+    (r#"{"a":{"$ref":"x"}}"#, None),
     (
-        "{\"a\":{\"$value\":1,\"$description\":2,\"c\":3}}",
+        r#"{"a":{"$value":1,"$description":2,"c":3}}"#,
         Some((Rule::Property, 32, 33)),
     ),
+    (r#"{"a":{"b":1},"$type":1}"#, Some((Rule::Member, 10, 11))),
+    (r#"{"$type":1,"a":{"b":1}}"#, Some((Rule::Property, 9, 10))),
+    (r#"{"a.":1,"b":2}"#, Some((Rule::Name, 1, 5))),
+    (r#"{"a":{"$value":{"":{".":1}}}}"#, None),
     (
-        "{\"a\":{\"b\":1},\"$type\":1}",
-        Some((Rule::Member, 10, 11)),
-    ),
-    (
-        "{\"$type\":1,\"a\":{\"b\":1}}",
-        Some((Rule::Property, 9, 10)),
-    ),
-    ("{\"a.\":1,\"b\":2}", Some((Rule::Name, 1, 5))),
-    ("{\"a\":{\"$value\":{\"\":{\".\":1}}}}", None),
-    (
-        "{\"$foo\":{\"a\":1},\"$\":7,\"a\":{\"$type\":\"number\",\"$value\":1,\"$extends\":7,\"$root\":8,\"$x\":{\"\":1}}}",
+        r#"{"$foo":{"a":1},"$":7,"a":{"$type":"number","$value":1,"$extends":7,"$root":8,"$x":{"":1}}}"#,
         None,
     ),
     (
-        "{\"g\":{\"$value\":1,\"$extends\":1},\"h\":{\"$extends\":1}}",
+        r#"{"g":{"$value":1,"$extends":1},"h":{"$extends":1}}"#,
         Some((Rule::Property, 47, 48)),
     ),
-    ("{\"\\u0061.\":{}}", Some((Rule::Name, 1, 10))),
-    ("{\"\\u0024x\":1}", None),
-    ("{\"a\":{\"\\u0024value\":1}}", None),
-    (
-        "{\"a\":{\"b\":{\"c\":{\"d\":7}}}}",
-        Some((Rule::Member, 20, 21)),
-    ),
-    ("{\"$value\":null}", Some((Rule::Root, 0, 15))),
+    (r#"{"\u0061.":{}}"#, Some((Rule::Name, 1, 10))),
+    (r#"{"\u0024x":1}"#, None),
+    (r#"{"a":{"\u0024value":1}}"#, None),
+    (r#"{"a":{"b":{"c":{"d":7}}}}"#, Some((Rule::Member, 20, 21))),
+    (r#"{"$value":null}"#, Some((Rule::Root, 0, 15))),
 ];
 
 fn fault<L: Ledger>(alloc: Global, text: &[u8], page: Blank) -> Option<ShapeFault>
@@ -137,7 +128,7 @@ fn shapes(rt: HostRuntime) {
 
 /// A group with two tokens and a group.
 const FILE: &str =
-    "{\"$type\":\"color\",\"$deprecated\":\"old\",\"b\":{\"$value\":[1,{\"x\":\"y\"}],\"$description\":\"d\",\"$extensions\":{\"e\":1},\"$deprecated\":true,\"$type\":\"number\"},\"$root\":{\"$ref\":\"#/b\"},\"a\":{\"$extends\":\"{b.c}\",\"$deprecated\":false}}";
+    r##"{"$type":"color","$deprecated":"old","b":{"$value":[1,{"x":"y"}],"$description":"d","$extensions":{"e":1},"$deprecated":true,"$type":"number"},"$root":{"$ref":"#/b"},"a":{"$extends":"{b.c}","$deprecated":false}}"##;
 
 fn tree<'s, L: Ledger>(alloc: Global, text: &'s [u8], page: Blank) -> Option<Group<'s>>
     requires page { (page.name ≡ L.name) × (page.parts ≡ L.parts) × (0 < L.parts) }
@@ -176,14 +167,14 @@ fn groups(rt: HostRuntime) -> Result<(), Fail> {
     assert!(rt; root.extends.is_none());
     let names = ["$root", "a", "b"];
     assert_eq!(rt; root.members.len(), names.len());
-    let entries = root.members.entries(rt.alloc())?;
+    let list = root.members.as_slice();
     for (i, name) in names.iter().enumerate() {
         assert_eq!(rt; root.members.at(i).map(|e| e.0.as_str()), Some(*name));
-        assert_eq!(rt; entries.get(i).map(|e| e.0.as_str()), Some(*name));
+        assert_eq!(rt; list.get(i).map(|member| member.name.as_str()), Some(*name));
     }
     let inner = group(&root.members, "a").expect(&rt, "a is a group");
     assert!(rt; matches!(inner.deprecated, Some(Mark::No)) && inner.kind.is_none());
-    assert_eq!(rt; inner.members.len(), 0);
+    assert!(rt; inner.members.is_empty());
     let extends = inner.extends.as_ref().expect(&rt, "a extends a group");
     assert_eq!(rt; (extends.file, extends.start, extends.end), ("t", 182, 189));
     assert_eq!(rt; extends.target.at(1).map(|name| name.as_str()), Some("c"));
@@ -197,8 +188,8 @@ fn tokens(rt: HostRuntime) -> Result<(), Fail> {
     b.keeps();
     assert_eq!(rt; (b.file, b.start, b.end), ("t", 41, 142));
     assert_eq!(rt; b.source, &FILE[41..142]);
-    assert_eq!(rt; (b.value.start, b.value.end, b.by_ref), (51, 64, false));
-    assert_eq!(rt; b.value.value.as_array().map(|items| items.len()), Some(2));
+    assert_eq!(rt; (b.value.start(), b.value.end(), b.by_ref), (51, 64, false));
+    assert!(rt; b.value.as_array().is_some());
     assert_eq!(rt; b.kind, Some(Kind::Number));
     assert_eq!(rt; b.description.as_ref().map(|text| text.as_str()), Some("d"));
     assert_eq!(rt; b.extensions, Some("{\"e\":1}"));
@@ -206,36 +197,71 @@ fn tokens(rt: HostRuntime) -> Result<(), Fail> {
     let root_token = token(&root.members, "$root").expect(&rt, "the root has a token");
     assert_eq!(rt;
         (
-            root_token.value.start,
-            root_token.value.end,
+            root_token.value.start(),
+            root_token.value.end(),
             root_token.by_ref
         ),
         (159, 164, true)
     );
-    assert_eq!(rt;
-        root_token.value.value.as_text().map(|text| text.as_str()),
-        Some("#/b")
-    );
+    let reference = root_token.value.as_text(rt.alloc())?;
+    assert_eq!(rt; reference.as_ref().map(|text| text.as_str()), Some("#/b"));
     Ok(())
 }
+
+fn typed<'s>(alloc: Global, kind: Kind) -> Child<'s> {
+    Child::Group(Group {
+        kind: Some(kind),
+        deprecated: None,
+        extends: None,
+        members: Members::new(alloc),
+    })
+}
+
+fn kind_under(members: &Members<'_>, name: &'static str) -> Option<Kind> {
+    group(members, name)?.kind
+}
+
+/// Names in the order in which they are put, the fifth of which replaces the first.
+static PUT: [(&str, Kind); 5] = [
+    ("m", Kind::Color),
+    ("b", Kind::Border),
+    ("z", Kind::Number),
+    ("a", Kind::Duration),
+    ("m", Kind::Shadow),
+];
 
 #[test]
 fn members(rt: HostRuntime) -> Result<(), Fail> {
     let mut members = Members::new(rt.alloc());
-    for (name, kind) in [("b", Kind::Color), ("a", Kind::Border), ("b", Kind::Shadow)] {
-        let inner = Group {
-            kind: Some(kind),
-            deprecated: None,
-            extends: None,
-            members: Members::new(rt.alloc()),
-        };
-        members.put(&Text::of(name), Child::Group(inner))?;
+    for (name, kind) in &PUT {
+        members.put(&Text::of(name), typed(rt.alloc(), *kind))?;
     }
-    assert_eq!(rt; members.len(), 2);
-    assert_eq!(rt;
-        group(&members, "b").and_then(|inner| inner.kind),
-        Some(Kind::Shadow)
-    );
-    assert!(rt; group(&members, "c").is_none());
+    let kept = members.copy()?;
+    members.put(&Text::of("c"), typed(rt.alloc(), Kind::Gradient))?;
+    assert_eq!(rt; (kept.len(), members.len()), (4, 5));
+    assert_eq!(rt; kind_under(&members, "c"), Some(Kind::Gradient));
+    assert_eq!(rt; kind_under(&kept, "c"), None);
+    assert_eq!(rt; kind_under(&kept, "m"), Some(Kind::Shadow));
+    for (i, name) in ["a", "b", "c", "m", "z"].iter().enumerate() {
+        assert_eq!(rt; members.at(i).map(|e| e.0.as_str()), Some(*name));
+    }
+    Ok(())
+}
+
+#[test]
+fn copies(rt: HostRuntime) -> Result<(), Fail> {
+    let root = file(rt.alloc()).expect(&rt, "the file has a shape");
+    let copy = root.copy()?;
+    assert!(rt; matches!(&copy.deprecated, Some(Mark::Because(text)) if text.as_str() == "old"));
+    let a = copy.members.as_slice().get(1).expect(&rt, "a is a member");
+    let again = a.copy()?;
+    let Child::Group(inner) = again.child else {
+        panic!(rt; "a is a group");
+    };
+    let inner = inner.copy()?;
+    let extends = inner.extends.as_ref().expect(&rt, "a extends a group");
+    assert_eq!(rt; (extends.start, extends.end), (182, 189));
+    let b = token(&copy.members, "b").expect(&rt, "b is a token");
+    assert_eq!(rt; b.start, 41);
     Ok(())
 }

@@ -6,11 +6,12 @@ ghost use Rattle.std.specs.FinMap as map;
 ghost use Rattle.std.specs.List.{slice_get};
 ghost use Rattle.std.specs.Option.{option_map};
 ghost use Rattle.tk_io.specs.Order.{text_cmp};
+ghost use Rattle.token_tree.specs.Listed.{NamesApart};
 ghost use Rattle.token_tree.specs.Tree.{Child as ChildData};
 ghost use Rattle.token_tree.specs.Shown.{extends_view, child_view, member_view, members_view, group_view};
 
 use crate::definition::TokenDef;
-use crate::entries::{copy_list, place, put_member};
+use crate::entries::{copy_list, place, put_member, sort_members};
 use crate::mark::Mark;
 use name_path::{Kind, Path};
 use std::alloc::Global;
@@ -104,6 +105,23 @@ impl<'s> Members<'s> {
             alloc,
             entries: None,
         }
+    }
+
+    /// The members of a list, no two of which have one name.
+    pub(crate) fn from_list(alloc: Global, list: Vec<Member<'s>>) -> Result<Members<'s>, NoMemory>
+        requires { NamesApart list.items }
+        ensures { IfOk result (λ ms. members_view ms ≡ map.from_entries (map_list member_view list.entry.items)) }
+    {
+        if list.is_empty() {
+            return Ok(Members::new(alloc));
+        }
+        let mut list = list;
+        sort_members(&mut list)?;
+        let shared = Rc::new(alloc, list)?;
+        Ok(Members {
+            alloc,
+            entries: Some(shared),
+        })
     }
 
     /// The members in byte order of names.

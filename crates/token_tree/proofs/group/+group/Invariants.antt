@@ -1,14 +1,15 @@
-use Rattle.std.proofs.Common.{◌≡◌, ◌+◌, drop}
-use Rattle.std.specs.FinMap as map
+use Rattle.std.proofs.Common.{◌≡◌, ◌+◌, ◌≤◌, ◌++◌}
 use Rattle.json_span.specs.Tree.{members_of}
-use Rattle.json_span.specs.View.{node_view, fields_view}
-use Rattle.token_tree.specs.Shape.{group_breaks, put_children}
-use Rattle.token_tree.specs.Shown.{members_view}
+use Rattle.json_span.specs.View.{ref_view, field_view, fields_view}
+use Rattle.token_tree.specs.Answer.{EachStands}
+use Rattle.token_tree.specs.Shape.{group_breaks}
+use Rattle.token_tree.specs.Listed.{entries_of}
+use Rattle.token_tree.proofs.Children.{children_in}
 use Rattle.token_tree.proofs.Weights.{node_weight, members_weight}
 use Rattle.token_tree.proofs.group.+group.Given as goal
 
 abbrev pub decreases-read_child : goal.decreases-read_child
-decreases-read_child l = node_weight (node_view l.node.now)
+decreases-read_child l = node_weight (ref_view l.node)
 
 abbrev pub decreases-read_group : goal.decreases-read_group
 decreases-read_group l = members_weight (members_of (fields_view l.fields.now)) + 2
@@ -17,11 +18,13 @@ abbrev pub decreases-read_members : goal.decreases-read_members
 decreases-read_members l = members_weight (members_of (fields_view l.fields.now)) + 1
 
 abbrev pub decreases-read_member : goal.decreases-read_member
-decreases-read_member l = node_weight (node_view l.field.now.node) + 1
+decreases-read_member l = node_weight (field_view l.field).value + 1
 
--- the members so far have no break, and those left put the rest of the children
-abbrev pub invariant-read_members-loop-i : goal.invariant-read_members-loop-i
-invariant-read_members-loop-i l = record {
-  breaks : group_breaks (members_of (drop l.i (fields_view l.fields))) ≡ group_breaks (members_of (fields_view l.fields));
-  children : put_children l.file l.text (members_of (drop l.i (fields_view l.fields))) (members_view l.members) ≡ put_children l.file l.text (members_of (fields_view l.fields)) map.empty;
+-- the members so far have no break, and the children so far and those left are all
+abbrev pub invariant-read_members-loop-field : goal.invariant-read_members-loop-field
+invariant-read_members-loop-field l = record {
+  breaks : group_breaks (members_of (fields_view l.field-iterator)) ≡ group_breaks (members_of (fields_view l.fields));
+  children : entries_of l.list.items ++ children_in l.file l.text (fields_view l.field-iterator) ≡ children_in l.file l.text (fields_view l.fields);
+  stand : EachStands l.text (fields_view l.field-iterator);
+  lighter : members_weight (members_of (fields_view l.field-iterator)) ≤ members_weight (members_of (fields_view l.fields));
 }

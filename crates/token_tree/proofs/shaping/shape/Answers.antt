@@ -1,48 +1,61 @@
 use Rattle.std.proofs.Common.{◌≡◌, [], true, false, OnOk, IfOk, IfErr, sym, ap, subst, ◌∙◌}
 use Rattle.std.specs.Prelude.{slice_get}
-use Rattle.json_span.specs.View.{json_view, node_view, fields_view}
+use Rattle.json_span.specs.Tree.{tree_of}
+use Rattle.json_span.specs.View.{node_view, fields_view}
+use Rattle.token_tree.specs.declared.fault.Rule.TheVariants as rule
 use Rattle.token_tree.specs.Answer.{IsFirst}
-use Rattle.token_tree.specs.Shape.{are_token, group_of, shape_of}
+use Rattle.token_tree.specs.Shape.{are_token, token_breaks, entries_at, group_of, shape_of}
 use Rattle.token_tree.specs.Shown.{group_view}
-use Rattle.token_tree.proofs.Groups.{object_is, no_object, no_root, token_root, group_root}
-use Rattle.token_tree.proofs.Places.{members_stand}
+use Rattle.token_tree.proofs.Groups.{object_is, no_object, no_root, token_root, group_root, first_at}
+use Rattle.token_tree.proofs.Places.{members_stand, names_differ}
 use Rattle.token_tree.proofs.shaping.shape.Goals as goal
 
-pub read_group-requires : goal.read_group-requires
-read_group-requires c =
+pub read_group-requires-clause-stands : goal.read_group-requires-clause-stands
+read_group-requires-clause-stands c =
     let n = node_view c.args.root.now in
-    let es = fields_view c.in-Some.fields.now in
-    members_stand c.args.text.now n es (object_is (json_view c.args.root.now.value) es (sym c.in-Some.ensures)) c.requires
+    let es = fields_view c.in-Some.fields in
+    members_stand c.args.text.now n es (object_is (tree_of (node_view c.args.root.now)) es (sym c.in-Some.ensures)) c.requires
+
+pub read_group-requires-clause-differ : goal.read_group-requires-clause-differ
+read_group-requires-clause-differ c =
+    let n = node_view c.args.root.now in
+    let es = fields_view c.in-Some.fields in
+    names_differ c.args.text.now n es (object_is (tree_of n) es (sym c.in-Some.ensures)) c.requires
 
 pub returns-clause-sound : goal.returns-clause-sound
 returns-clause-sound c =
     let n = node_view c.args.root.now in
-    let es = fields_view c.in-Some.fields.now in
-    let are = object_is (json_view c.args.root.now.value) es (sym c.in-Some.ensures) in
+    let es = fields_view c.in-Some.fields in
+    let are = object_is (tree_of (node_view c.args.root.now)) es (sym c.in-Some.ensures) in
     let none : are_token es ≡ false = sym c.are_token.ensures ∙ c.if-are_token.false in
     subst (λ z. OnOk c.read_group.result (z ≡ [])) (sym (group_root n es are none)) c.read_group.ensures.sound
 
 pub returns-clause-ok : goal.returns-clause-ok
 unfolding shape_of
 returns-clause-ok c =
-    let es = fields_view c.in-Some.fields.now in
-    let are = object_is (json_view c.args.root.now.value) es (sym c.in-Some.ensures) in
+    let es = fields_view c.in-Some.fields in
+    let are = object_is (tree_of (node_view c.args.root.now)) es (sym c.in-Some.ensures) in
     subst (λ z. IfOk c.read_group.result (λ g. group_view g ≡ group_of c.args.file.now c.args.text.now z)) (sym are) c.read_group.ensures.ok
 
 pub returns-clause-broken : goal.returns-clause-broken
 returns-clause-broken c =
     let n = node_view c.args.root.now in
-    let es = fields_view c.in-Some.fields.now in
-    let are = object_is (json_view c.args.root.now.value) es (sym c.in-Some.ensures) in
+    let es = fields_view c.in-Some.fields in
+    let are = object_is (tree_of (node_view c.args.root.now)) es (sym c.in-Some.ensures) in
     let none : are_token es ≡ false = sym c.are_token.ensures ∙ c.if-are_token.false in
     subst (λ z. IfErr c.read_group.result (IsFirst z)) (sym (group_root n es are none)) c.read_group.ensures.broken
 
 pub returns-in_default-clause-broken : goal.returns-in_default-clause-broken
-returns-in_default-clause-broken c = ap (λ z. slice_get z 0) (no_root (node_view c.args.root.now) (no_object (json_view c.args.root.now.value) c.in_default.ensures))
+returns-in_default-clause-broken c =
+    let n = node_view c.args.root.now in
+    ap (λ z. slice_get z 0) (no_root n (no_object (tree_of n) c.in_default.ensures))
+    ∙ first_at rule.Root n [] c.start.result c.end.result c.start.ensures c.end.ensures
 
 pub returns-then-are_token-clause-broken : goal.returns-then-are_token-clause-broken
 returns-then-are_token-clause-broken c =
-    let es = fields_view c.in-Some.fields.now in
-    let are = object_is (json_view c.args.root.now.value) es (sym c.in-Some.ensures) in
+    let es = fields_view c.in-Some.fields in
+    let are = object_is (tree_of (node_view c.args.root.now)) es (sym c.in-Some.ensures) in
     let some : are_token es ≡ true = sym c.are_token.ensures ∙ c.if-are_token.true in
-    ap (λ z. slice_get z 0) (token_root (node_view c.args.root.now) es are some)
+    let n = node_view c.args.root.now in
+    ap (λ z. slice_get z 0) (token_root n es are some)
+    ∙ first_at rule.Root n (token_breaks (entries_at n)) c.start-then-are_token.result c.end-then-are_token.result c.start-then-are_token.ensures c.end-then-are_token.ensures

@@ -1,23 +1,23 @@
 use Rattle.std.proofs.Common.{Some, None, IfOk, ◌≡◌, refl, sym, subst, codes}
 use Rattle.json_span.specs.Tree.{under}
-use Rattle.json_span.specs.View.{node_view, fields_view}
+use Rattle.json_span.specs.View.{node_view, ref_view, fields_view}
 use Rattle.token_tree.proofs.Sound.{value_is}
 use Rattle.token_tree.proofs.token.value_of.Goals as goal
 
 pub returns-in-Some : goal.returns-in-Some
 returns-in-Some c =
     let es = fields_view c.args.fields.now in
-    let e = value_is (node_view c.args.node.now) es (Some (node_view c.in-Some.value.now)) (under (codes "$value") es) c.requires (sym c.in-Some.ensures) refl in
-    subst (λ z. IfOk c.copy_node.result (λ n. node_view n ≡ z)) (sym e) c.copy_node.ensures
+    let e = value_is (ref_view c.args.node) es (Some (ref_view c.in-Some.value)) (under (codes "$value") es) c.requires (sym c.in-Some.ensures) refl in
+    subst (λ z. IfOk c.node.result (λ n. node_view n ≡ z)) (sym e) c.node.ensures
 
 pub returns-in-Some-get : goal.returns-in-Some-get
 returns-in-Some-get c =
     let es = fields_view c.args.fields.now in
-    let e = value_is (node_view c.args.node.now) es None (Some (node_view c.in-Some-get.value.now)) c.requires (sym c.in_default.ensures) (sym c.in-Some-get.ensures) in
-    subst (λ z. IfOk c.copy_node-in-Some-get.result (λ n. node_view n ≡ z)) (sym e) c.copy_node-in-Some-get.ensures
+    let e = value_is (ref_view c.args.node) es None (Some (ref_view c.in-Some-get.value)) c.requires (sym c.in_default.ensures) (sym c.in-Some-get.ensures) in
+    subst (λ z. IfOk c.node-in-Some-get.result (λ n. node_view n ≡ z)) (sym e) c.node-in-Some-get.ensures
 
 pub returns : goal.returns
 returns c =
     let es = fields_view c.args.fields.now in
-    let e = value_is (node_view c.args.node.now) es None None c.requires (sym c.in_default.ensures) (sym c.in_default-get.ensures) in
-    subst (λ z. IfOk c.copy_node-2.result (λ n. node_view n ≡ z)) (sym e) c.copy_node-2.ensures
+    let e = value_is (ref_view c.args.node) es None None c.requires (sym c.in_default.ensures) (sym c.in_default-get.ensures) in
+    subst (λ z. IfOk c.node-2.result (λ n. node_view n ≡ z)) (sym e) c.node-2.ensures
