@@ -255,7 +255,7 @@ fn copies(rt: HostRuntime) -> Result<(), Fail> {
     assert!(rt; matches!(&copy.deprecated, Some(Mark::Because(text)) if text.as_str() == "old"));
     let a = copy.members.as_slice().get(1).expect(&rt, "a is a member");
     let again = a.copy()?;
-    let Child::Group(inner) = again.child else {
+    let Child::Group(inner) = &again.child else {
         panic!(rt; "a is a group");
     };
     let inner = inner.copy()?;
