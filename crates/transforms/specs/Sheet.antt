@@ -14,9 +14,10 @@ abbrev pub glued : List ℕ → List (List ℕ) → List ℕ
 glued glue [] = []
 glued glue (body ∷ bodies) = body ++ flat_map (λ next. glue ++ next) bodies
 
-abbrev pub is_some : List (List ℕ) → Bool
-is_some [] = false
-is_some (body ∷ bodies) = true
+-- whether there is a body
+abbrev pub are_some : List (List ℕ) → Bool
+are_some [] = false
+are_some (body ∷ bodies) = true
 
 -- what stands behind the last body, where there is one
 abbrev pub behind_last : FrameData → List (List ℕ) → List ℕ
@@ -37,7 +38,7 @@ pub record OpenSheet : Type 0 where
 pub record Holds (sheet : OpenSheet) (frame : FrameData) (bodies : List (List ℕ)) : Type 0 where
   pub frame_is : sheet.frame ≡ frame
   pub text_is : sheet.text ≡ frame.head ++ glued frame.glue bodies
-  pub has_body_is : sheet.has_body ≡ is_some bodies
+  pub has_body_is : sheet.has_body ≡ are_some bodies
 
 -- the sheet has one body more, whatever it held
 abbrev pub Gains : OpenSheet → OpenSheet → List ℕ → Type 0

@@ -1,0 +1,12 @@
+-- With the members that are still to come, all are taken in.
+use Rattle.std.proofs.Common.{◌≡◌}
+use Rattle.std.specs.List.{flat_map}
+use Rattle.json_span.specs.View.{fields_view}
+use Rattle.resolver_doc.specs.Break.{with_breaks}
+use Rattle.resolver_doc.specs.Form.{context, counted}
+use Rattle.resolver_doc.proofs.form.each_context.Given as goal
+
+abbrev pub invariant-loop-field : goal.invariant-loop-field
+invariant-loop-field l =
+    (goal.iterator-loop-field).can_next l.field-iterator × (goal.iterator-loop-field).is_finite l.field-iterator
+    × (with_breaks l.first (flat_map context (counted (fields_view l.field-iterator))) ≡ with_breaks l.fn.first (flat_map context (counted (fields_view l.fields))))

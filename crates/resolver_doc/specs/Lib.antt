@@ -1,0 +1,2 @@
+pub mod Break
+pub mod Form

@@ -1,0 +1,228 @@
+// The form of the document itself: its version, its sets and modifiers, and the items of its order.
+
+ghost use Rattle.std.specs.Prelude.{◌≡◌, IfOk, OnOk, codes};
+ghost use Rattle.std.specs.List.{flat_map};
+ghost use Rattle.json_span.specs.Tree.{under};
+ghost use Rattle.json_span.specs.View.{ref_view, fields_view};
+ghost use Rattle.resolver_doc.specs.Break.{with_breaks, first_of};
+ghost use Rattle.resolver_doc.specs.Form.{counted, optional, needed, each_value, set, modifier, a_list, typed, item_type, item_members, item, version, document_members, form_breaks};
+
+use crate::form::{
+    is_counted, is_reference, modifier, modifier_members, needed_text, optional_text, reference,
+    set, set_members,
+};
+use crate::rule::{Break, PlanRule, at_value};
+use json_span::{Fields, NodeRef};
+use std::alloc::Global;
+use tk_io::NoMemory;
+
+fn typed(
+    alloc: Global,
+    owner: NodeRef<'_, '_>,
+    fields: &Fields<'_, '_>,
+    node: NodeRef<'_, '_>,
+    word: &str,
+    first: &mut Option<Break>,
+) -> Result<(), NoMemory>
+    ensures { OnOk result (first.new ≡ with_breaks first.old (typed (ref_view owner.entry) (fields_view fields.now) (ref_view node.entry) word.now)) }
+{
+    if word == "set" {
+        needed_text(owner, fields, "name", first);
+        set_members(alloc, owner, fields, first)?;
+        return Ok(());
+    }
+    if word == "modifier" {
+        needed_text(owner, fields, "name", first);
+        modifier_members(alloc, owner, fields, first)?;
+        return Ok(());
+    }
+    at_value(PlanRule::Shape, node, first);
+    Ok(())
+}
+
+fn item_type(
+    alloc: Global,
+    owner: NodeRef<'_, '_>,
+    fields: &Fields<'_, '_>,
+    node: NodeRef<'_, '_>,
+    first: &mut Option<Break>,
+) -> Result<(), NoMemory>
+    ensures { OnOk result (first.new ≡ with_breaks first.old (item_type (ref_view owner.entry) (fields_view fields.now) (ref_view node.entry))) }
+{
+    let Some(word) = node.as_text(alloc)? else {
+        at_value(PlanRule::Shape, node, first);
+        return Ok(());
+    };
+    typed(alloc, owner, fields, node, word.as_str(), first)?;
+    Ok(())
+}
+
+fn item_members(
+    alloc: Global,
+    owner: NodeRef<'_, '_>,
+    fields: &Fields<'_, '_>,
+    first: &mut Option<Break>,
+) -> Result<(), NoMemory>
+    ensures { OnOk result (first.new ≡ with_breaks first.old (item_members (ref_view owner.entry) (fields_view fields.now))) }
+{
+    if is_reference(fields) {
+        reference(alloc, fields, first)?;
+        return Ok(());
+    }
+    let Some(node) = fields.get("type") else {
+        at_value(PlanRule::Shape, owner, first);
+        return Ok(());
+    };
+    item_type(alloc, owner, fields, node, first)?;
+    Ok(())
+}
+
+fn item(alloc: Global, node: NodeRef<'_, '_>, first: &mut Option<Break>) -> Result<(), NoMemory>
+    ensures { OnOk result (first.new ≡ with_breaks first.old (item (ref_view node.entry))) }
+{
+    let Some(fields) = node.as_object() else {
+        at_value(PlanRule::Shape, node, first);
+        return Ok(());
+    };
+    item_members(alloc, node, &fields, first)?;
+    Ok(())
+}
+
+fn items(alloc: Global, node: NodeRef<'_, '_>, first: &mut Option<Break>) -> Result<(), NoMemory>
+    ensures { OnOk result (first.new ≡ with_breaks first.old (a_list item (ref_view node.entry))) }
+{
+    let Some(items) = node.as_array() else {
+        at_value(PlanRule::Shape, node, first);
+        return Ok(());
+    };
+    for node in items {
+        item(alloc, node, first)?;
+    }
+    Ok(())
+}
+
+fn order(
+    alloc: Global,
+    root: NodeRef<'_, '_>,
+    fields: &Fields<'_, '_>,
+    first: &mut Option<Break>,
+) -> Result<(), NoMemory>
+    ensures { OnOk result (first.new ≡ with_breaks first.old (needed (a_list item) (ref_view root.entry) (under (codes "resolutionOrder") (fields_view fields.now)))) }
+{
+    let Some(node) = fields.get("resolutionOrder") else {
+        at_value(PlanRule::Shape, root, first);
+        return Ok(());
+    };
+    items(alloc, node, first)?;
+    Ok(())
+}
+
+fn each_set(alloc: Global, node: NodeRef<'_, '_>, first: &mut Option<Break>) -> Result<(), NoMemory>
+    ensures { OnOk result (first.new ≡ with_breaks first.old (each_value set (ref_view node.entry))) }
+{
+    let Some(fields) = node.as_object() else {
+        at_value(PlanRule::Shape, node, first);
+        return Ok(());
+    };
+    for field in fields {
+        if is_counted(alloc, field)? {
+            set(alloc, field.value(), first)?;
+        }
+    }
+    Ok(())
+}
+
+fn sets(alloc: Global, fields: &Fields<'_, '_>, first: &mut Option<Break>) -> Result<(), NoMemory>
+    ensures { OnOk result (first.new ≡ with_breaks first.old (optional (each_value set) (under (codes "sets") (fields_view fields.now)))) }
+{
+    let Some(node) = fields.get("sets") else {
+        return Ok(());
+    };
+    each_set(alloc, node, first)?;
+    Ok(())
+}
+
+fn each_modifier(
+    alloc: Global,
+    node: NodeRef<'_, '_>,
+    first: &mut Option<Break>,
+) -> Result<(), NoMemory>
+    ensures { OnOk result (first.new ≡ with_breaks first.old (each_value modifier (ref_view node.entry))) }
+{
+    let Some(fields) = node.as_object() else {
+        at_value(PlanRule::Shape, node, first);
+        return Ok(());
+    };
+    for field in fields {
+        if is_counted(alloc, field)? {
+            modifier(alloc, field.value(), first)?;
+        }
+    }
+    Ok(())
+}
+
+fn modifiers(
+    alloc: Global,
+    fields: &Fields<'_, '_>,
+    first: &mut Option<Break>,
+) -> Result<(), NoMemory>
+    ensures { OnOk result (first.new ≡ with_breaks first.old (optional (each_value modifier) (under (codes "modifiers") (fields_view fields.now)))) }
+{
+    let Some(node) = fields.get("modifiers") else {
+        return Ok(());
+    };
+    each_modifier(alloc, node, first)?;
+    Ok(())
+}
+
+fn version(alloc: Global, root: NodeRef<'_, '_>, first: &mut Option<Break>) -> Result<(), NoMemory>
+    ensures { OnOk result (first.new ≡ with_breaks first.old (version (ref_view root.entry))) }
+{
+    let Some(fields) = root.as_object() else {
+        at_value(PlanRule::Version, root, first);
+        return Ok(());
+    };
+    let Some(node) = fields.get("version") else {
+        at_value(PlanRule::Version, root, first);
+        return Ok(());
+    };
+    let Some(word) = node.as_text(alloc)? else {
+        at_value(PlanRule::Version, node, first);
+        return Ok(());
+    };
+    if word.as_str() == "2025.10" {
+        return Ok(());
+    }
+    at_value(PlanRule::Version, node, first);
+    Ok(())
+}
+
+fn members(
+    alloc: Global,
+    root: NodeRef<'_, '_>,
+    fields: &Fields<'_, '_>,
+    first: &mut Option<Break>,
+) -> Result<(), NoMemory>
+    ensures { OnOk result (first.new ≡ with_breaks first.old (document_members (ref_view root.entry) (fields_view fields.now))) }
+{
+    optional_text(fields, "name", first);
+    optional_text(fields, "description", first);
+    sets(alloc, fields, first)?;
+    modifiers(alloc, fields, first)?;
+    order(alloc, root, fields, first)?;
+    Ok(())
+}
+
+/// The first place where the document's form is not met; none where it is met.
+pub fn form_break(alloc: Global, root: NodeRef<'_, '_>) -> Result<Option<Break>, NoMemory>
+    ensures { IfOk result (λ first. first ≡ first_of (form_breaks (ref_view root.entry))) }
+{
+    let mut first = None;
+    version(alloc, root, &mut first)?;
+    let Some(fields) = root.as_object() else {
+        at_value(PlanRule::Shape, root, &mut first);
+        return Ok(first);
+    };
+    members(alloc, root, &fields, &mut first)?;
+    Ok(first)
+}

@@ -1,0 +1,304 @@
+// The form of a resolver document, value by value: each call takes in the breaks of its value.
+
+ghost use Rattle.std.specs.Prelude.{◌≡◌, not, is_some, codes, IfOk, OnOk};
+ghost use Rattle.std.specs.List.{flat_map};
+ghost use Rattle.json_span.specs.Tree.{string_in, under};
+ghost use Rattle.json_span.specs.View.{ref_view, json_view, field_view, fields_view};
+ghost use Rattle.resolver_doc.specs.Break.{with_breaks, at_name};
+ghost use Rattle.resolver_doc.specs.declared.rule.PlanRule.TheVariants.{Shape};
+ghost use Rattle.resolver_doc.specs.Form.{is_reserved, counted, optional, needed, text, reference, is_reference, source, sources, set_members, set, has_context, context, counts_some, contexts, context_entries, default, modifier_members, modifier};
+
+use crate::rule::{Break, PlanRule, at_name, at_value};
+use json_span::{Field, Fields, NodeRef, ValueType};
+use std::alloc::Global;
+use tk_io::NoMemory;
+
+fn is_text(node: NodeRef<'_, '_>) -> bool
+    ensures { result ≡ is_some (string_in (json_view node.entry)) }
+{
+    match node.value_type() {
+        ValueType::String => true,
+        ValueType::Boolean => false,
+        ValueType::Null => false,
+        ValueType::Number => false,
+        ValueType::Array => false,
+        ValueType::Object => false,
+    }
+}
+
+fn text(node: NodeRef<'_, '_>, first: &mut Option<Break>)
+    ensures { first.new ≡ with_breaks first.old (text (ref_view node.entry)) }
+{
+    if !is_text(node) {
+        at_value(PlanRule::Shape, node, first);
+    }
+}
+
+pub(crate) fn optional_text(fields: &Fields<'_, '_>, name: &str, first: &mut Option<Break>)
+    ensures { first.new ≡ with_breaks first.old (optional text (under name.now (fields_view fields.now))) }
+{
+    if let Some(node) = fields.get(name) {
+        text(node, first);
+    }
+}
+
+pub(crate) fn needed_text(
+    owner: NodeRef<'_, '_>,
+    fields: &Fields<'_, '_>,
+    name: &str,
+    first: &mut Option<Break>,
+)
+    ensures { first.new ≡ with_breaks first.old (needed text (ref_view owner.entry) (under name.now (fields_view fields.now))) }
+{
+    match fields.get(name) {
+        Some(node) => text(node, first),
+        None => at_value(PlanRule::Shape, owner, first),
+    }
+}
+
+// Whether the member counts: its name does not begin with `$`.
+pub(crate) fn is_counted(alloc: Global, field: Field<'_, '_>) -> Result<bool, NoMemory>
+    ensures { IfOk result (λ counts. counts ≡ not (is_reserved (field_view field.entry).name)) }
+{
+    let name = field.name(alloc)?;
+    Ok(match name.as_str().as_bytes().first() {
+        Some(byte) => *byte != b'$',
+        None => true,
+    })
+}
+
+fn neighbors(
+    alloc: Global,
+    fields: &Fields<'_, '_>,
+    first: &mut Option<Break>,
+) -> Result<(), NoMemory>
+    ensures { OnOk result (first.new ≡ with_breaks first.old (flat_map (at_name Shape) (counted (fields_view fields.now)))) }
+{
+    for field in *fields {
+        if is_counted(alloc, field)? {
+            at_name(PlanRule::Shape, field, first);
+        }
+    }
+    Ok(())
+}
+
+pub(crate) fn is_reference(fields: &Fields<'_, '_>) -> bool
+    ensures { result ≡ is_reference (fields_view fields.now) }
+{
+    fields.get("$ref").is_some()
+}
+
+pub(crate) fn reference(
+    alloc: Global,
+    fields: &Fields<'_, '_>,
+    first: &mut Option<Break>,
+) -> Result<(), NoMemory>
+    ensures { OnOk result (first.new ≡ with_breaks first.old (reference (fields_view fields.now))) }
+{
+    optional_text(fields, "$ref", first);
+    neighbors(alloc, fields, first)?;
+    Ok(())
+}
+
+fn source(alloc: Global, node: NodeRef<'_, '_>, first: &mut Option<Break>) -> Result<(), NoMemory>
+    ensures { OnOk result (first.new ≡ with_breaks first.old (source (ref_view node.entry))) }
+{
+    let Some(fields) = node.as_object() else {
+        at_value(PlanRule::Shape, node, first);
+        return Ok(());
+    };
+    if is_reference(&fields) {
+        reference(alloc, &fields, first)?;
+        return Ok(());
+    }
+    Ok(())
+}
+
+fn sources(alloc: Global, node: NodeRef<'_, '_>, first: &mut Option<Break>) -> Result<(), NoMemory>
+    ensures { OnOk result (first.new ≡ with_breaks first.old (sources (ref_view node.entry))) }
+{
+    let Some(items) = node.as_array() else {
+        at_value(PlanRule::Shape, node, first);
+        return Ok(());
+    };
+    for item in items {
+        source(alloc, item, first)?;
+    }
+    Ok(())
+}
+
+pub(crate) fn set_members(
+    alloc: Global,
+    owner: NodeRef<'_, '_>,
+    fields: &Fields<'_, '_>,
+    first: &mut Option<Break>,
+) -> Result<(), NoMemory>
+    ensures { OnOk result (first.new ≡ with_breaks first.old (set_members (ref_view owner.entry) (fields_view fields.now))) }
+{
+    match fields.get("sources") {
+        Some(node) => sources(alloc, node, first)?,
+        None => at_value(PlanRule::Shape, owner, first),
+    }
+    Ok(())
+}
+
+pub(crate) fn set(
+    alloc: Global,
+    node: NodeRef<'_, '_>,
+    first: &mut Option<Break>,
+) -> Result<(), NoMemory>
+    ensures { OnOk result (first.new ≡ with_breaks first.old (set (ref_view node.entry))) }
+{
+    let Some(fields) = node.as_object() else {
+        at_value(PlanRule::Shape, node, first);
+        return Ok(());
+    };
+    set_members(alloc, node, &fields, first)?;
+    Ok(())
+}
+
+// Whether a context among these members has the name.
+fn has_context(alloc: Global, name: &str, fields: &Fields<'_, '_>) -> Result<bool, NoMemory>
+    ensures { IfOk result (λ has. has ≡ has_context name.now (fields_view fields.now)) }
+{
+    for field in *fields {
+        if is_counted(alloc, field)? {
+            if field.is_named(name) {
+                return Ok(true);
+            }
+        }
+    }
+    Ok(false)
+}
+
+fn each_context(
+    alloc: Global,
+    fields: &Fields<'_, '_>,
+    first: &mut Option<Break>,
+) -> Result<(), NoMemory>
+    ensures { OnOk result (first.new ≡ with_breaks first.old (flat_map context (counted (fields_view fields.now)))) }
+{
+    for field in *fields {
+        if is_counted(alloc, field)? {
+            sources(alloc, field.value(), first)?;
+        }
+    }
+    Ok(())
+}
+
+fn counts_some(alloc: Global, fields: &Fields<'_, '_>) -> Result<bool, NoMemory>
+    ensures { IfOk result (λ some. some ≡ counts_some (fields_view fields.now)) }
+{
+    for field in *fields {
+        if is_counted(alloc, field)? {
+            return Ok(true);
+        }
+    }
+    Ok(false)
+}
+
+fn contexts(alloc: Global, node: NodeRef<'_, '_>, first: &mut Option<Break>) -> Result<(), NoMemory>
+    ensures { OnOk result (first.new ≡ with_breaks first.old (contexts (ref_view node.entry))) }
+{
+    let Some(fields) = node.as_object() else {
+        at_value(PlanRule::Shape, node, first);
+        return Ok(());
+    };
+    if !counts_some(alloc, &fields)? {
+        at_value(PlanRule::Contexts, node, first);
+        each_context(alloc, &fields, first)?;
+        return Ok(());
+    }
+    each_context(alloc, &fields, first)?;
+    Ok(())
+}
+
+// Whether the text is the name of a context of the modifier.
+fn names_context(alloc: Global, name: &str, fields: &Fields<'_, '_>) -> Result<bool, NoMemory>
+    ensures { IfOk result (λ names. names ≡ has_context name.now (context_entries (fields_view fields.now))) }
+{
+    let Some(node) = fields.get("contexts") else {
+        return Ok(false);
+    };
+    let Some(contexts) = node.as_object() else {
+        return Ok(false);
+    };
+    has_context(alloc, name, &contexts)
+}
+
+fn default(
+    alloc: Global,
+    fields: &Fields<'_, '_>,
+    node: NodeRef<'_, '_>,
+    first: &mut Option<Break>,
+) -> Result<(), NoMemory>
+    ensures { OnOk result (first.new ≡ with_breaks first.old (default (context_entries (fields_view fields.now)) (ref_view node.entry))) }
+{
+    let Some(name) = node.as_text(alloc)? else {
+        at_value(PlanRule::Shape, node, first);
+        at_value(PlanRule::Default, node, first);
+        return Ok(());
+    };
+    if !names_context(alloc, name.as_str(), fields)? {
+        at_value(PlanRule::Default, node, first);
+        return Ok(());
+    }
+    Ok(())
+}
+
+fn needed_contexts(
+    alloc: Global,
+    owner: NodeRef<'_, '_>,
+    fields: &Fields<'_, '_>,
+    first: &mut Option<Break>,
+) -> Result<(), NoMemory>
+    ensures { OnOk result (first.new ≡ with_breaks first.old (needed contexts (ref_view owner.entry) (under (codes "contexts") (fields_view fields.now)))) }
+{
+    match fields.get("contexts") {
+        Some(node) => contexts(alloc, node, first)?,
+        None => at_value(PlanRule::Shape, owner, first),
+    }
+    Ok(())
+}
+
+fn optional_default(
+    alloc: Global,
+    fields: &Fields<'_, '_>,
+    first: &mut Option<Break>,
+) -> Result<(), NoMemory>
+    ensures { OnOk result (first.new ≡ with_breaks first.old (optional (default (context_entries (fields_view fields.now))) (under (codes "default") (fields_view fields.now)))) }
+{
+    let Some(node) = fields.get("default") else {
+        return Ok(());
+    };
+    default(alloc, fields, node, first)?;
+    Ok(())
+}
+
+pub(crate) fn modifier_members(
+    alloc: Global,
+    owner: NodeRef<'_, '_>,
+    fields: &Fields<'_, '_>,
+    first: &mut Option<Break>,
+) -> Result<(), NoMemory>
+    ensures { OnOk result (first.new ≡ with_breaks first.old (modifier_members (ref_view owner.entry) (fields_view fields.now))) }
+{
+    needed_contexts(alloc, owner, fields, first)?;
+    optional_default(alloc, fields, first)?;
+    Ok(())
+}
+
+pub(crate) fn modifier(
+    alloc: Global,
+    node: NodeRef<'_, '_>,
+    first: &mut Option<Break>,
+) -> Result<(), NoMemory>
+    ensures { OnOk result (first.new ≡ with_breaks first.old (modifier (ref_view node.entry))) }
+{
+    let Some(fields) = node.as_object() else {
+        at_value(PlanRule::Shape, node, first);
+        return Ok(());
+    };
+    modifier_members(alloc, node, &fields, first)?;
+    Ok(())
+}
