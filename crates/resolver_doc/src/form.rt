@@ -162,10 +162,9 @@ fn has_context(alloc: Global, name: &str, fields: &Fields<'_, '_>) -> Result<boo
     ensures { IfOk result (λ has. has ≡ has_context name.now (fields_view fields.now)) }
 {
     for field in *fields {
-        if is_counted(alloc, field)? {
-            if field.is_named(name) {
-                return Ok(true);
-            }
+        let counts = is_counted(alloc, field)?;
+        if counts && field.is_named(name) {
+            return Ok(true);
         }
     }
     Ok(false)

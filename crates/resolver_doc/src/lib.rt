@@ -6,6 +6,8 @@ mod document;
 mod form;
 mod laws;
 mod rule;
+#[cfg(test)]
+mod tests;
 
 pub use document::form_break;
 pub use laws::break_laws;
