@@ -4,3 +4,4 @@ pub mod Kept
 pub mod Led
 pub mod Somes
 pub mod Typing
+pub mod Placing

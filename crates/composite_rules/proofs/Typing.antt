@@ -21,7 +21,7 @@ use Rattle.type_rules.specs.Forms.{array_in, object_in, number_in, members_in, s
 use Rattle.type_rules.specs.Words.{meaning}
 use Rattle.type_rules.specs.Value.{color_in, size_in, time_in, curve_in, families_in, weight_in, simple_value}
 use Rattle.type_rules.specs.Trails.{item_at, child, plain_at}
-use Rattle.type_rules.proofs.Keeping.{made, found, from_part}
+use Rattle.type_rules.proofs.Keeping.{made, found, from_some, from_part}
 use Rattle.type_rules.proofs.Leading.{members_are, some_items_are}
 use Rattle.type_rules.proofs.Standing.{some_then, some_is}
 use Rattle.type_rules.proofs.WordFacts.{same_text}
@@ -74,32 +74,33 @@ stroke_typed w x e = rw e refl
 
 -- rows: what stands under the name of a part has the part as its value
 
-abbrev IsTypedIn : List Entry → List ℕ × Typed → Type 0
-IsTypedIn es r = (w : Value) → named r.0 es ≡ Some w → value_of (kind_of r.1) w ≡ Ok r.1
+pub record IsTypedIn (es : List Entry) (r : List ℕ × Typed) : Type 0 where
+  pub value : Value
+  pub stands : named r.0 es ≡ Some value
+  pub typed : value_of (kind_of r.1) value ≡ Ok r.1
 
-record Rows (v : Value) (row : Row) : Type 0 where
-  es : List Entry
-  object : object_in v ≡ Some es
-  typed : AllByRecursion (IsTypedIn es) row
+pub record Rows (v : Value) (row : Row) : Type 0 where
+  pub es : List Entry
+  pub object : object_in v ≡ Some es
+  pub typed : AllByRecursion (IsTypedIn es) row
 
-row_by : (es : List Entry) (r : List ℕ × Typed) (row : Row) (name : List ℕ) (w : Value) (x : Typed) (b : Bool) → bytes_eq r.0 name ≡ b → IsTypedIn es r → (meaning row name ≡ Some x → value_of (kind_of x) w ≡ Ok x) → cond b (Some r.1) (meaning row name) ≡ Some x → named name es ≡ Some w → value_of (kind_of x) w ≡ Ok x
-row_by es r row name w x true t here later e n =
-    let P : Typed → Type 0 = λ z. value_of (kind_of z) w ≡ Ok z in
-    subst P (some_is r.1 x e) (here w (ap (λ m. named m es) (same_text r.0 name t) ∙ n))
-row_by es r row name w x false t here later e n = later e
+row_by : (es : List Entry) (r : List ℕ × Typed) (row : Row) (name : List ℕ) (x : Typed) (b : Bool) → bytes_eq r.0 name ≡ b → IsTypedIn es r → (meaning row name ≡ Some x → IsTypedIn es (name, x)) → cond b (Some r.1) (meaning row name) ≡ Some x → IsTypedIn es (name, x)
+row_by es r row name x true t here later e =
+    let P : List ℕ → Type 0 = λ m. IsTypedIn es (m, r.1) in
+    let Q : Typed → Type 0 = λ z. IsTypedIn es (name, z) in
+    subst Q (some_is r.1 x e) (subst P (same_text r.0 name t) here)
+row_by es r row name x false t here later e = later e
 
-in_row : (es : List Entry) (row : Row) (name : List ℕ) (w : Value) (x : Typed) → AllByRecursion (IsTypedIn es) row → meaning row name ≡ Some x → named name es ≡ Some w → value_of (kind_of x) w ≡ Ok x
-in_row es [] name w x h e n = absurd (let k : ⊥ = cc in k)
-in_row es (r ∷ row) name w x (h, hs) e n = row_by es r row name w x (bytes_eq r.0 name) refl h (λ k. in_row es row name w x hs k n) e n
+pub in_row : (es : List Entry) (row : Row) (name : List ℕ) (x : Typed) → AllByRecursion (IsTypedIn es) row → meaning row name ≡ Some x → IsTypedIn es (name, x)
+in_row es [] name x h e = absurd (let k : ⊥ = cc in k)
+in_row es (r ∷ row) name x (h, hs) e = row_by es r row name x (bytes_eq r.0 name) refl h (λ k. in_row es row name x hs k) e
 
 member_is : {A : Type 0} (check : Value → Checked A) (name : List ℕ) (es : List Entry) (x : A) (t : Typed) → ((w : Value) → check w ≡ Ok x → value_of (kind_of t) w ≡ Ok t) → member check name es ≡ Ok x → IsTypedIn es (name, t)
 unfolding member
-member_is check name es x t to e w n =
-    let k : under name (check w) ≡ Ok x = (ap (λ o. or_broken ValueShape o >>= λ v. under name (check v)) (sym n)) ∙ e in
-    to w (from_part name (check w) x k)
+member_is check name es x t to e = made (or_broken ValueShape (named name es)) (λ v. under name (check v)) x e (λ u h k. record { value = u; stands = from_some ValueShape (named name es) u h; typed = to u (from_part name (check u) x k) })
 
 -- the child of an object, and of a list
-child_named : (v : Value) (es : List Entry) (name : List ℕ) → object_in v ≡ Some es → child name v ≡ named name es
+pub child_named : (v : Value) (es : List Entry) (name : List ℕ) → object_in v ≡ Some es → child name v ≡ named name es
 child_named plain_null es name o = absurd (let h : ⊥ = cc in h)
 child_named (plain_boolean b) es name o = absurd (let h : ⊥ = cc in h)
 child_named (plain_number k) es name o = absurd (let h : ⊥ = cc in h)
@@ -107,7 +108,7 @@ child_named (plain_string s) es name o = absurd (let h : ⊥ = cc in h)
 child_named (plain_array vs) es name o = absurd (let h : ⊥ = cc in h)
 child_named (plain_object ms) es name o = ap (named name) (some_is (plain_entries_in ms) es o)
 
-child_item : (v : Value) (vs : List Value) (step : List ℕ) → array_in v ≡ Some vs → child step v ≡ item_at step 0 vs
+pub child_item : (v : Value) (vs : List Value) (step : List ℕ) → array_in v ≡ Some vs → child step v ≡ item_at step 0 vs
 child_item plain_null vs step o = absurd (let h : ⊥ = cc in h)
 child_item (plain_boolean b) vs step o = absurd (let h : ⊥ = cc in h)
 child_item (plain_number k) vs step o = absurd (let h : ⊥ = cc in h)
@@ -119,11 +120,14 @@ last_step : (v w : Value) (name : List ℕ) → plain_at v (name ∷ []) ≡ Som
 last_step v w name e = some_then (λ u. Some u) (child name v) w e (λ u h k. h ∙ ap Some (some_is u w k))
 
 member_part : (v w : Value) (row : Row) (name : List ℕ) (x : Typed) → Rows v row → plain_at v (name ∷ []) ≡ Some w → meaning row name ≡ Some x → value_of (kind_of x) w ≡ Ok x
-member_part v w row name x r e m = in_row r.es row name w x r.typed m (sym (child_named v r.es name r.object) ∙ last_step v w name e)
+member_part v w row name x r e m =
+    let here = in_row r.es row name x r.typed m in
+    let P : Value → Type 0 = λ z. value_of (kind_of x) z ≡ Ok x in
+    subst P (some_is here.value w (sym here.stands ∙ (sym (child_named v r.es name r.object) ∙ last_step v w name e))) here.typed
 
 -- the rows of the kinds
 
-border_rows : (v : Value) (b : Border) → border_in v ≡ Ok b → Rows v (border_row b)
+pub border_rows : (v : Value) (b : Border) → border_in v ≡ Ok b → Rows v (border_row b)
 unfolding border_in
 border_rows v b e =
     made (members_in v) _ b e (λ es h e1.
@@ -143,7 +147,7 @@ border_rows v b e =
       );
     })))))
 
-transition_rows : (v : Value) (t : Transition) → transition_in v ≡ Ok t → Rows v (transition_row t)
+pub transition_rows : (v : Value) (t : Transition) → transition_in v ≡ Ok t → Rows v (transition_row t)
 unfolding transition_in
 transition_rows v t e =
     made (members_in v) _ t e (λ es h e1.
@@ -163,7 +167,7 @@ transition_rows v t e =
       );
     })))))
 
-shadow_rows : (v : Value) (item : ShadowItem) → shadow_item_in v ≡ Ok item → Rows v (shadow_row item)
+pub shadow_rows : (v : Value) (item : ShadowItem) → shadow_item_in v ≡ Ok item → Rows v (shadow_row item)
 unfolding shadow_item_in
 shadow_rows v item e =
     made (members_in v) _ item e (λ es h e1.
@@ -192,7 +196,7 @@ shadow_rows v item e =
       );
     }))))))))
 
-stop_rows : (v : Value) (stop : ColorStop) → stop_in v ≡ Ok stop → Rows v (stop_row stop)
+pub stop_rows : (v : Value) (stop : ColorStop) → stop_in v ≡ Ok stop → Rows v (stop_row stop)
 unfolding stop_in
 stop_rows v stop e =
     made (members_in v) _ stop e (λ es h e1.
@@ -205,7 +209,7 @@ stop_rows v stop e =
       typed = (member_is color_in (codes "color") es color (color_part color) (λ u k. color_typed u color k) c, tt);
     }))))
 
-typography_rows : (v : Value) (t : Typography) → typography_in v ≡ Ok t → Rows v (typography_row t)
+pub typography_rows : (v : Value) (t : Typography) → typography_in v ≡ Ok t → Rows v (typography_row t)
 unfolding typography_in
 typography_rows v t e =
     made (members_in v) _ t e (λ es h e1.
@@ -239,7 +243,7 @@ item_map_by : {A B : Type 0} (f : A → B) (step : List ℕ) (i : ℕ) (x : A) (
 item_map_by f step i x xs true h = refl
 item_map_by f step i x xs false h = h
 
-item_map : {A B : Type 0} (f : A → B) (step : List ℕ) (i : ℕ) (xs : List A) → item_at step i (map f xs) ≡ option_map f (item_at step i xs)
+pub item_map : {A B : Type 0} (f : A → B) (step : List ℕ) (i : ℕ) (xs : List A) → item_at step i (map f xs) ≡ option_map f (item_at step i xs)
 item_map f step i [] = refl
 item_map f step i (x ∷ xs) = item_map_by f step i x xs (bytes_eq (decimal i) step) (item_map f step (i + 1) xs)
 
@@ -263,12 +267,12 @@ pair check step i (v ∷ vs) xs w e n =
     found (λ z. Pair check step i z w) (x ∷ ys) xs e3 (pair_by check step i v w vs x ys (bytes_eq (decimal i) step) refl (from_part (decimal i) (check v) x h) (λ m. pair check step (i + 1) vs ys w k m) n)))
 
 -- a list with its items
-record Items {A : Type 0} (check : Value → Checked A) (v : Value) (xs : List A) : Type 0 where
-  vs : List Value
-  array : array_in v ≡ Some vs
-  every : each check 0 vs ≡ Ok xs
+pub record Items {A : Type 0} (check : Value → Checked A) (v : Value) (xs : List A) : Type 0 where
+  pub vs : List Value
+  pub array : array_in v ≡ Some vs
+  pub every : each check 0 vs ≡ Ok xs
 
-items_are : {A : Type 0} (check : Value → Checked A) (v : Value) (xs : List A) → some_in check v ≡ Ok xs → Items check v xs
+pub items_are : {A : Type 0} (check : Value → Checked A) (v : Value) (xs : List A) → some_in check v ≡ Ok xs → Items check v xs
 unfolding some_in
 items_are check v xs e = made (some_items_in v) _ xs e (λ vs h e2. record { vs = vs; array = some_items_are v vs h; every = e2 })
 

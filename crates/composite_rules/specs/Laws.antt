@@ -15,7 +15,7 @@ use Rattle.composite_rules.specs.declared.typed.Typed.{Typed}
 use Rattle.composite_rules.specs.Words.{stroke_words, stroke_word_name, caps, cap_name}
 use Rattle.composite_rules.specs.Value.{clamped, value_of}
 use Rattle.composite_rules.specs.Sound.{kind_of, IsTyped}
-use Rattle.composite_rules.specs.Parts.{part_at}
+use Rattle.composite_rules.specs.Parts.{part_at, HasForm}
 
 -- a value has the kind under which it is read, and keeps what values of the kind keep
 abbrev pub KindsStay : Type 0
@@ -48,6 +48,11 @@ SharesStay = (d : Decimal) → IsPart d → clamped d ≡ d
 abbrev pub PartsAreTyped : Type 0
 PartsAreTyped = (kind : Kind) (v w : Value) (t part : Typed) (steps : List (List ℕ))
     → value_of kind v ≡ Ok t → plain_at v steps ≡ Some w → part_at t steps ≡ Some part → value_of (kind_of part) w ≡ Ok part
+
+-- and where the value is written in the form of such steps, something stands there
+abbrev pub PartsStand : Type 0
+PartsStand = (kind : Kind) (v : Value) (t part : Typed) (steps : List (List ℕ))
+    → value_of kind v ≡ Ok t → part_at t steps ≡ Some part → HasForm v steps → (w : Value) × (plain_at v steps ≡ Some w)
 
 -- a word stands for what has it as its name, and for nothing else
 abbrev pub StrokeWordsNamed : Type 0

@@ -1,9 +1,11 @@
 -- The parts of a value that are values of kinds of their own, and the steps that lead to them.
-use Rattle.std.specs.Prelude.{ℕ, List, [], ◌∷◌, map, codes, Option, Some, None, option_and_then}
+use Rattle.std.specs.Prelude.{◌≡◌, ℕ, List, [], ◌∷◌, map, codes, Option, Some, None, option_and_then, ⊤}
 use Rattle.type_rules.specs.declared.color.Color.{Color}
 use Rattle.type_rules.specs.declared.size.Size.{Size}
 use Rattle.type_rules.specs.declared.time.Time.{Time}
 use Rattle.type_rules.specs.declared.simple.Simple.TheVariants as simple
+use Rattle.json_span.specs.PlainView.{Value, Entry}
+use Rattle.type_rules.specs.Forms.{array_in, object_in}
 use Rattle.type_rules.specs.Trails.{item_at}
 use Rattle.type_rules.specs.Words.{meaning}
 use Rattle.composite_rules.specs.declared.border.Border.{Border}
@@ -85,3 +87,11 @@ part_at t [] = Some t
 part_at t (name ∷ []) = meaning (member_row t) name
 part_at t (index ∷ name ∷ []) = option_and_then (λ row. meaning row name) (item_at index 0 (item_rows t))
 part_at t (a ∷ b ∷ c ∷ steps) = None
+
+-- A part of a whole value is written as a member where the value is an object, and as a member of an item where it is a
+-- list.
+abbrev pub HasForm : Value → List (List ℕ) → Type 0
+HasForm v [] = ⊤
+HasForm v (name ∷ []) = (es : List Entry) × (object_in v ≡ Some es)
+HasForm v (index ∷ name ∷ []) = (vs : List Value) × (array_in v ≡ Some vs)
+HasForm v (a ∷ b ∷ c ∷ steps) = ⊥

@@ -3,12 +3,13 @@
 use Rattle.std.specs.Prelude.{ℕ, Bool, false, List, [], ◌∷◌, codes, pos, Option, Some, None, Ok, if◌then◌else◌}
 use Rattle.std.specs.Ordering.{is_gt, is_lt}
 use Rattle.json_span.specs.Plain.{plain_null, plain_boolean, plain_number, plain_string, plain_array, plain_object}
-use Rattle.json_span.specs.PlainView.{Value}
+use Rattle.json_span.specs.PlainView.{Value, Entry}
 use Rattle.dec_fix.specs.Decimal.{Decimal}
 use Rattle.dec_fix.specs.Arithmetic.{order_with, whole}
 use Rattle.name_path.specs.declared.kind.Kind.{Kind}
 use Rattle.name_path.specs.declared.kind.Kind.TheVariants as kind
 use Rattle.type_rules.specs.declared.fault.ValueRule.TheVariants.{ValueShape, StrokeWord, StrokeCap}
+use Rattle.type_rules.specs.declared.size.Size.{Size}
 use Rattle.type_rules.specs.Checked.{Checked, broken, or_broken, under, ◌>>=◌}
 use Rattle.type_rules.specs.Forms.{string_in, array_in, number_in, members_in, if_text, named, member, member_or, list_in, some_in}
 use Rattle.type_rules.specs.Words.{meaning, word_in}
@@ -30,10 +31,13 @@ stroke_of_word text = do
   word ← or_broken StrokeWord (meaning stroke_words text)
   Ok (stroke.Word word)
 
+abbrev pub lengths_member : List Entry → Checked (List Size)
+lengths_member es = member (list_in size_in) (codes "dashArray") es
+
 unfoldable pub dashes_in : Value → Checked Stroke
 dashes_in v = do
   es ← members_in v
-  lengths ← member (list_in size_in) (codes "dashArray") es
+  lengths ← lengths_member es
   cap ← member (word_in StrokeCap caps) (codes "lineCap") es
   Ok (stroke.Dashes lengths cap)
 
@@ -68,7 +72,10 @@ boolean_of (plain_object ms) = None
 unfoldable pub boolean_in : Value → Checked Bool
 boolean_in v = or_broken ValueShape (boolean_of v)
 
--- one shadow; without an `inset` it is none that lies inside
+-- without an `inset` a shadow is none that falls inside
+abbrev pub inset_member : List Entry → Checked Bool
+inset_member es = member_or boolean_in false (codes "inset") es
+
 unfoldable pub shadow_item_in : Value → Checked ShadowItem
 shadow_item_in v = do
   es ← members_in v
@@ -77,7 +84,7 @@ shadow_item_in v = do
   offset_y ← member size_in (codes "offsetY") es
   blur ← member size_in (codes "blur") es
   spread ← member size_in (codes "spread") es
-  inset ← member_or boolean_in false (codes "inset") es
+  inset ← inset_member es
   Ok (record { color = color; offset_x = offset_x; offset_y = offset_y; blur = blur; spread = spread; inset = inset })
 
 -- a shadow that is one object has no member `0`, so that a step `0` leads to the first item of a list

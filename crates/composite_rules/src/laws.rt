@@ -1,6 +1,6 @@
 //! Laws over the definitions alone, for the layers above.
 
-ghost use Rattle.composite_rules.specs.Laws.{KindsStay, ValuesKeep, ValuesAreWritten, ValuesBreakInside, ZerosBreak, PositionsClamp, SharesStay, PartsAreTyped, StrokeWordsNamed, CapsNamed};
+ghost use Rattle.composite_rules.specs.Laws.{KindsStay, ValuesKeep, ValuesAreWritten, ValuesBreakInside, ZerosBreak, PositionsClamp, SharesStay, PartsAreTyped, PartsStand, StrokeWordsNamed, CapsNamed};
 
 /// A value has the kind under which it is read, and lies in the ranges of the kind; its numbers are such as are read.
 /// Each such value is the value of some plain value. Where a rule is broken, the steps lead from the value to a part of
@@ -16,9 +16,11 @@ pub fn value_laws()
     ensures shares { SharesStay }
 {}
 
-/// What stands at the steps of a part is a value of the part's kind, and the part is that value.
+/// What stands at the steps of a part is a value of the part's kind, and the part is that value; and each part stands at
+/// its steps in the value.
 pub fn part_laws()
-    ensures { PartsAreTyped }
+    ensures typed { PartsAreTyped }
+    ensures stand { PartsStand }
 {}
 
 /// What the words mean.

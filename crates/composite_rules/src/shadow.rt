@@ -2,9 +2,9 @@
 
 ghost use Rattle.std.specs.Prelude.{◌≡◌, Ok, IfOk, IfErr, codes, false};
 ghost use Rattle.json_span.specs.PlainView.{plain_view, plain_fields_view};
-ghost use Rattle.type_rules.specs.Answer.{IsBreak};
+ghost use Rattle.type_rules.specs.Answer.{IsFound, IsBreak};
 ghost use Rattle.type_rules.specs.Forms.{member_or};
-ghost use Rattle.composite_rules.specs.Value.{boolean_of, boolean_in, shadow_item_in, one_item, one_shadow, shadows_in};
+ghost use Rattle.composite_rules.specs.Value.{boolean_of, boolean_in, inset_member, shadow_item_in, one_item, one_shadow, shadows_in};
 
 use json_span::{Plain, PlainFields};
 use std::alloc::Global;
@@ -50,8 +50,8 @@ fn check_boolean<'s>(alloc: Global, plain: &Plain<'s>) -> Result<bool, ValueFaul
 }
 
 fn inset_under<'s>(alloc: Global, members: &PlainFields<'s>) -> Result<bool, ValueFault<'s>>
-    ensures ok { IfOk result (λ x. member_or boolean_in false (codes "inset") (plain_fields_view members.now) ≡ Ok x) }
-    ensures broken { IfErr result (IsBreak (member_or boolean_in false (codes "inset") (plain_fields_view members.now))) }
+    ensures ok { IfOk result (IsFound (inset_member (plain_fields_view members.now))) }
+    ensures broken { IfErr result (IsBreak (inset_member (plain_fields_view members.now))) }
 {
     match named(members, "inset") {
         Some(plain) => under(alloc, "inset", check_boolean(alloc, plain)),

@@ -2,10 +2,10 @@
 
 ghost use Rattle.std.specs.Prelude.{◌≡◌, Ok, IfOk, IfErr, codes};
 ghost use Rattle.json_span.specs.PlainView.{plain_view, plain_fields_view};
-ghost use Rattle.type_rules.specs.Answer.{IsBreak};
+ghost use Rattle.type_rules.specs.Answer.{IsFound, IsBreak};
 ghost use Rattle.type_rules.specs.Forms.{member, list_in};
 ghost use Rattle.type_rules.specs.Value.{size_in};
-ghost use Rattle.composite_rules.specs.Value.{stroke_of_word, dashes_in, stroke_in};
+ghost use Rattle.composite_rules.specs.Value.{stroke_of_word, lengths_member, dashes_in, stroke_in};
 ghost use Rattle.composite_rules.specs.Words.{stroke_word_name, cap_name};
 
 use json_span::{Plain, PlainFields};
@@ -105,8 +105,8 @@ fn stroke_of_word<'s>(alloc: Global, text: &str) -> Result<Stroke, ValueFault<'s
 }
 
 fn lengths_under<'s>(alloc: Global, members: &PlainFields<'s>) -> Result<Sizes, ValueFault<'s>>
-    ensures ok { IfOk result (λ x. member (list_in size_in) (codes "dashArray") (plain_fields_view members.now) ≡ Ok x) }
-    ensures broken { IfErr result (IsBreak (member (list_in size_in) (codes "dashArray") (plain_fields_view members.now))) }
+    ensures ok { IfOk result (IsFound (lengths_member (plain_fields_view members.now))) }
+    ensures broken { IfErr result (IsBreak (lengths_member (plain_fields_view members.now))) }
 {
     let plain = required(alloc, members, "dashArray")?;
     under(alloc, "dashArray", list_of::<Size>(alloc, plain))

@@ -84,9 +84,12 @@ named name [] = None
 named name (e ∷ es) = if bytes_eq e.name name then Some e.value else named name es
 
 -- a member that must be there; where it is missing, its object has the break
+abbrev pub member_value : List ℕ → List Entry → Checked Value
+member_value name es = or_broken ValueShape (named name es)
+
 unfoldable pub member : {A : Type 0} → (Value → Checked A) → List ℕ → List Entry → Checked A
 member check name es = do
-  v ← or_broken ValueShape (named name es)
+  v ← member_value name es
   under name (check v)
 
 -- a member that may be missing, and what stands for it then
@@ -98,9 +101,12 @@ unfoldable pub member_or : {A : Type 0} → (Value → Checked A) → A → List
 member_or check absent name es = member_if check absent name (named name es)
 
 -- the i-th item
+abbrev pub item_value : ℕ → List Value → Checked Value
+item_value i vs = or_broken ValueShape (slice_get vs i)
+
 unfoldable pub item : {A : Type 0} → (Value → Checked A) → ℕ → List Value → Checked A
 item check i vs = do
-  v ← or_broken ValueShape (slice_get vs i)
+  v ← item_value i vs
   under (decimal i) (check v)
 
 -- each item, of which the first is the i-th

@@ -1,11 +1,12 @@
 -- The types of values (Design Tokens Format Module 2025.10): what a value is under each simple kind, or the first rule that it breaks. The parts
 -- are checked in the order of the lines.
 use Rattle.std.specs.Prelude.{ℕ, ◌==◌, ◌&&◌, List, [], ◌∷◌, map, length, codes, pos, Option, Some, None, Ok, if◌then◌else◌}
+use Rattle.std.specs.Borrow.{Bor}
 use Rattle.std.specs.Char.{is_ascii_hexdigit, to_ascii_lowercase}
 use Rattle.std.specs.Fmt.{decimal}
 use Rattle.std.specs.List.{list_all}
 use Rattle.std.specs.Str.{bytes_eq}
-use Rattle.json_span.specs.PlainView.{Value}
+use Rattle.json_span.specs.PlainView.{Value, Entry}
 use Rattle.dec_fix.specs.Decimal.{Decimal}
 use Rattle.dec_fix.specs.Arithmetic.{whole}
 use Rattle.name_path.specs.declared.kind.Kind.{Kind}
@@ -26,7 +27,7 @@ use Rattle.type_rules.specs.declared.simple.Simple.TheVariants as simple
 use Rattle.type_rules.specs.Checked.{Checked, broken, or_broken, under, ◌>>=◌}
 use Rattle.type_rules.specs.Forms.{string_in, number_in, text_in, members_in, if_text, items_of_length, member, member_or, item, some_in}
 use Rattle.type_rules.specs.Ranges.{ranged, ranges_of, share}
-use Rattle.type_rules.specs.Words.{word_in, meaning, size_units, time_units, weights, spaces}
+use Rattle.type_rules.specs.Words.{rows_of, word_in, meaning, size_units, time_units, weights, spaces}
 
 -- a number and a unit out of a table of units
 unfoldable pub measure_in : {U : Type 0} → ValueRule → List (List ℕ × U) → Value → Checked (Decimal × U)
@@ -35,6 +36,10 @@ measure_in rule units v = do
   value ← member number_in (codes "value") es
   unit ← member (word_in rule units) (codes "unit") es
   Ok (value, unit)
+
+-- the same by a table of the code
+abbrev pub measure_by : {U : Type 0} → ValueRule → List (Bor (List ℕ) × U) → Value → Checked (Decimal × U)
+measure_by rule units v = measure_in rule (rows_of units) v
 
 -- a length
 unfoldable pub size_in : Value → Checked Size
@@ -57,10 +62,13 @@ four_numbers v = do
   y2 ← item number_in 3 vs
   Ok (record { x1 = x1; y1 = y1; x2 = x2; y2 = y2 })
 
+abbrev pub share_at : ℕ → Decimal → Checked Decimal
+share_at i d = under (decimal i) (ranged BezierRange share d)
+
 unfoldable pub ranged_curve : Curve → Checked Curve
 ranged_curve c = do
-  x1 ← under (decimal 0) (ranged BezierRange share c.x1)
-  x2 ← under (decimal 2) (ranged BezierRange share c.x2)
+  x1 ← share_at 0 c.x1
+  x2 ← share_at 2 c.x2
   Ok (record { x1 = x1; y1 = c.y1; x2 = x2; y2 = c.y2 })
 
 unfoldable pub curve_in : Value → Checked Curve
@@ -142,14 +150,24 @@ hex_in v = do
   digits ← or_broken ColorHex (hex_digits text)
   Ok (Some digits)
 
--- a colour; without an alpha it has the alpha 1
+abbrev pub components_member : Space → List Entry → Checked Components
+components_member space es = member (components_in space) (codes "components") es
+
+-- without an alpha a colour has the alpha 1
+abbrev pub alpha_member : List Entry → Checked Decimal
+alpha_member es = member_or alpha_in (whole (pos 1)) (codes "alpha") es
+
+abbrev pub hex_member : List Entry → Checked (Option (List ℕ))
+hex_member es = member_or hex_in None (codes "hex") es
+
+-- a colour
 unfoldable pub color_in : Value → Checked Color
 color_in v = do
   es ← members_in v
   space ← member (word_in ColorSpace spaces) (codes "colorSpace") es
-  cs ← member (components_in space) (codes "components") es
-  alpha ← member_or alpha_in (whole (pos 1)) (codes "alpha") es
-  hex ← member_or hex_in None (codes "hex") es
+  cs ← components_member space es
+  alpha ← alpha_member es
+  hex ← hex_member es
   Ok (record { space = space; first = cs.first; second = cs.second; third = cs.third; alpha = alpha; hex = hex })
 
 -- The value under a kind. A kind whose values are made of values of other kinds has none here.

@@ -2,7 +2,8 @@
 use Rattle.std.specs.Prelude.{ℕ, List, [], ◌∷◌, map, codes, Option, Some, None, if◌then◌else◌}
 use Rattle.std.specs.Borrow.{Bor}
 use Rattle.std.specs.Str.{bytes_eq}
-use Rattle.json_span.specs.PlainView.{Value}
+use Rattle.json_span.specs.declared.plain.PlainFields.{PlainFields}
+use Rattle.json_span.specs.PlainView.{Value, plain_fields_view}
 use Rattle.type_rules.specs.declared.fault.ValueRule.{ValueRule}
 use Rattle.type_rules.specs.declared.size.SizeUnit.{SizeUnit}
 use Rattle.type_rules.specs.declared.size.SizeUnit.TheVariants.{Px, Rem}
@@ -11,7 +12,7 @@ use Rattle.type_rules.specs.declared.time.TimeUnit.TheVariants.{Ms, S}
 use Rattle.type_rules.specs.declared.space.Space.{Space}
 use Rattle.type_rules.specs.declared.space.Space.TheVariants.{Srgb, SrgbLinear, DisplayP3, A98Rgb, ProphotoRgb, Rec2020, XyzD65, XyzD50, Hsl, Hwb, Lab, Lch, Oklab, Oklch}
 use Rattle.type_rules.specs.Checked.{Checked, or_broken, ◌>>=◌}
-use Rattle.type_rules.specs.Forms.{text_in}
+use Rattle.type_rules.specs.Forms.{text_in, member}
 
 -- what a word stands for by a table of words
 abbrev pub meaning : {A : Type 0} → List (List ℕ × A) → List ℕ → Option A
@@ -27,6 +28,13 @@ unfoldable pub word_in : {A : Type 0} → ValueRule → List (List ℕ × A) →
 word_in rule table v = do
   word ← text_in v
   or_broken rule (meaning table word)
+
+-- the same by a table of the code
+abbrev pub word_by : {A : Type 0} → ValueRule → List (Bor (List ℕ) × A) → Value → Checked A
+word_by rule table v = word_in rule (rows_of table) v
+
+abbrev pub word_at : {A : Type 0} → ValueRule → List (Bor (List ℕ) × A) → List ℕ → PlainFields → Checked A
+word_at rule table name members = member (word_by rule table) name (plain_fields_view members)
 
 abbrev pub size_unit_name : SizeUnit → List ℕ
 size_unit_name Px = codes "px"

@@ -1,13 +1,11 @@
 //! Colours.
 
-ghost use Rattle.std.specs.Prelude.{◌≡◌, length, map, pos, codes, Ok, None, IfOk, IfErr};
+ghost use Rattle.std.specs.Prelude.{◌≡◌, length, map, Ok, IfOk, IfErr};
 ghost use Rattle.std.specs.Char.{is_ascii_hexdigit, to_ascii_lowercase};
 ghost use Rattle.std.specs.List.{list_all};
 ghost use Rattle.json_span.specs.PlainView.{plain_view, plain_fields_view};
-ghost use Rattle.dec_fix.specs.Arithmetic.{whole};
-ghost use Rattle.type_rules.specs.Answer.{IsBreak};
-ghost use Rattle.type_rules.specs.Forms.{member, member_or};
-ghost use Rattle.type_rules.specs.Value.{components_in, alpha_in, hex_digits, hex_in, color_in};
+ghost use Rattle.type_rules.specs.Answer.{IsFound, IsBreak, among};
+ghost use Rattle.type_rules.specs.Value.{components_member, alpha_in, alpha_member, hex_digits, hex_in, hex_member, color_in};
 
 use crate::components::{Components, components_of};
 use crate::fault::{ValueFault, ValueRule, or_broken, under};
@@ -38,8 +36,8 @@ fn components_under<'s>(
     space: Space,
     members: &PlainFields<'s>,
 ) -> Result<Components, ValueFault<'s>>
-    ensures ok { IfOk result (λ x. member (components_in space) (codes "components") (plain_fields_view members.now) ≡ Ok x) }
-    ensures broken { IfErr result (IsBreak (member (components_in space) (codes "components") (plain_fields_view members.now))) }
+    ensures ok { IfOk result (IsFound (among (components_member space) members.now)) }
+    ensures broken { IfErr result (IsBreak (among (components_member space) members.now)) }
 {
     let plain = required(alloc, members, "components")?;
     under(alloc, "components", components_of(alloc, space, plain))
@@ -54,8 +52,8 @@ fn alpha_of<'s>(alloc: Global, plain: &Plain<'s>) -> Result<Dec, ValueFault<'s>>
 }
 
 fn alpha_under<'s>(alloc: Global, members: &PlainFields<'s>) -> Result<Dec, ValueFault<'s>>
-    ensures ok { IfOk result (λ x. member_or alpha_in (whole (pos 1)) (codes "alpha") (plain_fields_view members.now) ≡ Ok x) }
-    ensures broken { IfErr result (IsBreak (member_or alpha_in (whole (pos 1)) (codes "alpha") (plain_fields_view members.now))) }
+    ensures ok { IfOk result (IsFound (alpha_member (plain_fields_view members.now))) }
+    ensures broken { IfErr result (IsBreak (alpha_member (plain_fields_view members.now))) }
 {
     match named(members, "alpha") {
         Some(plain) => under(alloc, "alpha", alpha_of(alloc, plain)),
@@ -109,8 +107,8 @@ fn hex_under<'s>(
     alloc: Global,
     members: &PlainFields<'s>,
 ) -> Result<Option<[u8; 6]>, ValueFault<'s>>
-    ensures ok { IfOk result (λ x. member_or hex_in None (codes "hex") (plain_fields_view members.now) ≡ Ok x) }
-    ensures broken { IfErr result (IsBreak (member_or hex_in None (codes "hex") (plain_fields_view members.now))) }
+    ensures ok { IfOk result (IsFound (hex_member (plain_fields_view members.now))) }
+    ensures broken { IfErr result (IsBreak (hex_member (plain_fields_view members.now))) }
 {
     match named(members, "hex") {
         Some(plain) => under(alloc, "hex", hex_of(alloc, plain)),

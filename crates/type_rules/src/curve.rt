@@ -1,13 +1,10 @@
 //! Cubic Bézier curves.
 
 ghost use Rattle.std.specs.Prelude.{◌≡◌, Ok, IfOk, IfErr};
-ghost use Rattle.std.specs.Fmt.{decimal};
 ghost use Rattle.json_span.specs.PlainView.{plain_view, plain_items_view};
-ghost use Rattle.type_rules.specs.Answer.{IsBreak};
-ghost use Rattle.type_rules.specs.Checked.{under};
+ghost use Rattle.type_rules.specs.Answer.{IsFound, IsBreak};
 ghost use Rattle.type_rules.specs.Forms.{item, number_in};
-ghost use Rattle.type_rules.specs.Ranges.{ranged, share};
-ghost use Rattle.type_rules.specs.Value.{four_numbers, ranged_curve, curve_in};
+ghost use Rattle.type_rules.specs.Value.{four_numbers, share_at, ranged_curve, curve_in};
 
 use crate::fault::{ValueFault, ValueRule, at_item};
 use crate::forms::items_of_length;
@@ -40,8 +37,8 @@ fn four_numbers<'s>(alloc: Global, plain: &Plain<'s>) -> Result<Curve, ValueFaul
 
 // The i-th number, where it lies within 0 to 1.
 fn share_at<'s>(alloc: Global, i: usize, number: Dec) -> Result<Dec, ValueFault<'s>>
-    ensures ok { IfOk result (λ x. under (decimal i) (ranged ValueRule.BezierRange share number) ≡ Ok x) }
-    ensures broken { IfErr result (IsBreak (under (decimal i) (ranged ValueRule.BezierRange share number))) }
+    ensures ok { IfOk result (IsFound (share_at i number)) }
+    ensures broken { IfErr result (IsBreak (share_at i number)) }
 {
     at_item(
         alloc,

@@ -2,9 +2,8 @@
 
 ghost use Rattle.std.specs.Prelude.{◌≡◌, Ok, IfOk, IfErr, option_map, slice_get};
 ghost use Rattle.json_span.specs.PlainView.{plain_view, plain_items_view, plain_fields_view};
-ghost use Rattle.type_rules.specs.Answer.{IsBreak};
-ghost use Rattle.type_rules.specs.Checked.{or_broken};
-ghost use Rattle.type_rules.specs.Forms.{spelling_in, string_in, array_in, object_in, number_in, text_in, items_in, members_in, items_of_length, some_items_in, named};
+ghost use Rattle.type_rules.specs.Answer.{AreItems, AreMembers, IsThere, IsBreak, seen, among, along};
+ghost use Rattle.type_rules.specs.Forms.{spelling_in, string_in, array_in, object_in, number_in, text_in, items_in, members_in, items_of_length, some_items_in, named, member_value, item_value};
 
 use crate::fault::{ValueFault, ValueRule, broken};
 use dec_fix::{Dec, NotDec};
@@ -34,7 +33,7 @@ pub fn as_text<'a, 's>(plain: &'a Plain<'s>) -> Option<&'a Text<'s>>
 
 /// The items, where the value is a list.
 pub fn as_array<'a, 's>(plain: &'a Plain<'s>) -> Option<&'a PlainItems<'s>>
-    ensures { option_map (λ i. plain_items_view i.now) result ≡ array_in (plain_view plain.entry.now) }
+    ensures { option_map (λ i. plain_items_view i.now) result ≡ seen array_in plain.entry.now }
 {
     match plain {
         Plain::Arr(items) => Some(items),
@@ -43,7 +42,7 @@ pub fn as_array<'a, 's>(plain: &'a Plain<'s>) -> Option<&'a PlainItems<'s>>
 }
 
 fn as_object<'a, 's>(plain: &'a Plain<'s>) -> Option<&'a PlainFields<'s>>
-    ensures { option_map (λ m. plain_fields_view m.now) result ≡ object_in (plain_view plain.entry.now) }
+    ensures { option_map (λ m. plain_fields_view m.now) result ≡ seen object_in plain.entry.now }
 {
     match plain {
         Plain::Obj(members) => Some(members),
@@ -85,7 +84,7 @@ pub fn items_of<'a, 's>(
     alloc: Global,
     plain: &'a Plain<'s>,
 ) -> Result<&'a PlainItems<'s>, ValueFault<'s>>
-    ensures ok { IfOk result (λ items. items_in (plain_view plain.entry.now) ≡ Ok (plain_items_view items.now)) }
+    ensures ok { IfOk result (AreItems (items_in (plain_view plain.entry.now))) }
     ensures broken { IfErr result (IsBreak (items_in (plain_view plain.entry.now))) }
 {
     match as_array(plain) {
@@ -100,7 +99,7 @@ pub fn members_of<'a, 's>(
     alloc: Global,
     plain: &'a Plain<'s>,
 ) -> Result<&'a PlainFields<'s>, ValueFault<'s>>
-    ensures ok { IfOk result (λ members. members_in (plain_view plain.entry.now) ≡ Ok (plain_fields_view members.now)) }
+    ensures ok { IfOk result (AreMembers (members_in (plain_view plain.entry.now))) }
     ensures broken { IfErr result (IsBreak (members_in (plain_view plain.entry.now))) }
 {
     match as_object(plain) {
@@ -116,8 +115,8 @@ pub fn items_of_length<'a, 's>(
     len: usize,
     plain: &'a Plain<'s>,
 ) -> Result<&'a PlainItems<'s>, ValueFault<'s>>
-    ensures ok { IfOk result (λ items. items_of_length len (plain_view plain.entry.now) ≡ Ok (plain_items_view items.now)) }
-    ensures broken { IfErr result (IsBreak (items_of_length len (plain_view plain.entry.now))) }
+    ensures ok { IfOk result (AreItems (seen (items_of_length len) plain.entry.now)) }
+    ensures broken { IfErr result (IsBreak (seen (items_of_length len) plain.entry.now)) }
 {
     let items = items_of(alloc, plain)?;
     if items.len() != len {
@@ -132,8 +131,8 @@ pub fn some_items_of<'a, 's>(
     alloc: Global,
     plain: &'a Plain<'s>,
 ) -> Result<&'a PlainItems<'s>, ValueFault<'s>>
-    ensures ok { IfOk result (λ items. some_items_in (plain_view plain.entry.now) ≡ Ok (plain_items_view items.now)) }
-    ensures broken { IfErr result (IsBreak (some_items_in (plain_view plain.entry.now))) }
+    ensures ok { IfOk result (AreItems (seen some_items_in plain.entry.now)) }
+    ensures broken { IfErr result (IsBreak (seen some_items_in plain.entry.now)) }
 {
     let items = items_of(alloc, plain)?;
     if items.len() == 0 {
@@ -144,7 +143,7 @@ pub fn some_items_of<'a, 's>(
 
 /// The value of the first member of this name, or none.
 pub fn named<'a, 's>(members: &'a PlainFields<'s>, name: &str) -> Option<&'a Plain<'s>>
-    ensures { option_map (λ value. plain_view value.now) result ≡ named name.now (plain_fields_view members.entry.now) }
+    ensures { option_map (λ v. plain_view v.now) result ≡ among (named name.now) members.entry.now }
 {
     for i in 0..members.len() {
         let Some(member) = members.at(i) else {
@@ -163,8 +162,8 @@ pub fn required<'a, 's>(
     members: &'a PlainFields<'s>,
     name: &str,
 ) -> Result<&'a Plain<'s>, ValueFault<'s>>
-    ensures ok { IfOk result (λ value. or_broken ValueRule.ValueShape (named name.now (plain_fields_view members.entry.now)) ≡ Ok (plain_view value.now)) }
-    ensures broken { IfErr result (IsBreak (or_broken ValueRule.ValueShape (named name.now (plain_fields_view members.entry.now)))) }
+    ensures ok { IfOk result (IsThere (among (member_value name.now) members.entry.now)) }
+    ensures broken { IfErr result (IsBreak (among (member_value name.now) members.entry.now)) }
 {
     match named(members, name) {
         Some(value) => Ok(value),
@@ -178,8 +177,8 @@ pub fn item<'a, 's>(
     items: &'a PlainItems<'s>,
     i: usize,
 ) -> Result<&'a Plain<'s>, ValueFault<'s>>
-    ensures ok { IfOk result (λ value. or_broken ValueRule.ValueShape (slice_get (plain_items_view items.entry.now) i) ≡ Ok (plain_view value.now)) }
-    ensures broken { IfErr result (IsBreak (or_broken ValueRule.ValueShape (slice_get (plain_items_view items.entry.now) i))) }
+    ensures ok { IfOk result (IsThere (along (item_value i) items.entry.now)) }
+    ensures broken { IfErr result (IsBreak (along (item_value i) items.entry.now)) }
 {
     match items.at(i) {
         Some(value) => Ok(value),

@@ -1,10 +1,8 @@
 //! Numbers with units.
 
 ghost use Rattle.std.specs.Prelude.{◌≡◌, Ok, IfOk, IfErr};
-ghost use Rattle.json_span.specs.PlainView.{plain_view};
-ghost use Rattle.type_rules.specs.Answer.{IsBreak};
-ghost use Rattle.type_rules.specs.Value.{measure_in};
-ghost use Rattle.type_rules.specs.Words.{rows_of};
+ghost use Rattle.type_rules.specs.Answer.{IsFound, IsBreak, seen};
+ghost use Rattle.type_rules.specs.Value.{measure_by};
 
 use crate::fault::{ValueFault, ValueRule};
 use crate::forms::members_of;
@@ -22,8 +20,8 @@ pub(crate) fn measure_of<'s, U: Copy>(
     units: &[(&str, U)],
     plain: &Plain<'s>,
 ) -> Result<(Dec, U), ValueFault<'s>>
-    ensures ok { IfOk result (λ m. measure_in rule (rows_of units.now) (plain_view plain.now) ≡ Ok m) }
-    ensures broken { IfErr result (IsBreak (measure_in rule (rows_of units.now) (plain_view plain.now))) }
+    ensures ok { IfOk result (IsFound (seen (measure_by rule units.now) plain.now)) }
+    ensures broken { IfErr result (IsBreak (seen (measure_by rule units.now) plain.now)) }
 {
     let members = members_of(alloc, plain)?;
     let value = part_under::<Dec>(alloc, members, "value")?;

@@ -2,10 +2,10 @@
 //! its object or list; what a part breaks has the name or the index as its first step.
 
 ghost use Rattle.std.specs.Prelude.{◌≡◌, ℕ, [], ◌∷◌, Ok, IfOk, IfErr};
-ghost use Rattle.json_span.specs.PlainView.{Value, plain_view, plain_items_view, plain_fields_view};
-ghost use Rattle.type_rules.specs.Answer.{IsBreak};
+ghost use Rattle.json_span.specs.PlainView.{Value, plain_view, plain_items_view};
+ghost use Rattle.type_rules.specs.Answer.{IsFound, IsBreak, member_of, item_of};
 ghost use Rattle.type_rules.specs.Checked.{Checked};
-ghost use Rattle.type_rules.specs.Forms.{number_in, text_in, member, item, each, list_in, some_in};
+ghost use Rattle.type_rules.specs.Forms.{number_in, text_in, each, list_in, some_in};
 
 use crate::fault::{ValueFault, at_item, under};
 use crate::forms::{check_number, item, items_of, required, some_items_of, text_of};
@@ -33,8 +33,8 @@ pub fn part_under<'s, P: Part<'s>>(
     members: &PlainFields<'s>,
     name: &'s str,
 ) -> Result<P::Typed, ValueFault<'s>>
-    ensures ok { IfOk result (λ part. member P.part_in name.entry.now (plain_fields_view members.now) ≡ Ok part) }
-    ensures broken { IfErr result (IsBreak (member P.part_in name.entry.now (plain_fields_view members.now))) }
+    ensures ok { IfOk result (IsFound (member_of P.part_in name.entry.now members.now)) }
+    ensures broken { IfErr result (IsBreak (member_of P.part_in name.entry.now members.now)) }
 {
     let plain = required(alloc, members, name)?;
     under(alloc, name, P::check(alloc, plain))
@@ -46,8 +46,8 @@ pub fn part_at<'s, P: Part<'s>>(
     items: &PlainItems<'s>,
     i: usize,
 ) -> Result<P::Typed, ValueFault<'s>>
-    ensures ok { IfOk result (λ part. item P.part_in i (plain_items_view items.now) ≡ Ok part) }
-    ensures broken { IfErr result (IsBreak (item P.part_in i (plain_items_view items.now))) }
+    ensures ok { IfOk result (IsFound (item_of P.part_in i items.now)) }
+    ensures broken { IfErr result (IsBreak (item_of P.part_in i items.now)) }
 {
     let plain = item(alloc, items, i)?;
     at_item(alloc, i, P::check(alloc, plain))

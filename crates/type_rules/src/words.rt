@@ -1,10 +1,8 @@
 //! Tables of words.
 
 ghost use Rattle.std.specs.Prelude.{◌≡◌, Ok, IfOk, IfErr};
-ghost use Rattle.json_span.specs.PlainView.{plain_view, plain_fields_view};
-ghost use Rattle.type_rules.specs.Answer.{IsBreak};
-ghost use Rattle.type_rules.specs.Forms.{member};
-ghost use Rattle.type_rules.specs.Words.{meaning, rows_of, word_in};
+ghost use Rattle.type_rules.specs.Answer.{IsFound, IsBreak, seen};
+ghost use Rattle.type_rules.specs.Words.{meaning, rows_of, word_by, word_at};
 
 use crate::fault::{ValueFault, ValueRule, or_broken, under};
 use crate::forms::{required, text_of};
@@ -31,8 +29,8 @@ pub fn word_of<'s, T: Copy>(
     table: &[(&str, T)],
     plain: &Plain<'s>,
 ) -> Result<T, ValueFault<'s>>
-    ensures ok { IfOk result (λ x. word_in rule (rows_of table.now) (plain_view plain.now) ≡ Ok x) }
-    ensures broken { IfErr result (IsBreak (word_in rule (rows_of table.now) (plain_view plain.now))) }
+    ensures ok { IfOk result (IsFound (seen (word_by rule table.now) plain.now)) }
+    ensures broken { IfErr result (IsBreak (seen (word_by rule table.now) plain.now)) }
 {
     let word = text_of(alloc, plain)?;
     or_broken(alloc, rule, meaning(table, word.as_str()))
@@ -46,8 +44,8 @@ pub fn word_under<'s, T: Copy>(
     members: &PlainFields<'s>,
     name: &'s str,
 ) -> Result<T, ValueFault<'s>>
-    ensures ok { IfOk result (λ x. member (word_in rule (rows_of table.now)) name.entry.now (plain_fields_view members.now) ≡ Ok x) }
-    ensures broken { IfErr result (IsBreak (member (word_in rule (rows_of table.now)) name.entry.now (plain_fields_view members.now))) }
+    ensures ok { IfOk result (IsFound (word_at rule table.now name.entry.now members.now)) }
+    ensures broken { IfErr result (IsBreak (word_at rule table.now name.entry.now members.now)) }
 {
     let plain = required(alloc, members, name)?;
     under(alloc, name, word_of(alloc, rule, table, plain))

@@ -13,27 +13,40 @@ enum Open<'s> {
 }
 
 // What is open at a place, the names whose values are still to come, and the last value that ended.
+#[derive(Drop)]
 struct Reading<'s> {
     open: Vec<Open<'s>>,
     names: Vec<&'s str>,
     last: Plain<'s>,
 }
 
-// Where the string, the mark or the run of letters and digits ends that begins at `start`.
+fn is_mark(byte: u8) -> bool {
+    matches!(byte, b',' | b':' | b'[' | b']' | b'{' | b'}')
+}
+
+// Where the mark, the string, or the run of letters and digits ends that begins at `start`.
 fn token_end(bytes: &[u8], start: usize) -> usize {
-    let is_string = bytes.get(start) == Some(&b'"');
+    let first = byte_at(bytes, start);
+    if is_mark(first) {
+        return start.saturating_add(1);
+    }
     for end in start.saturating_add(1)..bytes.len() {
-        let Some(byte) = bytes.get(end) else {
-            return end;
-        };
-        if is_string && *byte == b'"' {
+        let byte = byte_at(bytes, end);
+        if first == b'"' && byte == b'"' {
             return end.saturating_add(1);
         }
-        if !is_string && matches!(*byte, b',' | b':' | b'[' | b']' | b'{' | b'}' | b'"') {
+        if first != b'"' && is_mark(byte) {
             return end;
         }
     }
     bytes.len()
+}
+
+fn byte_at(bytes: &[u8], at: usize) -> u8 {
+    match bytes.get(at) {
+        Some(byte) => *byte,
+        None => 0,
+    }
 }
 
 fn token<'s>(bytes: &'s [u8], start: usize, end: usize) -> &'s str {
@@ -122,7 +135,7 @@ pub(super) fn plain<'s>(alloc: Global, text: &'s str) -> Result<Plain<'s>, NoMem
             break;
         }
         let end = token_end(bytes, at);
-        let is_name = bytes.get(end) == Some(&b':');
+        let is_name = byte_at(bytes, end) == b':';
         reading.take(alloc, token(bytes, at, end), is_name)?;
         at = end;
     }
