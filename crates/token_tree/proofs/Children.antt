@@ -1,5 +1,6 @@
 -- The children of an object as a list, and what stands at each name.
-use Rattle.std.proofs.Common.{◌≡◌, ℕ, Bool, true, false, ◌||◌, cond, List, [], ◌∷◌, ◌++◌, append_assoc, Option, Some, None, refl, sym, ap, ◌∙◌, Ordering, Less, Equal, Greater}
+use Rattle.std.proofs.Common.{◌≡◌, ℕ, Bool, true, false, ◌||◌, cond, List, [], ◌∷◌, ◌++◌, append_assoc, Option, Some, None, option_map, refl, sym, ap, ◌∙◌, Ordering, Less, Equal, Greater}
+use Rattle.std.specs.Cmp.{tied_itself}
 use Rattle.std.specs.Cmp.Lexicographic.{nat_list_cmp_total}
 use Rattle.std.specs.FinMap as map
 use Rattle.std.specs.FinMap.{find}
@@ -9,13 +10,18 @@ use Rattle.std.specs.Ordering.{is_eq, eq_by_cmp}
 use Rattle.std.specs.Str.{bytes_eq}
 use Rattle.tk_io.specs.Order.{text_cmp}
 use Rattle.tk_io.proofs.TextMaps.{text_cmp-IsAntisymmetric}
-use Rattle.json_span.specs.Tree.{Entry, members_of}
+use Rattle.json_span.specs.Tree.{Placed, placed, Entry, an_object, entries_in, members_of, tree_of, under}
+use Rattle.json_span.proofs.Views.{members_of-in}
 use Rattle.json_span.specs.Flaw.{is_seen, flaw_in, flaw_in_members, equal_names}
-use Rattle.token_tree.specs.Tree.{Child, Named}
-use Rattle.token_tree.specs.Shape.{is_child, child_of, put_children}
+use Rattle.token_tree.specs.Answer.{AreMembers}
+use Rattle.token_tree.specs.Promise.{StandsIn}
+use Rattle.token_tree.specs.Tree.{Child, Named, children_of, child_among, child_at}
+use Rattle.token_tree.specs.Shape.{entries_at, is_object, is_child, child_of, group_of, put_children}
 use Rattle.token_tree.specs.Listed.{AreApart, child_in, with_front}
 use Rattle.token_tree.proofs.Flaws.{not_seen, rest_none, right_none}
-use Rattle.token_tree.proofs.Names.{text_same}
+use Rattle.token_tree.proofs.Names.{same_bool, same_text, text_same}
+use Rattle.token_tree.proofs.Places.{names_differ}
+use Rattle.token_tree.proofs.Sound.{object_members, entries_are}
 
 abbrev pub children_in : List ℕ → List ℕ → List Entry → List (List ℕ × Child)
 children_in file text [] = []
@@ -103,3 +109,57 @@ module _ (file text : List ℕ) where
   put_all es a = map.same_map nat_list_cmp_total text_cmp-IsAntisymmetric _ _ (λ q.
       map.get-from_entries nat_list_cmp_total (children_in file text es) q
       ∙ sym (get_put es map.empty q a ∙ (ap (option_or (find text_cmp q (children_in file text es))) (map.get-empty text_cmp q) ∙ alone _)))
+
+-- what is looked for by name
+
+same_test : (k q : List ℕ) → eq_by_cmp text_cmp q k ≡ bytes_eq k q
+same_test k q = same_bool (eq_by_cmp text_cmp q k) (bytes_eq k q)
+    (λ t. text_same k q (sym (text_cmp-IsAntisymmetric q k (tied _ t))))
+    (λ t. ap (λ x. is_eq (text_cmp q x)) (same_text k q t) ∙ ap is_eq (tied_itself nat_list_cmp_total q))
+
+among_found : (es : List (List ℕ × Child)) (q : List ℕ) → child_among q (children_of es) ≡ find text_cmp q es
+among_found [] q = refl
+among_found (e ∷ es) q = λ i. cond (sym (same_test e.0 q) i) (Some e.1) (among_found es q i)
+
+none_or : (b : Bool) (o : Option Child) → o ≡ None → None ≡ cond b o None
+none_or true o e = sym e
+none_or false o e = refl
+
+find_under : (file text : List ℕ) (es : List Entry) (q : List ℕ) → find text_cmp q (children_in file text es) ≡ cond (is_child q) (option_map (child_of file text) (under q es)) None
+find_under file text [] q = none_or (is_child q) None refl
+find_under file text (e ∷ es) q =
+    let c = child_of file text e.value in
+    let l = children_in file text es in
+    let rest = find_under file text es q in
+    elim (bytes_eq e.name q) as (λ b. bytes_eq e.name q ≡ b → find text_cmp q (with_front (child_in file text e) l) ≡ cond (is_child q) (option_map (child_of file text) (cond b (Some e.value) (under q es))) None) [
+      | true ↦ λ t.
+          let same : is_child e.name ≡ is_child q = ap is_child (same_text e.name q t) in
+          let here : eq_by_cmp text_cmp q e.name ≡ true = same_test e.name q ∙ t in
+          elim (is_child q) as (λ b. is_child q ≡ b → find text_cmp q (with_front (cond (is_child e.name) (Some (e.name, c)) None) l) ≡ cond b (Some c) None) [
+            | true ↦ λ u. ap (λ b. find text_cmp q (with_front (cond b (Some (e.name, c)) None) l)) (same ∙ u) ∙ ap (λ b. cond b (Some c) (find text_cmp q l)) here
+            | false ↦ λ u. ap (λ b. find text_cmp q (with_front (cond b (Some (e.name, c)) None) l)) (same ∙ u) ∙ (rest ∙ ap (λ b. cond b (option_map (child_of file text) (under q es)) None) u)
+          ] refl
+      | false ↦ λ t.
+          let apart : eq_by_cmp text_cmp q e.name ≡ false = same_test e.name q ∙ t in
+          elim (is_child e.name) as (λ b. find text_cmp q (with_front (cond b (Some (e.name, c)) None) l) ≡ cond (is_child q) (option_map (child_of file text) (under q es)) None) [
+            | true ↦ ap (λ b. cond b (Some c) (find text_cmp q l)) apart ∙ rest
+            | false ↦ rest
+          ]
+    ] refl
+
+-- at a name of the group that an object shows stands what the member of that name shows
+pub shown_by_name : (file text : List ℕ) (n : Placed) (name : List ℕ) → StandsIn text n → is_object (tree_of n) ≡ true
+    → child_at name (group_of file text (tree_of n)) ≡ cond (is_child name) (option_map (child_of file text) (under name (entries_at n))) None
+shown_by_name file text (placed v start end) name s o =
+    let (ms, e) = object_members v o in
+    let es = entries_in ms in
+    let members : AreMembers (placed v start end) es = e ∙ ap an_object (sym (members_of-in ms)) in
+    let differ = names_differ text (placed v start end) es members s in
+    let apart = children_apart file text differ.0 [] es differ.1 in
+    ap (λ z. child_at name (group_of file text z)) members
+    ∙ (among_found (map.entries (put_children file text (members_of es) map.empty)) name
+    ∙ (sym (map.get-entries (put_children file text (members_of es) map.empty) name)
+    ∙ (ap (λ m. map.get m name) (sym (put_all file text es apart))
+    ∙ (map.get-from_entries nat_list_cmp_total (children_in file text es) name
+    ∙ (find_under file text es name
+    ∙ ap (λ z. cond (is_child name) (option_map (child_of file text) (under name z)) None) (sym (entries_are (placed v start end) es members)))))))

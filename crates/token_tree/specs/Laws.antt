@@ -1,6 +1,6 @@
 -- Laws over the definitions alone.
-use Rattle.std.specs.Prelude.{◌≡◌, ℕ, ◌+◌, ◌≤◌, ◌↔◌, IsTrue, List, [], ◌∷◌, Some}
-use Rattle.json_span.specs.Tree.{Placed}
+use Rattle.std.specs.Prelude.{◌≡◌, ℕ, ◌+◌, ◌≤◌, ◌↔◌, IsTrue, true, if◌then◌else◌, List, [], ◌∷◌, Some, None, option_map}
+use Rattle.json_span.specs.Tree.{Placed, tree_of, under}
 use Rattle.json_span.specs.Reading.{Shows}
 use Rattle.json_span.specs.Parts.{IsPart}
 use Rattle.name_path.specs.declared.kind.Kind.{Kind}
@@ -8,9 +8,9 @@ use Rattle.name_path.specs.Kinds.{kind_name}
 use Rattle.name_path.specs.Names.{IsName}
 use Rattle.name_path.specs.Reference.{SpellsGroup}
 use Rattle.token_tree.specs.Texts.{is_name, kind_named, group_named}
-use Rattle.token_tree.specs.Tree.{Definition}
-use Rattle.token_tree.specs.Shape.{Break, shape_breaks}
-use Rattle.token_tree.specs.Promise.{IsDefinition}
+use Rattle.token_tree.specs.Tree.{Definition, child_at}
+use Rattle.token_tree.specs.Shape.{Break, shape_breaks, entries_at, is_object, is_child, child_of, group_of}
+use Rattle.token_tree.specs.Promise.{IsDefinition, StandsIn}
 
 -- each break starts behind the one before, and none before this place
 abbrev pub Ascend : ℕ → List Break → Type 0
@@ -34,3 +34,8 @@ KindsNamed = (text : List ℕ) (kind : Kind) → (kind_named text ≡ Some kind)
 
 abbrev pub GroupsNamed : Type 0
 GroupsNamed = (text : List ℕ) (path : List (List ℕ)) → (group_named text ≡ Some path) ↔ SpellsGroup text path
+
+-- At a name of a group stands the child that the object's member of that name shows.
+abbrev pub ShownByName : Type 0
+ShownByName = (file text : List ℕ) (n : Placed) (name : List ℕ) → StandsIn text n → is_object (tree_of n) ≡ true
+    → child_at name (group_of file text (tree_of n)) ≡ (if is_child name then option_map (child_of file text) (under name (entries_at n)) else None)

@@ -1,6 +1,7 @@
 -- Groups and tokens as data (Format Module 2025.10).
-use Rattle.std.specs.Prelude.{ℕ, Bool, List, [], ◌∷◌, Option}
+use Rattle.std.specs.Prelude.{ℕ, Bool, if◌then◌else◌, List, [], ◌∷◌, Option, Some, None}
 use Rattle.std.specs.FinMap as map
+use Rattle.std.specs.Str.{bytes_eq}
 use Rattle.tk_io.specs.Order.{text_cmp}
 use Rattle.name_path.specs.declared.kind.Kind.{Kind}
 use Rattle.json_span.specs.Tree.{Placed}
@@ -58,3 +59,11 @@ children_of (e ∷ es) = child e.0 e.1 (children_of es)
 -- a group of these properties and children
 abbrev pub group_with : Properties → Named → Group
 group_with ps cs = group ps (children_of (map.entries cs))
+
+-- what stands at a name of a group
+abbrev pub child_among : List ℕ → Children → Option Child
+child_among name no_children = None
+child_among name (child k c cs) = if bytes_eq k name then Some c else child_among name cs
+
+abbrev pub child_at : List ℕ → Group → Option Child
+child_at name (group ps cs) = child_among name cs

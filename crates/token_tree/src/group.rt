@@ -4,7 +4,7 @@ ghost use Rattle.std.specs.Prelude.{◌≡◌, [], OnOk, IfOk, IfErr, option_map
 ghost use Rattle.std.specs.FinMap as map;
 ghost use Rattle.json_span.specs.Tree.{an_object, members_of};
 ghost use Rattle.json_span.specs.View.{ref_view, field_view, fields_view};
-ghost use Rattle.token_tree.specs.Answer.{IsFirst, EachStands, NamesDiffer};
+ghost use Rattle.token_tree.specs.Answer.{IsFirst, EachStands, NamesDiffer, IsChildOf, IsGroupOf};
 ghost use Rattle.token_tree.specs.Promise.{StandsIn};
 ghost use Rattle.token_tree.specs.Shape.{group_breaks, child_breaks, root_breaks, reserved_breaks, group_member_breaks, extends_of, put_children, child_of, group_of};
 ghost use Rattle.token_tree.specs.Shown.{extends_view, child_view, member_view, members_view, group_view};
@@ -49,7 +49,7 @@ fn read_root<'s>(
 ) -> Result<Child<'s>, ShapeFault>
     requires { StandsIn text.now (ref_view node) }
     ensures sound { OnOk result (root_breaks (ref_view node.entry) ≡ []) }
-    ensures ok { IfOk result (λ c. child_view c ≡ child_of file.entry.now text.entry.now (ref_view node.entry)) }
+    ensures ok { IfOk result (IsChildOf file.entry.now text.entry.now (ref_view node.entry)) }
     ensures broken { IfErr result (IsFirst (root_breaks (ref_view node.entry))) }
 {
     let Some(fields) = node.as_object() else {
@@ -86,7 +86,7 @@ pub(crate) fn read_group<'s>(
     requires stands { EachStands text.now (fields_view fields.now) }
     requires differ { NamesDiffer (fields_view fields.now) }
     ensures sound { OnOk result (group_breaks (members_of (fields_view fields.now)) ≡ []) }
-    ensures ok { IfOk result (λ g. group_view g ≡ group_of file.entry.now text.entry.now (an_object (members_of (fields_view fields.now)))) }
+    ensures ok { IfOk result (IsGroupOf file.entry.now text.entry.now (fields_view fields.now)) }
     ensures broken { IfErr result (IsFirst (group_breaks (members_of (fields_view fields.now)))) }
 {
     let members = read_members(alloc, file, text, fields)?;
@@ -172,7 +172,7 @@ fn read_child<'s>(
 ) -> Result<Child<'s>, ShapeFault>
     requires { StandsIn text.now (ref_view node) }
     ensures sound { OnOk result (child_breaks (ref_view node.entry) ≡ []) }
-    ensures ok { IfOk result (λ c. child_view c ≡ child_of file.entry.now text.entry.now (ref_view node.entry)) }
+    ensures ok { IfOk result (IsChildOf file.entry.now text.entry.now (ref_view node.entry)) }
     ensures broken { IfErr result (IsFirst (child_breaks (ref_view node.entry))) }
 {
     let Some(fields) = node.as_object() else {

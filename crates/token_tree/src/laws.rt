@@ -1,12 +1,14 @@
 //! Laws over the definitions alone, for the layers above.
 
-ghost use Rattle.token_tree.specs.Laws.{BreaksAscend, OneDefinition, NamesTest, KindsNamed, GroupsNamed};
+ghost use Rattle.token_tree.specs.Laws.{BreaksAscend, OneDefinition, ShownByName, NamesTest, KindsNamed, GroupsNamed};
 
-/// The breaks of a file stand in the order of its text, and a definition is decided by its file's name, its source and
-/// its start.
+/// The breaks of a file stand in the order of its text; a definition is decided by its file's name,
+/// its source and its start; and at a name of a group stands what the object's member of that name
+/// shows.
 pub fn shape_laws()
     ensures ascend { BreaksAscend }
     ensures one { OneDefinition }
+    ensures named { ShownByName }
 {}
 
 /// What the tests of names, of kinds and of the groups that texts name mean.

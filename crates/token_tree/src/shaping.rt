@@ -2,10 +2,9 @@
 
 ghost use Rattle.std.specs.Prelude.{◌≡◌, [], OnOk, IfOk, IfErr};
 ghost use Rattle.json_span.specs.View.{node_view};
-ghost use Rattle.token_tree.specs.Answer.{IsFirst};
+ghost use Rattle.token_tree.specs.Answer.{IsFirst, IsShapeOf};
 ghost use Rattle.token_tree.specs.Promise.{StandsIn};
-ghost use Rattle.token_tree.specs.Shape.{shape_breaks, shape_of};
-ghost use Rattle.token_tree.specs.Shown.{group_view};
+ghost use Rattle.token_tree.specs.Shape.{shape_breaks};
 
 use crate::fault::{Rule, ShapeFault};
 use crate::group::read_group;
@@ -29,7 +28,7 @@ pub fn shape<'s>(
     // The text has a reading without a flaw, and the root is a value of it.
     requires { StandsIn text.now (node_view root.now) }
     ensures sound { OnOk result (shape_breaks (node_view root.now) ≡ []) }
-    ensures ok { IfOk result (λ g. group_view g ≡ shape_of file.entry.now text.entry.now (node_view root.now)) }
+    ensures ok { IfOk result (IsShapeOf file.entry.now text.entry.now (node_view root.now)) }
     ensures broken { IfErr result (IsFirst (shape_breaks (node_view root.now))) }
 {
     let Some(fields) = root.as_object() else {

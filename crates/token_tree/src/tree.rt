@@ -1,14 +1,12 @@
 //! Groups and their members.
 
-ghost use Rattle.std.specs.Prelude.{◌≡◌, ◌==◌, List, ℕ, Some, IfOk, OnOk, OnErr, cond, map as map_list};
-ghost use Rattle.std.specs.BTreeMap.{is_at};
+ghost use Rattle.std.specs.Prelude.{◌≡◌, ◌==◌, IfOk, OnOk, OnErr, map as map_list};
 ghost use Rattle.std.specs.FinMap as map;
 ghost use Rattle.std.specs.List.{slice_get};
 ghost use Rattle.std.specs.Option.{option_map};
-ghost use Rattle.tk_io.specs.Order.{text_cmp};
 ghost use Rattle.token_tree.specs.Listed.{NamesApart};
-ghost use Rattle.token_tree.specs.Tree.{Child as ChildData};
-ghost use Rattle.token_tree.specs.Shown.{extends_view, child_view, member_view, members_view, group_view};
+ghost use Rattle.token_tree.specs.Naming.{StandsAt, entry_view};
+ghost use Rattle.token_tree.specs.Shown.{extends_view, child_view, member_view, group_view};
 
 use crate::definition::TokenDef;
 use crate::entries::{copy_list, place, put_member, sort_members};
@@ -99,7 +97,7 @@ impl<'s> Model for Members<'s> {
 impl<'s> Members<'s> {
     /// No member.
     pub fn new(alloc: Global) -> Members<'s>
-        ensures { members_view result ≡ map.empty }
+        ensures { result ≡ map.empty }
     {
         Members {
             alloc,
@@ -110,7 +108,7 @@ impl<'s> Members<'s> {
     /// The members of a list, no two of which have one name.
     pub(crate) fn from_list(alloc: Global, list: Vec<Member<'s>>) -> Result<Members<'s>, NoMemory>
         requires { NamesApart list.items }
-        ensures { IfOk result (λ ms. members_view ms ≡ map.from_entries (map_list member_view list.entry.items)) }
+        ensures { IfOk result (λ ms. ms ≡ map.from_entries (map_list member_view list.entry.items)) }
     {
         if list.is_empty() {
             return Ok(Members::new(alloc));
@@ -126,7 +124,7 @@ impl<'s> Members<'s> {
 
     /// The members in byte order of names.
     pub fn as_slice(&self) -> &[Member<'s>]
-        ensures { map_list member_view result.now ≡ map.entries (members_view self.now) }
+        ensures { map_list member_view result.now ≡ map.entries self.now }
     {
         match &self.entries {
             Some(shared) => shared.as_slice(),
@@ -136,21 +134,21 @@ impl<'s> Members<'s> {
 
     /// How many members there are.
     pub fn len(&self) -> usize
-        ensures { result ≡ map.len (members_view self.now) }
+        ensures { result ≡ map.len self.now }
     {
         self.as_slice().len()
     }
 
     /// Whether there is no member.
     pub fn is_empty(&self) -> bool
-        ensures { result ≡ (map.len (members_view self.now) == 0) }
+        ensures { result ≡ (map.len self.now == 0) }
     {
         self.as_slice().is_empty()
     }
 
     /// The member of this name, or none where there is no such member.
     pub fn get(&self, name: &Text<'s>) -> Option<&Child<'s>>
-        ensures { option_map (λ c. child_view c.now) result ≡ map.get (members_view self.now) name.now }
+        ensures { option_map (λ c. child_view c.now) result ≡ map.get self.now name.now }
     {
         let list = self.as_slice();
         match place(list, name) {
@@ -161,7 +159,7 @@ impl<'s> Members<'s> {
 
     /// The i-th member in byte order of names, counted from 0; none where i is not below the length.
     pub fn at(&self, i: usize) -> Option<(&Text<'s>, &Child<'s>)>
-        ensures { option_map {U = List ℕ × ChildData} (λ e. (e.0.now, child_view e.1.now)) result ≡ slice_get (map.entries (members_view self.now)) i }
+        ensures { option_map entry_view result ≡ slice_get (map.entries self.now) i }
     {
         match self.as_slice().get(i) {
             Some(member) => Some((&member.name, &member.child)),
@@ -171,7 +169,7 @@ impl<'s> Members<'s> {
 
     /// The same members, which both share.
     pub fn copy(&self) -> Result<Members<'s>, NoMemory>
-        ensures { IfOk result (λ m. members_view m ≡ members_view self.now) }
+        ensures { IfOk result (λ m. m ≡ self.now) }
     {
         match &self.entries {
             Some(shared) => Ok(Members {
@@ -188,10 +186,10 @@ impl<'s> Members<'s> {
     /// Adds the member under a copy of the name, or replaces the member of the name. Where memory runs out the child is
     /// dropped and the members stay. Other copies of the members stay as well.
     pub fn put(&mut self, name: &Text<'s>, child: Child<'s>) -> Result<(), NoMemory>
-        ensures ok { OnOk result (members_view self.new ≡ map.insert (members_view self.old) name.now (child_view child.entry)) }
+        ensures ok { OnOk result (self.new ≡ map.insert self.old name.now (child_view child.entry)) }
         // What stands at each name afterwards.
-        ensures at { OnOk result ((q : List ℕ) → map.get (members_view self.new) q ≡ cond (is_at (text_cmp name.now) q) (Some (child_view child.entry)) (map.get (members_view self.old) q)) }
-        ensures err { OnErr result (members_view self.new ≡ members_view self.old) }
+        ensures at { OnOk result (StandsAt self.old self.new name.now (child_view child.entry)) }
+        ensures err { OnErr result (self.new ≡ self.old) }
     {
         let member = Member {
             name: name.copy()?,
