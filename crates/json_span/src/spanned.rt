@@ -1,6 +1,6 @@
 //! Texts, with the spans of their values as an independent reader gives them: level by level, each value with its name's before it.
 
-pub(crate) static SPANS: [(&str, &str); 300] = [
+pub(crate) static FIRST: [(&str, &str); 50] = [
     (
         r#"{"$value": "b"  , "q\"q":false  ,  "x y": [ ]  }"#,
         "0-48,1-9:11-14,18-24:25-30,35-40:42-45,",
@@ -93,6 +93,9 @@ pub(crate) static SPANS: [(&str, &str); 300] = [
         "0-44,3-33,35-39,40-43,5-7:12-16,18-25:27-29,",
     ),
     (r#"[ 12.5, true ,false ]"#, "0-21,2-6,8-12,14-19,"),
+];
+
+pub(crate) static SECOND: [(&str, &str); 50] = [
     (
         r#"[[ ], { },[  "λß",false]  ]"#,
         "0-29,1-4,6-9,10-26,13-19,20-25,",
@@ -203,6 +206,9 @@ pub(crate) static SPANS: [(&str, &str); 300] = [
     (r#" [{"\u00e9":""  }  ]  "#, "1-20,2-17,3-11:12-14,"),
     (r#"  [true ,false ]"#, "2-16,3-7,9-14,"),
     (r#"  [ true,true]"#, "2-14,4-8,9-13,"),
+];
+
+pub(crate) static THIRD: [(&str, &str); 50] = [
     (
         r#"[null  ,0.25, [  false,  "λ$type"]  ]"#,
         "0-38,1-5,8-12,14-35,17-22,25-34,",
@@ -319,6 +325,9 @@ pub(crate) static SPANS: [(&str, &str); 300] = [
         r#"  { "λ":{  },  "{"  :true  }"#,
         "2-29,4-8:9-13,16-19:22-26,",
     ),
+];
+
+pub(crate) static FOURTH: [(&str, &str); 50] = [
     (
         r#"{"a":  1E+2 ,  "é":[12.5 ,"",  false ]}  "#,
         "0-40,1-4:7-11,15-19:20-39,21-25,27-29,32-37,",
@@ -429,6 +438,9 @@ pub(crate) static SPANS: [(&str, &str); 300] = [
         r#" [null ,  "\ud83d\ude00", "a$value"    ]"#,
         "1-40,2-6,10-24,26-35,",
     ),
+];
+
+pub(crate) static FIFTH: [(&str, &str); 50] = [
     (r#"{"\ud83d\ude00日本" : "\\" }"#, "0-30,1-21:24-28,"),
     (
         r#"{"[1]😀":null,"\ud83d\ude00": null }  "#,
@@ -530,6 +542,9 @@ pub(crate) static SPANS: [(&str, &str); 300] = [
         r#"  { "x y"  :"a"  ,"\\" :false  }"#,
         "2-32,4-9:12-15,18-22:24-29,",
     ),
+];
+
+pub(crate) static SIXTH: [(&str, &str); 50] = [
     (
         r#"{"q\"qß"  : null,"" :true   }"#,
         "0-30,1-9:13-17,18-20:22-26,",
