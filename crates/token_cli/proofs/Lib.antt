@@ -1,6 +1,7 @@
 pub mod Edits
 pub mod Endings
 pub mod Lists
+pub mod Once
 pub mod Outcomes
 pub mod Pieces
 pub mod Places

@@ -10,7 +10,7 @@ use Rattle.edit_script.proofs.Readings.{one_reading}
 use Rattle.edit_script.proofs.Standing.{one_files}
 use Rattle.build_plain.specs.Out.{Builds}
 use Rattle.build_plain.proofs.Built.{one_outcome}
-use Rattle.token_cli.specs.Ending.{status_of}
+use Rattle.token_cli.specs.Ending.{status_of, whole_status}
 use Rattle.token_cli.specs.Headline.{OfScript, BuildsAt, WroteStream, events_for, most_bytes}
 use Rattle.token_cli.specs.declared.stop.Stop.{Stop}
 use Rattle.token_cli.specs.declared.stop.Stop.TheVariants as stop
@@ -126,3 +126,21 @@ not_whole es k refused old new within none wrote =
     let (others, stand_too, unbuilt) = none in
     let P : FilesData → Type 0 = λ f. Builds f (Some out) in
     none-some out (one_outcome others None (Some out) unbuilt (subst P (one_files (up_to (suc k) es) files others stand stand_too) builds))
+
+-- the stream was written whole, so that is said
+pub whole_said : (r : Ended) (refused : Bool) → ((x : Bool) → r ≡ Ok x → x ≡ refused) → ((why : Stop) → r ≡ Err why → ⊥) → status_of r ≡ status_of (Ok refused)
+whole_said (Ok x) refused same none = ap (λ b. status_of (Ok b)) (same x refl)
+whole_said (Err why) refused same none = absurd (none why refl)
+
+-- a run that stopped for none of the causes did not stop
+pub no_stop : (r : Ended) → (r ≡ Err stop.NotYet → ⊥) → ((at : ℕ) → r ≡ Err (stop.BadScript at) → ⊥) → (r ≡ Err stop.ReadFault → ⊥) → (r ≡ Err stop.WriteFault → ⊥) → (r ≡ Err stop.NoMemory → ⊥) → (r ≡ Err stop.TooLong → ⊥) → (why : Stop) → r ≡ Err why → ⊥
+no_stop r later bad read write memory long stop.NotYet e = later e
+no_stop r later bad read write memory long (stop.BadScript at) e = bad at e
+no_stop r later bad read write memory long stop.ReadFault e = read e
+no_stop r later bad read write memory long stop.WriteFault e = write e
+no_stop r later bad read write memory long stop.NoMemory e = memory e
+no_stop r later bad read write memory long stop.TooLong e = long e
+
+pub said : (refused : Bool) → status_of (Ok refused) ≡ whole_status refused
+said true = refl
+said false = refl

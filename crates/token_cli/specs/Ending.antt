@@ -3,7 +3,7 @@ use Rattle.std.specs.Prelude.{◌≡◌, ◌⊎◌, ℕ, Bool, List, Option, Res
 use Rattle.tk_io.specs.Causes.{Rose}
 use Rattle.edit_script.specs.Script.{EventData, IsScript, IsScriptStop}
 use Rattle.token_cli.specs.Report.{error_text}
-use Rattle.token_cli.specs.Headline.{events_for, WroteStream, WroteFront, WroteUntil}
+use Rattle.token_cli.specs.Headline.{events_for, WroteStream, WrotePart, WroteUntil}
 use Rattle.token_cli.specs.declared.stop.Stop.{Stop}
 use Rattle.token_cli.specs.declared.stop.Stop.TheVariants as stop
 use Rattle.token_cli.specs.declared.words.Command.{Command}
@@ -14,8 +14,8 @@ use Rattle.token_cli.specs.declared.status.Status.TheVariants as status
 abbrev pub Writes : Result Bool Stop → List EventData → Option (List ℕ) → Option (List ℕ) → ℕ → ℕ → Type 0
 Writes (Ok refused) es old new before now = WroteStream es refused old new
 Writes (Err stop.NotYet) es old new before now = WroteUntil es old new
-Writes (Err stop.NoMemory) es old new before now = WroteFront es old new
-Writes (Err stop.WriteFault) es old new before now = Rose before now × WroteFront es old new
+Writes (Err stop.NoMemory) es old new before now = WrotePart es old new
+Writes (Err stop.WriteFault) es old new before now = Rose before now × WrotePart es old new
 Writes (Err (stop.BadScript at)) es old new before now = ⊥
 Writes (Err stop.ReadFault) es old new before now = ⊥
 Writes (Err stop.TooLong) es old new before now = ⊥
@@ -29,6 +29,11 @@ status_of (Err stop.WriteFault) = status.WriteFault
 status_of (Err (stop.BadScript at)) = status.BadScript
 status_of (Err stop.ReadFault) = status.ReadFault
 status_of (Err stop.TooLong) = status.TooLong
+
+-- .. where the whole stream was written, with or without a refusal held at its end
+abbrev pub whole_status : Bool → Status
+whole_status Bool.true = status.Refused
+whole_status Bool.false = status.Done
 
 -- the byte at which a script is refused
 abbrev pub place_of : Result Bool Stop → ℕ
@@ -48,8 +53,8 @@ stop_text s = error_text (status_of (Err s)) (place_of (Err s))
 abbrev pub Scripted : Result Bool Stop → Command → List ℕ → Option (List ℕ) → Option (List ℕ) → ℕ → ℕ → Type 0
 Scripted (Ok refused) c script old new before now = (es : List EventData) × IsScript script es × WroteStream (events_for c es) refused old new
 Scripted (Err stop.NotYet) c script old new before now = (es : List EventData) × IsScript script es × WroteUntil (events_for c es) old new
-Scripted (Err stop.NoMemory) c script old new before now = (new ≡ old) ⊎ ((es : List EventData) × IsScript script es × WroteFront (events_for c es) old new)
-Scripted (Err stop.WriteFault) c script old new before now = Rose before now × ((es : List EventData) × IsScript script es × WroteFront (events_for c es) old new)
+Scripted (Err stop.NoMemory) c script old new before now = (new ≡ old) ⊎ ((es : List EventData) × IsScript script es × WrotePart (events_for c es) old new)
+Scripted (Err stop.WriteFault) c script old new before now = Rose before now × ((es : List EventData) × IsScript script es × WrotePart (events_for c es) old new)
 Scripted (Err (stop.BadScript at)) c script old new before now = (new ≡ old) × IsScriptStop script at
 Scripted (Err stop.ReadFault) c script old new before now = ⊥
 Scripted (Err stop.TooLong) c script old new before now = ⊥

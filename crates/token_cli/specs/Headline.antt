@@ -1,10 +1,10 @@
 -- What is written for a script: commit after commit, the output files that a build from nothing of the files then present
 -- would change.
-use Rattle.std.specs.Prelude.{◌≡◌, ◌<◌, ◌≤◌, ◌==◌, ℕ, suc, Bool, List, ◌++◌, length, codes, Option, Some, None, is_some, IfSome, if◌then◌else◌}
+use Rattle.std.specs.Prelude.{◌≡◌, ◌<◌, ◌≤◌, ◌⊎◌, ℕ, suc, Bool, List, ◌++◌, length, codes, Option, Some, None, is_some, IfSome}
 use Rattle.std.specs.FinMap as map
 use Rattle.std.specs.List.{slice_get}
 use Rattle.std.specs.Io.KnownBytes.{Appends}
-use Rattle.tk_io.specs.Writing.{AppendsFront}
+use Rattle.tk_io.specs.Writing.{AppendsFront, AppendsPart}
 use Rattle.edit_script.specs.Script.{EventData, IsScript}
 use Rattle.edit_script.specs.Files.{FilesData, AreFilesAt, commit_count, whole}
 use Rattle.edit_script.specs.Delta.{Held, Delta, AreDeltas, held_at}
@@ -46,20 +46,19 @@ is_refused held = is_some (map.get held (codes "default/REFUSED"))
 abbrev pub commits_so_far : List Delta → List ℕ
 commits_so_far deltas = line_text StreamHead ++ commits_text 1 deltas
 
--- .. and its last line, where these are all commits
-abbrev pub stream_so_far : ℕ → List Delta → List ℕ
-stream_so_far count deltas = if length deltas == count then stream_of deltas else commits_so_far deltas
-
 -- the whole stream was written; `refused` says whether a refusal is held at its end
 abbrev pub WroteStream : List EventData → Bool → Option (List ℕ) → Option (List ℕ) → Type 0
 WroteStream es refused old new =
     (held : List Held) × (deltas : List Delta) × AreCommits es held deltas × (length held ≡ commit_count es)
     × (is_refused (last_held held) ≡ refused) × Appends old new (stream_of deltas)
 
--- a front of the stream was written
-abbrev pub WroteFront : List EventData → Option (List ℕ) → Option (List ℕ) → Type 0
-WroteFront es old new =
-    (held : List Held) × (deltas : List Delta) × AreCommits es held deltas × AppendsFront old new (stream_so_far (commit_count es) deltas)
+-- a part of the stream was written, and not all of it: a front of what some of the commits gave, or less than the whole
+-- of what all gave
+abbrev pub WrotePart : List EventData → Option (List ℕ) → Option (List ℕ) → Type 0
+WrotePart es old new =
+    (held : List Held) × (deltas : List Delta) × AreCommits es held deltas
+    × (((length held < commit_count es) × AppendsFront old new (commits_so_far deltas))
+    ⊎ ((length held ≡ commit_count es) × AppendsPart old new (stream_of deltas)))
 
 -- the stream was written up to a commit whose files are not built yet
 abbrev pub WroteUntil : List EventData → Option (List ℕ) → Option (List ℕ) → Type 0

@@ -3,7 +3,7 @@ use Rattle.std.specs.Prelude.{◌⊎◌, ℕ, List, [], ◌++◌, codes, Option}
 use Rattle.std.specs.Fmt.{decimal}
 use Rattle.std.specs.Io.KnownBytes.{Appends}
 use Rattle.tk_io.specs.Causes.{Rose}
-use Rattle.tk_io.specs.Writing.{AppendsFront}
+use Rattle.tk_io.specs.Writing.{AppendsPart}
 use Rattle.token_cli.specs.declared.status.Status.{Status}
 use Rattle.token_cli.specs.declared.status.Status.TheVariants as status
 
@@ -31,6 +31,6 @@ number_of status.NoMemory = 6
 number_of status.TooLong = 7
 number_of status.NotYet = 8
 
--- the text was appended whole, or a front of it was and the count rose
+-- the text was appended whole, or a part of it, and not all, was and the count rose
 abbrev pub Reports : Option (List ℕ) → Option (List ℕ) → ℕ → ℕ → List ℕ → Type 0
-Reports old new before now text = Appends old new text ⊎ (AppendsFront old new text × Rose before now)
+Reports old new before now text = Appends old new text ⊎ (AppendsPart old new text × Rose before now)

@@ -4,7 +4,7 @@ use Rattle.std.specs.FinMap as map
 use Rattle.std.specs.List.{flat_map}
 use Rattle.std.specs.Io.KnownBytes.{Appends}
 use Rattle.tk_io.specs.Causes.{Rose}
-use Rattle.tk_io.specs.Writing.{AppendsFront}
+use Rattle.tk_io.specs.Writing.{AppendsPart}
 use Rattle.edit_script.specs.Script.{EventData, put, del, commit}
 use Rattle.edit_script.specs.Files.{FilesData}
 use Rattle.edit_script.specs.Delta.{Held, Delta, IsDelta}
@@ -43,7 +43,7 @@ Follows commit s t old new =
 -- why the commit of this number isn't written whole, and what was written of it
 abbrev pub Cuts : Stop → Held → Held → ℕ → Option (List ℕ) → Option (List ℕ) → ℕ → ℕ → Type 0
 Cuts stop.NoMemory held next k old new before now = new ≡ old
-Cuts stop.WriteFault held next k old new before now = Rose before now × ((delta : Delta) × IsDelta held next delta × AppendsFront old new (commit_text k delta))
+Cuts stop.WriteFault held next k old new before now = Rose before now × ((delta : Delta) × IsDelta held next delta × AppendsPart old new (commit_text k delta))
 Cuts stop.NotYet held next k old new before now = ⊥
 Cuts (stop.BadScript at) held next k old new before now = ⊥
 Cuts stop.ReadFault held next k old new before now = ⊥
@@ -54,7 +54,7 @@ abbrev pub Fails : Stop → EventData → State → Option (List ℕ) → Option
 Fails stop.NotYet e s old new before now = (e ≡ commit) × Builds s.files None × (new ≡ old)
 Fails stop.NoMemory e s old new before now = new ≡ old
 Fails stop.WriteFault e s old new before now =
-    (e ≡ commit) × Rose before now × ((held : Held) × (delta : Delta) × Leads s held delta × AppendsFront old new (commit_text (s.commits + 1) delta))
+    (e ≡ commit) × Rose before now × ((held : Held) × (delta : Delta) × Leads s held delta × AppendsPart old new (commit_text (s.commits + 1) delta))
 Fails (stop.BadScript at) e s old new before now = ⊥
 Fails stop.ReadFault e s old new before now = ⊥
 Fails stop.TooLong e s old new before now = ⊥

@@ -12,6 +12,7 @@ mod status;
 mod stop;
 #[cfg(test)]
 mod tests;
+mod wiring;
 mod words;
 mod workspace;
 
@@ -19,3 +20,4 @@ pub use clean::run_clean;
 pub use laws::one_stream;
 pub use running::run;
 pub use status::Status;
+pub use wiring::program;

@@ -3,7 +3,7 @@ ghost use Rattle.std.specs.Prelude.{◌≡◌, ◌++◌, codes, OnOk, OnErr};
 ghost use Rattle.std.specs.Fmt.{decimal};
 ghost use Rattle.std.specs.Io.KnownBytes.{Appends};
 ghost use Rattle.tk_io.specs.Causes.{HasCause};
-ghost use Rattle.tk_io.specs.Writing.{AppendsFront};
+ghost use Rattle.tk_io.specs.Writing.{AppendsPart};
 ghost use Rattle.token_cli.specs.Ending.{status_of, place_of, stop_text};
 ghost use Rattle.token_cli.specs.Report.{error_text, Reports};
 
@@ -14,7 +14,7 @@ use tk_io::{Failed, Sink, write_all};
 // Says at which byte a script is refused.
 fn report_script<E: Sink>(err: &mut E, at: usize) -> Result<(), Failed>
     ensures whole { OnOk result (Appends (E.written err.old) (E.written err.new) (codes "tokc: bad script at byte " ++ decimal at ++ codes "\n")) }
-    ensures part { OnErr result (AppendsFront (E.written err.old) (E.written err.new) (codes "tokc: bad script at byte " ++ decimal at ++ codes "\n")) }
+    ensures part { OnErr result (AppendsPart (E.written err.old) (E.written err.new) (codes "tokc: bad script at byte " ++ decimal at ++ codes "\n")) }
     ensures cause { HasCause (E.faults err.old) (E.faults err.new) result }
 {
     let mut buffer = Buffer::new();
@@ -26,7 +26,7 @@ fn report_script<E: Sink>(err: &mut E, at: usize) -> Result<(), Failed>
 // Writes the text of a stop.
 fn write_text<E: Sink>(err: &mut E, stop: Stop) -> Result<(), Failed>
     ensures whole { OnOk result (Appends (E.written err.old) (E.written err.new) (stop_text stop)) }
-    ensures part { OnErr result (AppendsFront (E.written err.old) (E.written err.new) (stop_text stop)) }
+    ensures part { OnErr result (AppendsPart (E.written err.old) (E.written err.new) (stop_text stop)) }
     ensures cause { HasCause (E.faults err.old) (E.faults err.new) result }
 {
     match stop {

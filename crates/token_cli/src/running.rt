@@ -4,8 +4,8 @@ ghost use Rattle.std.specs.Io.KnownBytes.{IsAtEnd};
 ghost use Rattle.tk_io.specs.Causes.{Rose};
 ghost use Rattle.tk_io.specs.Reading.{TakesAtMost, TakesExactly};
 ghost use Rattle.edit_script.specs.Script.{EventData, IsScript, IsScriptStop};
-ghost use Rattle.token_cli.specs.Ending.{Scripted};
-ghost use Rattle.token_cli.specs.Headline.{OfScript, WroteStream, WroteFront, WroteUntil, BuildsAt, AreBuilt, events_for, most_bytes};
+ghost use Rattle.token_cli.specs.Ending.{Scripted, whole_status};
+ghost use Rattle.token_cli.specs.Headline.{OfScript, WroteStream, WrotePart, WroteUntil, BuildsAt, AreBuilt, events_for, most_bytes};
 ghost use Rattle.token_cli.specs.Report.{error_text, Reports};
 ghost use Rattle.token_cli.specs.Words.{command_of};
 ghost use Rattle.token_cli.specs.declared.words.Command.{Command as CommandData};
@@ -48,8 +48,8 @@ fn main_job<S: Source, K: Sink>(
     ensures not_yet { result ≡ Err Stop.NotYet → IfSome (command_of words.now) (λ c. IsAtEnd (S.left src.new)) × OfScript (command_of words.now) (S.left src.old) (λ es. WroteUntil es (K.written out.old) (K.written out.new)) }
     ensures bad_script { (at : ℕ) → result ≡ Err (Stop.BadScript at) → (K.written out.new ≡ K.written out.old) × IsAtEnd (S.left src.new) × IfSome (S.left src.old) (λ script. (length script ≤ most_bytes) × IsScriptStop script at) }
     ensures read_fault { result ≡ Err Stop.ReadFault → Rose (S.faults src.old) (S.faults src.new) × (K.written out.new ≡ K.written out.old) }
-    ensures write_fault { result ≡ Err Stop.WriteFault → Rose (K.faults out.old) (K.faults out.new) × IsAtEnd (S.left src.new) × OfScript (command_of words.now) (S.left src.old) (λ es. WroteFront es (K.written out.old) (K.written out.new)) }
-    ensures memory { result ≡ Err Stop.NoMemory → (K.written out.new ≡ K.written out.old) ⊎ (IsAtEnd (S.left src.new) × OfScript (command_of words.now) (S.left src.old) (λ es. WroteFront es (K.written out.old) (K.written out.new))) }
+    ensures write_fault { result ≡ Err Stop.WriteFault → Rose (K.faults out.old) (K.faults out.new) × IsAtEnd (S.left src.new) × OfScript (command_of words.now) (S.left src.old) (λ es. WrotePart es (K.written out.old) (K.written out.new)) }
+    ensures memory { result ≡ Err Stop.NoMemory → (K.written out.new ≡ K.written out.old) ⊎ (IsAtEnd (S.left src.new) × OfScript (command_of words.now) (S.left src.old) (λ es. WrotePart es (K.written out.old) (K.written out.new))) }
     ensures too_long { result ≡ Err Stop.TooLong → TakesExactly 67108865 (S.left src.old) (S.left src.new) × (K.written out.new ≡ K.written out.old) }
     ensures taken { (result ≡ Err Stop.TooLong → ⊥) → TakesAtMost most_bytes (S.left src.old) (S.left src.new) }
 {
@@ -76,6 +76,9 @@ pub fn run<S: Source, K: Sink, E: Sink>(
     ensures done { result ≡ Status.Done → IsAtEnd (S.left src.new) × OfScript (command_of words.now) (S.left src.old) (λ es. WroteStream es Bool.false (K.written out.old) (K.written out.new)) }
     // .. or one is.
     ensures refused { result ≡ Status.Refused → IsAtEnd (S.left src.new) × OfScript (command_of words.now) (S.left src.old) (λ es. WroteStream es Bool.true (K.written out.old) (K.written out.new)) }
+    // Both are said exactly where all was written: where the sink tells that it was, nothing else is.
+    ensures all { (c : CommandData) (script : List ℕ) (es : List EventData) (before : List ℕ) (refused : Bool) → command_of words.now ≡ Some c → S.left src.old ≡ Some script → IsScript script es → K.written out.old ≡ Some before
+        → WroteStream (events_for c es) refused (K.written out.old) (K.written out.new) → result ≡ whole_status refused }
     // Other words are not built, and nothing is read or written for them.
     ensures words { command_of words.now ≡ None → (result ≡ Status.NotYet) × (src.new ≡ src.old) × (K.written out.new ≡ K.written out.old) }
     // A commit's files are not built, and all that stands before its line was written.
@@ -85,9 +88,9 @@ pub fn run<S: Source, K: Sink, E: Sink>(
         × ((at : ℕ) × IfSome (S.left src.old) (λ script. (length script ≤ most_bytes) × IsScriptStop script at) × Reports (E.written err.old) (E.written err.new) (E.faults err.old) (E.faults err.new) (error_text result at)) }
     // A fault is answered only where its count rose.
     ensures read_fault { result ≡ Status.ReadFault → Rose (S.faults src.old) (S.faults src.new) × (K.written out.new ≡ K.written out.old) }
-    ensures write_fault { result ≡ Status.WriteFault → Rose (K.faults out.old) (K.faults out.new) × IsAtEnd (S.left src.new) × OfScript (command_of words.now) (S.left src.old) (λ es. WroteFront es (K.written out.old) (K.written out.new)) }
-    // Where memory ran out, nothing was written, or a front of the stream.
-    ensures memory { result ≡ Status.NoMemory → (K.written out.new ≡ K.written out.old) ⊎ (IsAtEnd (S.left src.new) × OfScript (command_of words.now) (S.left src.old) (λ es. WroteFront es (K.written out.old) (K.written out.new))) }
+    ensures write_fault { result ≡ Status.WriteFault → Rose (K.faults out.old) (K.faults out.new) × IsAtEnd (S.left src.new) × OfScript (command_of words.now) (S.left src.old) (λ es. WrotePart es (K.written out.old) (K.written out.new)) }
+    // Where memory ran out, nothing was written, or a part of the stream.
+    ensures memory { result ≡ Status.NoMemory → (K.written out.new ≡ K.written out.old) ⊎ (IsAtEnd (S.left src.new) × OfScript (command_of words.now) (S.left src.old) (λ es. WrotePart es (K.written out.old) (K.written out.new))) }
     // A script is too long exactly where one byte more than the limit was taken.
     ensures too_long { result ≡ Status.TooLong → TakesExactly 67108865 (S.left src.old) (S.left src.new) × (K.written out.new ≡ K.written out.old) }
     ensures taken { (result ≡ Status.TooLong → ⊥) → TakesAtMost most_bytes (S.left src.old) (S.left src.new) }

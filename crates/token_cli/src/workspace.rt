@@ -4,7 +4,7 @@ ghost use Rattle.std.specs.FinMap as map;
 ghost use Rattle.std.specs.List.{slice_get};
 ghost use Rattle.std.specs.Io.KnownBytes.{Appends};
 ghost use Rattle.tk_io.specs.Causes.{HasCause};
-ghost use Rattle.tk_io.specs.Writing.{AppendsFront};
+ghost use Rattle.tk_io.specs.Writing.{AppendsPart};
 ghost use Rattle.edit_script.specs.Delta.{Delta, IsDelta};
 ghost use Rattle.edit_script.specs.Script.{commit as commit_event};
 ghost use Rattle.edit_script.specs.Shown.{Lined, event_of, with_line};
@@ -33,7 +33,7 @@ pub struct Workspace<'s> {
 fn write_changes<K: Sink>(out: &mut K, changes: &Changes<'_>) -> Result<(), Failed>
     requires { (i : ℕ) → (change : Lined) → slice_get changes.now i ≡ Some change → change ≡ with_line change.0 }
     ensures whole { OnOk result (Appends (K.written out.old) (K.written out.new) (records_of changes.now)) }
-    ensures part { OnErr result (AppendsFront (K.written out.old) (K.written out.new) (records_of changes.now)) }
+    ensures part { OnErr result (AppendsPart (K.written out.old) (K.written out.new) (records_of changes.now)) }
     ensures cause { HasCause (K.faults out.old) (K.faults out.new) result }
 {
     for i in 0..changes.len() {

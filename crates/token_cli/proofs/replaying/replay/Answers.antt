@@ -7,7 +7,7 @@ use Rattle.token_cli.specs.declared.workspace.Workspace.{Workspace}
 use Rattle.token_cli.proofs.Places.{at_none, some_shown}
 use Rattle.token_cli.proofs.Standing.{Stands, stands_first, stands_more, count_taken}
 use Rattle.token_cli.proofs.Stops.{writes_err}
-use Rattle.token_cli.proofs.Endings.{front_first, ends_at, ends_whole, ends_cut}
+use Rattle.token_cli.proofs.Endings.{part_first, ends_at, ends_whole, ends_cut}
 use Rattle.token_cli.proofs.replaying.replay.Goals.{in-Some+in_ok-take, in_default}
 use Rattle.token_cli.proofs.replaying.replay.Goals as goal
 
@@ -17,7 +17,7 @@ returns-in_err-write_line-clause-written g c =
     let old = g.K.Sink.written c.args.out.now in
     let new = g.K.Sink.written c.write_line.new.out in
     writes_err c.from_residual.result stop.WriteFault es old new (g.K.Sink.faults c.args.out.now) (g.K.Sink.faults c.write_line.new.out) c.from_residual.ensures.1
-    (c.in_err-write_line.ensures.cause.failed, front_first es old new c.in_err-write_line.ensures.part)
+    (c.in_err-write_line.ensures.cause.failed, part_first es old new c.in_err-write_line.ensures.part)
 
 pub loop-i-init : goal.loop-i-init
 loop-i-init g c =

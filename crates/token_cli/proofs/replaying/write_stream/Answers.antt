@@ -1,6 +1,6 @@
 use Rattle.token_cli.specs.Headline.{events_for}
 use Rattle.token_cli.specs.declared.stop.Stop.TheVariants as stop
-use Rattle.token_cli.proofs.Endings.{front_nothing}
+use Rattle.token_cli.proofs.Endings.{part_nothing}
 use Rattle.token_cli.proofs.Stops.{writes_err}
 use Rattle.token_cli.proofs.replaying.write_stream.Goals as goal
 
@@ -9,4 +9,4 @@ returns-in_err-all-in-Build-clause-written g c =
     let es = events_for c.args.command c.args.events.now in
     let old = g.K.Sink.written c.args.out.now in
     let faults = g.K.Sink.faults c.args.out.now in
-    writes_err c.from_residual.result stop.NoMemory es old old faults faults c.from_residual.ensures.1 (front_nothing es old)
+    writes_err c.from_residual.result stop.NoMemory es old old faults faults c.from_residual.ensures.1 (part_nothing es old)

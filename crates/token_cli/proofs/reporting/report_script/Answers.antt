@@ -1,7 +1,7 @@
 use Rattle.std.proofs.Common.{◌≡◌, ◌∙◌, ℕ, List, [], ◌∷◌, ◌++◌, codes, ap, sym, refl}
 use Rattle.std.specs.Fmt.{decimal}
 use Rattle.std.proofs.KnownBytes.{Appends-trans}
-use Rattle.edit_script.proofs.Written.{on_err, on_err_then, front_more, front_after}
+use Rattle.edit_script.proofs.Written.{on_err, on_err_then, part_more, part_after}
 use Rattle.token_cli.proofs.Pieces.{on_ok_then, three_written}
 use Rattle.token_cli.proofs.reporting.report_script.Goals as goal
 
@@ -13,13 +13,13 @@ text_is at digits format same text = ap (λ d. word ++ (d ++ (10 ∷ []))) (sym 
 
 pub returns-in_err-write_all-clause-part : goal.returns-in_err-write_all-clause-part
 returns-in_err-write_all-clause-part g c =
-    on_err c.from_residual.result (front_more (g.E.Sink.written c.args.err.now) (g.E.Sink.written c.write_all.new.out) (word ++ decimal c.args.at ++ codes "\n") word (decimal c.args.at ++ (10 ∷ [])) c.in_err-write_all.ensures.part refl)
+    on_err c.from_residual.result (part_more (g.E.Sink.written c.args.err.now) (g.E.Sink.written c.write_all.new.out) (word ++ decimal c.args.at ++ codes "\n") word (decimal c.args.at ++ (10 ∷ [])) c.in_err-write_all.ensures.part refl)
 
 pub returns-in_err-write_all-2-clause-part : goal.returns-in_err-write_all-2-clause-part
 returns-in_err-write_all-2-clause-part g c =
     let digits = c.as_bytes.result.now in
     on_err c.from_residual-in_err-write_all-2.result
-    (front_after (g.E.Sink.written c.args.err.now) (g.E.Sink.written c.write_all.new.out) (g.E.Sink.written c.write_all-2.new.out) (word ++ decimal c.args.at ++ codes "\n") word digits (10 ∷ []) c.in_ok-write_all.ensures.whole c.in_err-write_all-2.ensures.part (text_is c.args.at digits c.format.result.now c.as_bytes.ensures.value c.format.ensures.text))
+    (part_after (g.E.Sink.written c.args.err.now) (g.E.Sink.written c.write_all.new.out) (g.E.Sink.written c.write_all-2.new.out) (word ++ decimal c.args.at ++ codes "\n") word digits (10 ∷ []) c.in_ok-write_all.ensures.whole c.in_err-write_all-2.ensures.part (text_is c.args.at digits c.format.result.now c.as_bytes.ensures.value c.format.ensures.text))
 
 pub returns-clause-whole : goal.returns-clause-whole
 returns-clause-whole g c =
@@ -35,5 +35,5 @@ returns-clause-part g c =
     let between = g.E.Sink.written c.write_all-2.new.out in
     let done = Appends-trans before (g.E.Sink.written c.write_all.new.out) between word digits c.in_ok-write_all.ensures.whole c.in_ok-write_all-2.ensures.whole in
     on_err_then c.write_all-3.result
-    (λ front. front_after before between (g.E.Sink.written c.write_all-3.new.out) (word ++ decimal c.args.at ++ codes "\n") (word ++ digits) (10 ∷ []) [] done front (text_is c.args.at digits c.format.result.now c.as_bytes.ensures.value c.format.ensures.text))
+    (λ front. part_after before between (g.E.Sink.written c.write_all-3.new.out) (word ++ decimal c.args.at ++ codes "\n") (word ++ digits) (10 ∷ []) [] done front (text_is c.args.at digits c.format.result.now c.as_bytes.ensures.value c.format.ensures.text))
     c.write_all-3.ensures.part

@@ -1,12 +1,13 @@
-use Rattle.std.proofs.Common.{◌≡◌, ◌∙◌, ◌⊎◌, ◌≤◌, ℕ, Bool, true, false, List, length, ap, sym, subst, arith}
+use Rattle.std.proofs.Common.{◌≡◌, ◌∙◌, ◌⊎◌, inl, inr, ◌≤◌, ℕ, Bool, true, false, List, length, ap, sym, subst, arith}
 use Rattle.edit_script.specs.Script.{EventData, IsScriptStop}
 use Rattle.token_cli.specs.Ending.{status_of, place_of}
-use Rattle.token_cli.specs.Headline.{WroteStream, WroteFront, WroteUntil, events_for, most_bytes}
+use Rattle.token_cli.specs.Headline.{OfScript, WroteStream, WrotePart, WroteUntil, events_for, most_bytes}
 use Rattle.token_cli.specs.Report.{error_text, Reports}
 use Rattle.token_cli.specs.Words.{command_of}
 use Rattle.token_cli.specs.declared.status.Status.{Status}
 use Rattle.token_cli.specs.declared.status.Status.TheVariants as status
-use Rattle.token_cli.proofs.Outcomes.{is_done, is_refusal, is_bad, all_written, not_built, not_read, too_many, taken, at_some, of_script, of_events, not_whole}
+use Rattle.token_cli.proofs.Outcomes.{is_done, is_refusal, is_bad, all_written, not_built, not_read, too_many, taken, at_some, of_script, of_events, not_whole, whole_said, no_stop, said}
+use Rattle.token_cli.proofs.Once.{part_or_whole, none_or_whole, one_end}
 use Rattle.token_cli.proofs.running.run.Goals as goal
 
 pub returns-clause-done : goal.returns-clause-done
@@ -67,7 +68,7 @@ returns-clause-unread g c command script which told short none no_read =
     let old = g.K.Sink.written c.args.out.now in
     let new = g.K.Sink.written c.main_job-ended.new.out in
     let Whole : Bool → List EventData → Type 0 = λ refused xs. WroteStream xs refused old new in
-    let Front : List EventData → Type 0 = λ xs. WroteFront xs old new in
+    let Front : List EventData → Type 0 = λ xs. WrotePart xs old new in
     let Until : List EventData → Type 0 = λ xs. WroteUntil xs old new in
     let P : Status → Type 0 = λ s. (s ≡ status.BadScript) ⊎ (s ≡ status.NoMemory) in
     subst P (sym c.status_of.ensures)
@@ -86,7 +87,7 @@ returns-clause-endless g c command script which told long no_read =
     let old = g.K.Sink.written c.args.out.now in
     let new = g.K.Sink.written c.main_job-ended.new.out in
     let Whole : Bool → List EventData → Type 0 = λ refused xs. WroteStream xs refused old new in
-    let Front : List EventData → Type 0 = λ xs. WroteFront xs old new in
+    let Front : List EventData → Type 0 = λ xs. WrotePart xs old new in
     let Until : List EventData → Type 0 = λ xs. WroteUntil xs old new in
     let Bad : ℕ → List ℕ → Type 0 = λ at s. (length s ≤ most_bytes) × IsScriptStop s at in
     let P : Status → Type 0 = λ s. (s ≡ status.TooLong) ⊎ (s ≡ status.NoMemory) in
@@ -97,3 +98,21 @@ returns-clause-endless g c command script which told long no_read =
     (λ e. let (short, rest) = of_script words left Front command script which told (h.write_fault e).2 in omega (arith, short, long))
     (λ e. let (short, rest) = of_script words left Until command script which told (h.not_yet e).1 in omega (arith, short, long))
     (λ at e. let short = (at_some script left (Bad at) told (h.bad_script at e).2).0 in omega (arith, short, long)))
+
+pub returns-clause-all : goal.returns-clause-all
+returns-clause-all g c command script es before refused which told reads holds wrote =
+    let h = c.main_job-ended.ensures in
+    let r = c.main_job-ended.result in
+    let left = g.S.Source.left c.args.src.now in
+    let words = command_of c.args.words.now in
+    let old = g.K.Sink.written c.args.out.now in
+    let new = g.K.Sink.written c.main_job-ended.new.out in
+    let events = events_for command es in
+    let Whole : Bool → List EventData → Type 0 = λ x xs. WroteStream xs x old new in
+    let Part : List EventData → Type 0 = λ xs. WrotePart xs old new in
+    let Until : List EventData → Type 0 = λ xs. WroteUntil xs old new in
+    let none : new ≡ old → ⊥ = λ same. none_or_whole events refused old new before holds same wrote in
+    let part : OfScript words left Part → ⊥ = λ p. part_or_whole events refused old new before holds (of_events words left Part command script es which told reads p) wrote in
+    let until : OfScript words left Until → ⊥ = λ p. let (held, deltas, commits, within, unbuilt, text) = of_events words left Until command script es which told reads p in not_whole events (length held) refused old new (omega (arith, within)) unbuilt wrote in
+    c.status_of.ensures ∙ (whole_said r refused (λ x e. one_end events x refused old new (of_events words left (Whole x) command script es which told reads (h.wrote x e).1) wrote) (no_stop r (λ e. until (h.not_yet e).1) (λ at e. none (h.bad_script at e).0) (λ e. none (h.read_fault e).1) (λ e. part (h.write_fault e).2) (λ e. elim (h.memory e) [ inl same ↦ none same | inr p ↦ part p.1 ]) (λ e. none (h.too_long e).1))
+    ∙ said refused)

@@ -4,7 +4,7 @@ use Rattle.std.specs.Io.KnownBytes.{Appends}
 use Rattle.std.specs.List.{slice_get}
 use Rattle.edit_script.specs.Shown.{Lined, lined_of}
 use Rattle.edit_script.specs.Stream.{record_of}
-use Rattle.edit_script.proofs.Written.{on_err, front_after}
+use Rattle.edit_script.proofs.Written.{on_err, part_after}
 use Rattle.token_cli.specs.Step.{records_of}
 use Rattle.token_cli.proofs.Places.{at_none}
 use Rattle.token_cli.proofs.Records.{split_at, one_more}
@@ -17,7 +17,7 @@ returns-in_err-write_change-clause-part g c =
     let i = c.loop-i.i in
     let change = lined_of c.in-Some.change.now in
     on_err c.from_residual.result
-    (front_after (g.K.Sink.written c.args.out.now) (g.K.Sink.written c.loop-i.out) (g.K.Sink.written c.write_change.new.out) (records_of cs) (records_of (take i cs)) (record_of change.0) (records_of (drop (suc i) cs)) c.loop-i.invariant.0 c.in_err-write_change.ensures.part (split_at cs i change (sym c.in-Some.ensures)))
+    (part_after (g.K.Sink.written c.args.out.now) (g.K.Sink.written c.loop-i.out) (g.K.Sink.written c.write_change.new.out) (records_of cs) (records_of (take i cs)) (record_of change.0) (records_of (drop (suc i) cs)) c.loop-i.invariant.0 c.in_err-write_change.ensures.part (split_at cs i change (sym c.in-Some.ensures)))
 
 -- one record more was written
 more_written : (cs : List Lined) (i : ℕ) (change : Lined) (a b d : Option (List ℕ)) → slice_get cs i ≡ Some change → Appends a b (records_of (take i cs)) → Appends b d (record_of change.0) → Appends a d (records_of (take (i + 1) cs))
@@ -34,6 +34,6 @@ loop-i-preserved g c =
           let now = g.K.Sink.faults c.loop-i.out in
           let written : Appends (g.K.Sink.written c.args.out.now) (g.K.Sink.written c.match-at.out) (records_of (take (i + 1) cs)) =
           more_written cs i (lined_of w.in-Some.change.now) (g.K.Sink.written c.args.out.now) (g.K.Sink.written c.loop-i.out) (g.K.Sink.written c.match-at.out) (sym w.in-Some.ensures) c.loop-i.invariant.0 (rw w.out-is w.in_ok-write_change.ensures.whole) in
-          (written, omega (arith, c.loop-i.invariant.1, w.in_ok-write_change.ensures.cause.later, ap g.K.Sink.faults w.out-is))
+          (written, omega (arith, c.loop-i.invariant.1, w.in_ok-write_change.ensures.cause.kept, ap g.K.Sink.faults w.out-is))
       | in_default w ↦ absurd (at_none cs i c.len-i-end.result w.in_default.ensures c.loop-i-test.true c.len-i-end.ensures)
     ]

@@ -5,7 +5,7 @@ use Rattle.edit_script.specs.Delta.{Delta}
 use Rattle.edit_script.specs.Shown.{Lined, with_line}
 use Rattle.edit_script.specs.Stream.{line_text, record_of}
 use Rattle.edit_script.specs.declared.line.Line.TheVariants.{Commit}
-use Rattle.edit_script.proofs.Written.{front_more, front_after, line_carried}
+use Rattle.edit_script.proofs.Written.{part_more, part_after, line_carried}
 use Rattle.token_cli.specs.Step.{Cuts, commit_text, records_of}
 use Rattle.token_cli.specs.declared.stop.Stop.{Stop}
 use Rattle.token_cli.specs.declared.stop.Stop.TheVariants as stop
@@ -26,7 +26,7 @@ returns-in_err-write_line-clause-err g c =
     let new = g.K.Sink.written c.write_line.new.out in
     let P : Stop → Type 0 = λ why. Cuts why c.args.old.now c.args.new.now k old new (g.K.Sink.faults c.args.out.now) (g.K.Sink.faults c.write_line.new.out) in
     if_err_is c.from_residual-in_err-write_line.result stop.WriteFault P c.from_residual-in_err-write_line.ensures.1
-    (c.in_err-write_line.ensures.cause.failed, (delta.0, delta.1, front_more old new (commit_text k delta.0) (line_text (Commit k)) (flat_map record_of (map.entries delta.0)) c.in_err-write_line.ensures.part refl))
+    (c.in_err-write_line.ensures.cause.failed, (delta.0, delta.1, part_more old new (commit_text k delta.0) (line_text (Commit k)) (flat_map record_of (map.entries delta.0)) c.in_err-write_line.ensures.part refl))
 
 pub returns-in_err-write_changes-clause-err : goal.returns-in_err-write_changes-clause-err
 returns-in_err-write_changes-clause-err g c =
@@ -38,7 +38,7 @@ returns-in_err-write_changes-clause-err g c =
     let P : Stop → Type 0 = λ why. Cuts why c.args.old.now c.args.new.now k old new (g.K.Sink.faults c.args.out.now) (g.K.Sink.faults c.write_changes.new.out) in
     if_err_is c.from_residual-in_err-write_changes.result stop.WriteFault P c.from_residual-in_err-write_changes.ensures.1 (
       omega (arith, c.in_ok-write_line.ensures.cause.later, c.in_err-write_changes.ensures.cause.failed),
-      (delta.0, delta.1, front_after old (g.K.Sink.written c.write_line.new.out) new (commit_text k delta.0) (line_text (Commit k)) (records_of changes) [] c.in_ok-write_line.ensures.whole c.in_err-write_changes.ensures.part (text_is k delta.0 changes delta.2 ∙ ap (λ l. line_text (Commit k) ++ l) (sym (append-nil (records_of changes))))),
+      (delta.0, delta.1, part_after old (g.K.Sink.written c.write_line.new.out) new (commit_text k delta.0) (line_text (Commit k)) (records_of changes) [] c.in_ok-write_line.ensures.whole c.in_err-write_changes.ensures.part (text_is k delta.0 changes delta.2 ∙ ap (λ l. line_text (Commit k) ++ l) (sym (append-nil (records_of changes))))),
     )
 
 pub returns-clause-ok : goal.returns-clause-ok

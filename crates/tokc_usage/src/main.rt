@@ -1,0 +1,10 @@
+//! The program as `tokc` is, run with other words than it knows: it ends with their status, and writes nothing to standard
+//! output.
+#![tactic(auto)]
+
+use std::process::ExitCode;
+use token_cli::program;
+
+fn main(rt: HostRuntime) -> ExitCode {
+    program(&rt)
+}
