@@ -33,8 +33,8 @@ fn root_by<'s, L: Ledger>(alloc: Global, text: &'s [u8], page: Blank) -> Result<
     }
 }
 
-fn root<'s>(alloc: Global, text: &'s str) -> Result<Node<'s>, NoMemory> {
-    root_by::<Brand>(alloc, text.as_bytes(), Blank::new(1))
+fn root(alloc: Global, text: &[u8]) -> Result<Node<'_>, NoMemory> {
+    root_by::<Brand>(alloc, text, Blank::new(1))
 }
 
 fn is_wanted(found: Option<Break>, wanted: Wanted) -> bool {
@@ -50,10 +50,10 @@ fn is_wanted(found: Option<Break>, wanted: Wanted) -> bool {
 #[test]
 fn forms_are_looked_at(rt: HostRuntime) -> Result<(), Fail> {
     let alloc = rt.alloc();
-    for (text, wanted) in table::FORMS {
-        let root = root(alloc, text)?;
+    for (text, wanted) in &table::FORMS {
+        let root = root(alloc, text.as_bytes())?;
         let found = form_break(alloc, root.as_ref())?;
-        assert!(rt; is_wanted(found, wanted), "{text}");
+        assert!(rt; is_wanted(found, *wanted), "{text}");
     }
     Ok(())
 }

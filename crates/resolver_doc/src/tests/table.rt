@@ -4,7 +4,7 @@ use super::Wanted::{Breaks, Met};
 use crate::PlanRule;
 
 /// Documents, and the first place where the form is not met.
-pub(super) const FORMS: [(&str, Wanted); 70] = [
+pub(super) static FORMS: [(&str, Wanted); 70] = [
     (r#"{"version":"2025.10","resolutionOrder":[]}"#, Met),
     (
         r#"{"version":"1","resolutionOrder":[]}"#,
