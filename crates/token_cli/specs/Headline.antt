@@ -3,9 +3,9 @@
 use Rattle.std.specs.Prelude.{◌≡◌, ◌<◌, ◌≤◌, ◌⊎◌, ℕ, suc, Bool, List, ◌++◌, length, codes, Option, Some, None, is_some, IfSome}
 use Rattle.std.specs.FinMap as map
 use Rattle.std.specs.List.{slice_get}
-use Rattle.std.specs.Io.KnownBytes.{Appends}
+use Rattle.std.specs.Io.KnownBytes.{Appends, IsAtEnd}
 use Rattle.tk_io.specs.Writing.{AppendsFront, AppendsPart}
-use Rattle.edit_script.specs.Script.{EventData, IsScript}
+use Rattle.edit_script.specs.Script.{EventData, IsScript, IsScriptStop}
 use Rattle.edit_script.specs.Files.{FilesData, AreFilesAt, commit_count, whole}
 use Rattle.edit_script.specs.Delta.{Held, Delta, AreDeltas, held_at}
 use Rattle.edit_script.specs.Stream.{commits_text, line_text, stream_of}
@@ -74,3 +74,19 @@ AreBuilt es = (k : ℕ) → suc k ≤ commit_count es → BuildsAt es (suc k) No
 abbrev pub OfScript : Option Command → Option (List ℕ) → (List EventData → Type 0) → Type 0
 OfScript command left claim =
     IfSome command (λ c. IfSome left (λ script. (length script ≤ most_bytes) × ((es : List EventData) × IsScript script es × claim (events_for c es))))
+
+-- a script was read to its end, and its stream was written whole
+abbrev pub WroteAll : Option Command → Option (List ℕ) → Option (List ℕ) → Bool → Option (List ℕ) → Option (List ℕ) → Type 0
+WroteAll command left rest refused old new = IsAtEnd rest × OfScript command left (λ es. WroteStream es refused old new)
+
+-- .. and a part of its stream was written
+abbrev pub WroteLess : Option Command → Option (List ℕ) → Option (List ℕ) → Option (List ℕ) → Option (List ℕ) → Type 0
+WroteLess command left rest old new = IsAtEnd rest × OfScript command left (λ es. WrotePart es old new)
+
+-- .. and its stream was written up to a commit whose files are not built yet, where the words are a command
+abbrev pub WroteUnbuilt : Option Command → Option (List ℕ) → Option (List ℕ) → Option (List ℕ) → Option (List ℕ) → Type 0
+WroteUnbuilt command left rest old new = IfSome command (λ c. IsAtEnd rest) × OfScript command left (λ es. WroteUntil es old new)
+
+-- what was read to its end is no script, and is refused at this byte
+abbrev pub IsNoScript : Option (List ℕ) → Option (List ℕ) → ℕ → Type 0
+IsNoScript left rest at = IsAtEnd rest × IfSome left (λ script. (length script ≤ most_bytes) × IsScriptStop script at)

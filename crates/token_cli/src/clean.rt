@@ -17,8 +17,12 @@ pub fn run_clean(alloc: Global, words: &[String], src: &mut CleanSource<'_>) -> 
     ensures read { result ≢ Status.ReadFault }
     ensures write { result ≢ Status.WriteFault }
     ensures words { command_of words.now ≡ None → result ≡ Status.NotYet }
-    ensures complete { (c : CommandData) (es : List EventData) → command_of words.now ≡ Some c → length src.old ≤ most_bytes → IsScript src.old es → AreBuilt (events_for c es) → (result ≡ Status.Done) ⊎ ((result ≡ Status.Refused) ⊎ (result ≡ Status.NoMemory)) }
-    ensures unread { (c : CommandData) → command_of words.now ≡ Some c → length src.old ≤ most_bytes → ((es : List EventData) → IsScript src.old es → ⊥) → (result ≡ Status.BadScript) ⊎ (result ≡ Status.NoMemory) }
+    ensures complete { (c : CommandData) (es : List EventData) → command_of words.now ≡ Some c
+        → length src.old ≤ most_bytes → IsScript src.old es → AreBuilt (events_for c es)
+        → (result ≡ Status.Done) ⊎ ((result ≡ Status.Refused) ⊎ (result ≡ Status.NoMemory)) }
+    ensures unread { (c : CommandData) → command_of words.now ≡ Some c
+        → length src.old ≤ most_bytes → ((es : List EventData) → IsScript src.old es → ⊥)
+        → (result ≡ Status.BadScript) ⊎ (result ≡ Status.NoMemory) }
     ensures too_long { result ≡ Status.TooLong → most_bytes < length src.old }
 {
     run(

@@ -7,6 +7,10 @@ ghost use Rattle.token_cli.specs.Headline.{AreCommits};
 
 /// The events of a script decide the outputs at each of its commits and the changes between them, and so the whole stream.
 pub fn one_stream()
-    ensures held { (es : List EventData) (held others : List Held) (deltas changes : List Delta) → AreCommits es held deltas → AreCommits es others changes → length held ≡ length others → held ≡ others }
-    ensures deltas { (es : List EventData) (held others : List Held) (deltas changes : List Delta) → AreCommits es held deltas → AreCommits es others changes → length held ≡ length others → deltas ≡ changes }
+    ensures held { (es : List EventData) (held others : List Held) (deltas changes : List Delta)
+        → AreCommits es held deltas → AreCommits es others changes → length held ≡ length others
+        → held ≡ others }
+    ensures deltas { (es : List EventData) (held others : List Held) (deltas changes : List Delta)
+        → AreCommits es held deltas → AreCommits es others changes → length held ≡ length others
+        → deltas ≡ changes }
 {}

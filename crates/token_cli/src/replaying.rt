@@ -41,7 +41,8 @@ fn whole<'s>(alloc: Global, events: &Events<'s>) -> Result<Events<'s>, NoMemory>
 
 // Writes the stream of the events, and says whether a refusal is held at its end.
 fn replay<K: Sink>(alloc: Global, events: &Events<'_>, out: &mut K) -> Result<bool, Stop>
-    ensures written { Writes result events.now (K.written out.old) (K.written out.new) (K.faults out.old) (K.faults out.new) }
+    ensures written { Writes result events.now (K.written out.old) (K.written out.new)
+        (K.faults out.old) (K.faults out.new) }
     ensures later { K.faults out.old ≤ K.faults out.new }
 {
     write_line(out, &Line::StreamHead)?;
@@ -66,7 +67,8 @@ pub fn write_stream<K: Sink>(
     events: &Events<'_>,
     out: &mut K,
 ) -> Result<bool, Stop>
-    ensures written { Writes result (events_for command events.now) (K.written out.old) (K.written out.new) (K.faults out.old) (K.faults out.new) }
+    ensures written { Writes result (events_for command events.now) (K.written out.old)
+        (K.written out.new) (K.faults out.old) (K.faults out.new) }
     ensures later { K.faults out.old ≤ K.faults out.new }
 {
     match command {

@@ -13,8 +13,10 @@ use tk_io::{Failed, Sink, write_all};
 
 // Says at which byte a script is refused.
 fn report_script<E: Sink>(err: &mut E, at: usize) -> Result<(), Failed>
-    ensures whole { OnOk result (Appends (E.written err.old) (E.written err.new) (codes "tokc: bad script at byte " ++ decimal at ++ codes "\n")) }
-    ensures part { OnErr result (AppendsPart (E.written err.old) (E.written err.new) (codes "tokc: bad script at byte " ++ decimal at ++ codes "\n")) }
+    ensures whole { OnOk result (Appends (E.written err.old) (E.written err.new)
+        (codes "tokc: bad script at byte " ++ decimal at ++ codes "\n")) }
+    ensures part { OnErr result (AppendsPart (E.written err.old) (E.written err.new)
+        (codes "tokc: bad script at byte " ++ decimal at ++ codes "\n")) }
     ensures cause { HasCause (E.faults err.old) (E.faults err.new) result }
 {
     let mut buffer = Buffer::new();
@@ -26,7 +28,8 @@ fn report_script<E: Sink>(err: &mut E, at: usize) -> Result<(), Failed>
 // Writes the text of a stop.
 fn write_text<E: Sink>(err: &mut E, stop: Stop) -> Result<(), Failed>
     ensures whole { OnOk result (Appends (E.written err.old) (E.written err.new) (stop_text stop)) }
-    ensures part { OnErr result (AppendsPart (E.written err.old) (E.written err.new) (stop_text stop)) }
+    ensures part { OnErr result (AppendsPart (E.written err.old) (E.written err.new)
+        (stop_text stop)) }
     ensures cause { HasCause (E.faults err.old) (E.faults err.new) result }
 {
     match stop {
@@ -41,7 +44,8 @@ fn write_text<E: Sink>(err: &mut E, stop: Stop) -> Result<(), Failed>
 
 /// Says on the error sink why a run stopped, if it did. Where a write fails, nothing else changes.
 pub fn report<E: Sink>(err: &mut E, ended: Result<bool, Stop>)
-    ensures { Reports (E.written err.old) (E.written err.new) (E.faults err.old) (E.faults err.new) (error_text (status_of ended) (place_of ended)) }
+    ensures { Reports (E.written err.old) (E.written err.new) (E.faults err.old) (E.faults err.new)
+        (error_text (status_of ended) (place_of ended)) }
 {
     if let Err(stop) = ended {
         let _ = write_text(err, stop);

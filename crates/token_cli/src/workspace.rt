@@ -31,9 +31,12 @@ pub struct Workspace<'s> {
 
 // Writes the records of the changes.
 fn write_changes<K: Sink>(out: &mut K, changes: &Changes<'_>) -> Result<(), Failed>
-    requires { (i : ℕ) → (change : Lined) → slice_get changes.now i ≡ Some change → change ≡ with_line change.0 }
-    ensures whole { OnOk result (Appends (K.written out.old) (K.written out.new) (records_of changes.now)) }
-    ensures part { OnErr result (AppendsPart (K.written out.old) (K.written out.new) (records_of changes.now)) }
+    requires { (i : ℕ) → (change : Lined) → slice_get changes.now i ≡ Some change
+        → change ≡ with_line change.0 }
+    ensures whole { OnOk result (Appends (K.written out.old)
+        (K.written out.new) (records_of changes.now)) }
+    ensures part { OnErr result (AppendsPart (K.written out.old)
+        (K.written out.new) (records_of changes.now)) }
     ensures cause { HasCause (K.faults out.old) (K.faults out.new) result }
 {
     for i in 0..changes.len() {
@@ -52,8 +55,10 @@ fn write_commit<K: Sink>(
     new: &Outputs,
     out: &mut K,
 ) -> Result<(), Stop>
-    ensures ok { OnOk result ((d : Delta) × IsDelta old.now new.now d × Appends (K.written out.old) (K.written out.new) (commit_text number d)) }
-    ensures err { IfErr result (λ stop. Cuts stop old.now new.now number (K.written out.old) (K.written out.new) (K.faults out.old) (K.faults out.new)) }
+    ensures ok { OnOk result ((d : Delta) × IsDelta old.now new.now d
+        × Appends (K.written out.old) (K.written out.new) (commit_text number d)) }
+    ensures err { IfErr result (λ stop. Cuts stop old.now new.now number (K.written out.old)
+        (K.written out.new) (K.faults out.old) (K.faults out.new)) }
     ensures later { K.faults out.old ≤ K.faults out.new }
 {
     let changes = delta(alloc, old, new)?;
@@ -77,8 +82,10 @@ impl<'s> Workspace<'s> {
     // Builds the files, and writes the commit with its changes.
     fn commit<K: Sink>(&mut self, alloc: Global, out: &mut K) -> Result<(), Stop>
         requires { self.now.commits < 2 ^ 64 - 1 }
-        ensures ok { OnOk result (Follows commit_event (state_of self.old) (state_of self.new) (K.written out.old) (K.written out.new)) }
-        ensures err { IfErr result (λ stop. Fails stop commit_event (state_of self.old) (K.written out.old) (K.written out.new) (K.faults out.old) (K.faults out.new)) }
+        ensures ok { OnOk result (Follows commit_event (state_of self.old) (state_of self.new)
+            (K.written out.old) (K.written out.new)) }
+        ensures err { IfErr result (λ stop. Fails stop commit_event (state_of self.old)
+            (K.written out.old) (K.written out.new) (K.faults out.old) (K.faults out.new)) }
         ensures later { K.faults out.old ≤ K.faults out.new }
     {
         let outputs = build_files(alloc, &self.files)?;
@@ -96,8 +103,10 @@ impl<'s> Workspace<'s> {
         out: &mut K,
     ) -> Result<(), Stop>
         requires { self.now.commits < 2 ^ 64 - 1 }
-        ensures ok { OnOk result (Follows (event_of event.now) (state_of self.old) (state_of self.new) (K.written out.old) (K.written out.new)) }
-        ensures err { IfErr result (λ stop. Fails stop (event_of event.now) (state_of self.old) (K.written out.old) (K.written out.new) (K.faults out.old) (K.faults out.new)) }
+        ensures ok { OnOk result (Follows (event_of event.now) (state_of self.old)
+            (state_of self.new) (K.written out.old) (K.written out.new)) }
+        ensures err { IfErr result (λ stop. Fails stop (event_of event.now) (state_of self.old)
+            (K.written out.old) (K.written out.new) (K.faults out.old) (K.faults out.new)) }
         ensures later { K.faults out.old ≤ K.faults out.new }
     {
         match event {

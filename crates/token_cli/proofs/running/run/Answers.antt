@@ -20,11 +20,11 @@ pub returns-clause-bad_script : goal.returns-clause-bad_script
 returns-clause-bad_script g c e =
     let r = c.main_job-ended.result in
     let (at, is) = is_bad r (sym c.status_of.ensures ∙ e) in
-    let (same, end, place) = c.main_job-ended.ensures.bad_script at is in
+    let (same, (end, place)) = c.main_job-ended.ensures.bad_script at is in
     let P : Status → ℕ → Type 0 = λ s n. Reports (g.E.Sink.written c.args.err.now) (g.E.Sink.written c.report.new.err) (g.E.Sink.faults c.args.err.now) (g.E.Sink.faults c.report.new.err) (error_text s n) in
     let Q : Status → Type 0 = λ s. P s at in
     let R : ℕ → Type 0 = λ n. P (status_of r) n in
-    (same, end, (at, place, subst Q (sym c.status_of.ensures) (subst R (ap place_of is) c.report.ensures)))
+    (same, (at, (end, place), subst Q (sym c.status_of.ensures) (subst R (ap place_of is) c.report.ensures)))
 
 pub returns-clause-complete : goal.returns-clause-complete
 returns-clause-complete g c command script es which told short reads built no_read no_write =
@@ -40,7 +40,7 @@ returns-clause-complete g c command script es which told short reads built no_re
     (λ e. no_write (h.write_fault e).0)
     (λ e. let long = taken 67108865 script left (g.S.Source.left c.main_job-ended.new.src) told (h.too_long e).0 in omega (arith, long, short))
     (λ e. let (held, deltas, commits, within, none, text) = of_events words left Until command script es which told reads (h.not_yet e).1 in built (length held) (omega (arith, within)) none)
-    (λ at e. (at_some script left (Bad at) told (h.bad_script at e).2).1.none es reads))
+    (λ at e. (at_some script left (Bad at) told (h.bad_script at e).1.1).1.none es reads))
 
 pub returns-clause-unbuilt : goal.returns-clause-unbuilt
 returns-clause-unbuilt g c command script es k which told short reads within none no_read no_write =
@@ -58,7 +58,7 @@ returns-clause-unbuilt g c command script es k which told short reads within non
     (λ e. no_read (h.read_fault e).0)
     (λ e. no_write (h.write_fault e).0)
     (λ e. let long = taken 67108865 script left (g.S.Source.left c.main_job-ended.new.src) told (h.too_long e).0 in omega (arith, long, short))
-    (λ at e. (at_some script left (Bad at) told (h.bad_script at e).2).1.none es reads))
+    (λ at e. (at_some script left (Bad at) told (h.bad_script at e).1.1).1.none es reads))
 
 pub returns-clause-unread : goal.returns-clause-unread
 returns-clause-unread g c command script which told short none no_read =
@@ -75,7 +75,7 @@ returns-clause-unread g c command script which told short none no_read =
     (not_read c.main_job-ended.result
     (λ refused e. let (some, (es, is, rest)) = of_script words left (Whole refused) command script which told (h.wrote refused e).1 in none es is)
     (λ e. no_read (h.read_fault e).0)
-    (λ e. let (some, (es, is, rest)) = of_script words left Front command script which told (h.write_fault e).2 in none es is)
+    (λ e. let (some, (es, is, rest)) = of_script words left Front command script which told (h.write_fault e).1.1 in none es is)
     (λ e. let long = taken 67108865 script left (g.S.Source.left c.main_job-ended.new.src) told (h.too_long e).0 in omega (arith, long, short))
     (λ e. let (some, (es, is, rest)) = of_script words left Until command script which told (h.not_yet e).1 in none es is))
 
@@ -95,9 +95,9 @@ returns-clause-endless g c command script which told long no_read =
     (too_many c.main_job-ended.result
     (λ refused e. let (short, rest) = of_script words left (Whole refused) command script which told (h.wrote refused e).1 in omega (arith, short, long))
     (λ e. no_read (h.read_fault e).0)
-    (λ e. let (short, rest) = of_script words left Front command script which told (h.write_fault e).2 in omega (arith, short, long))
+    (λ e. let (short, rest) = of_script words left Front command script which told (h.write_fault e).1.1 in omega (arith, short, long))
     (λ e. let (short, rest) = of_script words left Until command script which told (h.not_yet e).1 in omega (arith, short, long))
-    (λ at e. let short = (at_some script left (Bad at) told (h.bad_script at e).2).0 in omega (arith, short, long)))
+    (λ at e. let short = (at_some script left (Bad at) told (h.bad_script at e).1.1).0 in omega (arith, short, long)))
 
 pub returns-clause-all : goal.returns-clause-all
 returns-clause-all g c command script es before refused which told reads holds wrote =
@@ -114,5 +114,5 @@ returns-clause-all g c command script es before refused which told reads holds w
     let none : new ≡ old → ⊥ = λ same. none_or_whole events refused old new before holds same wrote in
     let part : OfScript words left Part → ⊥ = λ p. part_or_whole events refused old new before holds (of_events words left Part command script es which told reads p) wrote in
     let until : OfScript words left Until → ⊥ = λ p. let (held, deltas, commits, within, unbuilt, text) = of_events words left Until command script es which told reads p in not_whole events (length held) refused old new (omega (arith, within)) unbuilt wrote in
-    c.status_of.ensures ∙ (whole_said r refused (λ x e. one_end events x refused old new (of_events words left (Whole x) command script es which told reads (h.wrote x e).1) wrote) (no_stop r (λ e. until (h.not_yet e).1) (λ at e. none (h.bad_script at e).0) (λ e. none (h.read_fault e).1) (λ e. part (h.write_fault e).2) (λ e. elim (h.memory e) [ inl same ↦ none same | inr p ↦ part p.1 ]) (λ e. none (h.too_long e).1))
+    c.status_of.ensures ∙ (whole_said r refused (λ x e. one_end events x refused old new (of_events words left (Whole x) command script es which told reads (h.wrote x e).1) wrote) (no_stop r (λ e. until (h.not_yet e).1) (λ at e. none (h.bad_script at e).0) (λ e. none (h.read_fault e).1) (λ e. part (h.write_fault e).1.1) (λ e. elim (h.memory e) [ inl same ↦ none same | inr p ↦ part p.1 ]) (λ e. none (h.too_long e).1))
     ∙ said refused)
