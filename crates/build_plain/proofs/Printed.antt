@@ -1,5 +1,5 @@
 -- Which tokens have a line, and what their lines are.
-use Rattle.std.proofs.Common.{◌≡◌, inl, inr, ℕ, Bool, true, false, not, ◌&&◌, ◌==◌, List, [], ◌∷◌, ◌++◌, length, All, codes, refl, sym, ap, ◌∙◌, Option, Some, None, option_map, Ok, arith, append_assoc, subst, drop, get_or, ◌<◌, ◌+◌, map as map_list}
+use Rattle.std.proofs.Common.{◌≡◌, inl, inr, ℕ, Bool, true, false, not, ◌&&◌, ◌==◌, List, [], ◌∷◌, ◌++◌, length, All, codes, refl, sym, ap, ◌∙◌, Option, Some, None, option_map, Ok, arith, append_assoc, subst, drop, get_or, ◌<◌, ◌+◌}
 use Rattle.std.proofs.lemmas.Bool.Decides.{nat_tests}
 use Rattle.std.proofs.lemmas.List.{drop_more}
 use Rattle.std.proofs.lemmas.List.Elements.{All-from_recursion, recursion_from_All}
@@ -23,7 +23,7 @@ use Rattle.build_plain.specs.Pixels.{◌>>=◌, number_under, text_under, is_sho
 use Rattle.build_plain.specs.Sheet.{FlatData, css_line, line_of_token, lines_of, sheet_text}
 use Rattle.build_plain.specs.Laws.{IsPixels, IsPrintable, IsPrinted, HasLine}
 
-abbrev Token : Type 0
+abbrev pub Token : Type 0
 Token = List (List ℕ) × Flattened
 
 -- what steps that found something have found
@@ -218,8 +218,8 @@ a_line true new o h e = h
 a_line false new o h e = cc
 
 -- the tokens that are left begin with the one at the index
-pub next_token : {A : Type 0} (view : A → Token) (xs : List A) (i : ℕ) (x : A) → x ≡ get_or xs i x → i < length xs → map_list view (drop i xs) ≡ view x ∷ map_list view (drop (i + 1) xs)
-next_token view xs i x is lt = ap (map_list view) (drop_more xs i x lt ∙ ap (λ y. y ∷ drop (i + 1) xs) (sym is))
+pub next_token : (xs : List Token) (i : ℕ) (x : Token) → x ≡ get_or xs i x → i < length xs → drop i xs ≡ x ∷ drop (i + 1) xs
+next_token xs i x is lt = drop_more xs i x lt ∙ ap (λ y. y ∷ drop (i + 1) xs) (sym is)
 
 -- The lines of all tokens make the sheet.
 

@@ -1,6 +1,5 @@
 // The style sheet of a flat tree.
-ghost use Rattle.std.specs.Prelude.{◌≡◌, ◌++◌, Some, None, codes, cond, List, ℕ, IfOk, OnOk, flat_map, map, option_map};
-ghost use Rattle.group_inherit.specs.Flattening.{Flattened};
+ghost use Rattle.std.specs.Prelude.{◌≡◌, ◌++◌, Some, None, codes, cond, IfOk, OnOk, flat_map, option_map};
 ghost use Rattle.build_plain.specs.Sheet.{name_part, css_name, css_line, line_of_token, lines_of, sheet_text};
 
 use crate::pixels::{is_root, is_short_path, pixels_of};
@@ -42,13 +41,18 @@ fn append_line(out: &mut Bytes, path: &Path<'_>, number: &Dec) -> Result<(), NoM
 }
 
 // Appends the line of a token, and says whether it has one.
-fn append_token(out: &mut Bytes, path: &Path<'_>, token: &Entry<'_>) -> Result<bool, NoMemory>
+fn append_token(
+    alloc: Global,
+    out: &mut Bytes,
+    path: &Path<'_>,
+    token: &Entry<'_>,
+) -> Result<bool, NoMemory>
     ensures { IfOk result (λ fits. cond fits (Some out.new) None ≡ option_map (λ line. out.old ++ line) (line_of_token (path.now, token.now))) }
 {
     if !is_short_path(path) {
         return Ok(false);
     }
-    let Some(number) = pixels_of(token) else {
+    let Some(number) = pixels_of(alloc, token)? else {
         return Ok(false);
     };
     append_line(out, path, &number)?;
@@ -56,11 +60,15 @@ fn append_token(out: &mut Bytes, path: &Path<'_>, token: &Entry<'_>) -> Result<b
 }
 
 // Appends the lines of all tokens, and says whether each has one.
-fn append_tokens(out: &mut Bytes, tokens: &[(&Path<'_>, &Entry<'_>)]) -> Result<bool, NoMemory>
-    ensures { IfOk result (λ fit. cond fit (Some out.new) None ≡ option_map (λ lines. out.old ++ lines) (lines_of (map {B = List (List ℕ) × Flattened} (λ e. (e.0.now, e.1.now)) tokens.now))) }
+fn append_tokens(
+    alloc: Global,
+    out: &mut Bytes,
+    tokens: &[(Path<'_>, Entry<'_>)],
+) -> Result<bool, NoMemory>
+    ensures { IfOk result (λ fit. cond fit (Some out.new) None ≡ option_map (λ lines. out.old ++ lines) (lines_of tokens.now)) }
 {
-    for (path, token) in tokens {
-        if !append_token(out, path, token)? {
+    for token in tokens {
+        if !append_token(alloc, out, &token.0, &token.1)? {
             return Ok(false);
         }
     }
@@ -73,7 +81,7 @@ pub fn css(alloc: Global, flat: &Flat<'_>) -> Result<Option<Bytes>, NoMemory>
 {
     let mut out = Bytes::new(alloc);
     out.append(b":root {\n")?;
-    if !append_tokens(&mut out, flat.entries(alloc)?.as_slice())? {
+    if !append_tokens(alloc, &mut out, flat.as_slice())? {
         return Ok(None);
     }
     out.append(b"}\n")?;

@@ -45,7 +45,7 @@ fn append_mark(out: &mut Bytes, mark: &Mark<'_>) -> Result<(), NoMemory> {
 fn append_entry(out: &mut Bytes, path: &Path<'_>, entry: &Entry<'_>) -> Result<(), NoMemory> {
     print_path(path, out)?;
     out.append(b"=")?;
-    if let Some(number) = entry.def.value.value.as_number() {
+    if let Some(number) = entry.def.value.as_number() {
         out.append(number.as_bytes())?;
     }
     if let Some(kind) = entry.group_kind {

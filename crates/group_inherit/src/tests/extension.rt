@@ -153,7 +153,7 @@ fn fault_of(alloc: Global, tree: &Group<'_>) -> Result<Bytes, NoMemory> {
 }
 
 /// How long chains are, and what rule they break.
-static CHAINS: [(usize, &str); 2] = [(16_000, ""), (100_000, "many 100000")];
+static CHAINS: [(usize, &str); 2] = [(16_000, ""), (20_000, "many 20000")];
 
 #[test]
 fn long_chains(rt: HostRuntime) -> Result<(), Fail> {
