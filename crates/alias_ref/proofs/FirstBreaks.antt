@@ -1,0 +1,125 @@
+-- The first break in lists that are joined.
+use Rattle.std.proofs.Common.{◌≡◌, ℕ, zero, suc, ◌+◌, ◌-◌, ◌<◌, ◌≤◌, List, [], ◌∷◌, ◌++◌, Bool, true, false, cond, Option, Some, None, length, refl, sym, ap, ap₂, ◌∙◌, subst, append_assoc, append-nil, arith, length-append}
+use Rattle.std.specs.Prelude.{is_some, nat_le}
+use Rattle.name_path.specs.declared.place.Place.{Place}
+use Rattle.json_span.specs.PlainView.{Value, Entry}
+use Rattle.alias_ref.specs.Written.{Step, Container, Written, leaf, parts, refers, misspelled, Tokens, whole, part, is_reference, is_misspelled, is_written}
+use Rattle.alias_ref.specs.Visits.{Visit, visit, lost, Way, ends_at, no_end, joined, goes_on, then_go, since, same_place, go_if, steps_from, way_of, settled, settle_by, pass_written, unless_stands, pass_visits, visits_each, at_end, walk_written, walk_visits, Break, breaks, most_places, most_visits, break_if, own_break, or_else, first_break, walked, passed, walk_break}
+use Rattle.alias_ref.specs.declared.fault.RefRule.{RefRule}
+use Rattle.alias_ref.specs.declared.fault.RefRule.TheVariants as rule
+use Rattle.alias_ref.specs.inner.Seen.{Clean, IsFault}
+use Rattle.alias_ref.specs.declared.fault.RefFault.{RefFault}
+use Rattle.alias_ref.specs.declared.fault.RefFault.TheVariants as faults
+
+or_assoc : (a b c : Option Break) → or_else (or_else a b) c ≡ or_else a (or_else b c)
+or_assoc (Some x) b c = refl
+or_assoc None b c = refl
+
+pub or_none : (a b : Option Break) → or_else a b ≡ None → (a ≡ None) × (b ≡ None)
+or_none (Some x) b h = cc
+or_none None b h = (refl, h)
+
+module _ (T : Tokens) where
+  pub first-append : (n : ℕ) (xs ys : List Visit) → first_break T n (xs ++ ys) ≡ or_else (first_break T n xs) (first_break T (n + length xs) ys)
+  unfolding first_break
+  first-append n [] ys = let e : n ≡ n + length {A = Visit} [] = omega arith in ap (λ k. first_break T k ys) e
+  first-append n (x ∷ xs) ys =
+      let e : (n + 1) + length xs ≡ n + length (x ∷ xs) = omega arith in
+      ap (or_else (own_break T n x)) (first-append (n + 1) xs ys) ∙ sym (or_assoc (own_break T n x) (first_break T (n + 1) xs) (first_break T ((n + 1) + length xs) ys)) ∙ ap (λ k. or_else (or_else (own_break T n x) (first_break T (n + 1) xs)) (first_break T k ys)) e
+
+  pub clean_nil : (n : ℕ) → Clean T n n []
+  unfolding first_break
+  clean_nil n = record { unbroken = refl; counted = omega arith }
+
+  pub clean_entry : (n : ℕ) (e : Visit) → own_break T n e ≡ None → Clean T n (n + 1) (e ∷ [])
+  unfolding first_break
+  clean_entry n e h = record { unbroken = ap (λ o. or_else o None) h; counted = omega arith }
+
+  pub clean_append : {n m k : ℕ} (xs ys : List Visit) → Clean T n m xs → Clean T m k ys → Clean T n k (xs ++ ys)
+  clean_append {n} {m} {k} xs ys c d = record {
+    unbroken = first-append n xs ys ∙ ap₂ or_else c.unbroken (ap (λ j. first_break T j ys) (sym c.counted) ∙ d.unbroken);
+    counted = omega (arith, c.counted, d.counted, length-append xs ys);
+  }
+
+  breaks_later : {n m : ℕ} (xs ys : List Visit) (b : Break) → Clean T n m xs → first_break T m ys ≡ Some b → first_break T n (xs ++ ys) ≡ Some b
+  breaks_later {n} {m} xs ys b c h = first-append n xs ys ∙ ap₂ or_else c.unbroken (ap (λ j. first_break T j ys) (sym c.counted) ∙ h)
+
+  breaks_first : (n : ℕ) (xs ys : List Visit) (b : Break) → first_break T n xs ≡ Some b → first_break T n (xs ++ ys) ≡ Some b
+  breaks_first n xs ys b h = first-append n xs ys ∙ ap (λ o. or_else o (first_break T (n + length xs) ys)) h
+
+  pub fault_by : (f : RefFault) (a b : Option Break) → ((x : Break) → a ≡ Some x → b ≡ Some x) → IsFault f a → IsFault f b
+  fault_by (faults.Broken r p ring) a b go h = go (record { rule = r; place = p; ring = ring }) h
+  fault_by faults.NoMemory a b go h = tt
+
+  pub fault_later : (f : RefFault) {n m : ℕ} (xs ys : List Visit) → Clean T n m xs → IsFault f (first_break T m ys) → IsFault f (first_break T n (xs ++ ys))
+  fault_later f {n} {m} xs ys c h = fault_by f (first_break T m ys) (first_break T n (xs ++ ys)) (λ b e. breaks_later xs ys b c e) h
+
+  pub fault_first : (f : RefFault) (n : ℕ) (xs ys : List Visit) → IsFault f (first_break T n xs) → IsFault f (first_break T n (xs ++ ys))
+  fault_first f n xs ys h = fault_by f (first_break T n xs) (first_break T n (xs ++ ys)) (λ b e. breaks_first n xs ys b e) h
+
+  -- a list that begins with an entry that breaks
+  pub fault_own : (f : RefFault) (n : ℕ) (e : Visit) (es : List Visit) → IsFault f (own_break T n e) → IsFault f (first_break T n (e ∷ es))
+  unfolding first_break
+  fault_own f n e es h = fault_by f (own_break T n e) (first_break T n (e ∷ es)) (λ b k. ap (λ o. or_else o (first_break T (n + 1) es)) k) h
+
+  -- what an entry without a break says
+  pub record Enters (b : List Place) (p : Place) : Type 0 where
+    pub is_new : since p b ≡ None
+    pub room : length b < 256
+    pub spelled : is_misspelled (T p) ≡ false
+
+  enters_if : (b : List Place) (p : Place) (x y z : Bool) → nat_le most_places (length b) ≡ x → is_misspelled (T p) ≡ z → since p b ≡ None
+      → cond x (Some (breaks rule.Deep p)) (cond y (Some (breaks rule.Big p)) (cond z (Some (breaks rule.RefSyntax p)) None)) ≡ None → Enters b p
+  enters_if b p true y z e f g h = cc
+  enters_if b p false true z e f g h = cc
+  enters_if b p false false true e f g h = cc
+  enters_if b p false false false e f g h = let r : length b < 256 = grind (arith, e) in record { is_new = g; room = r; spelled = f }
+
+  enters_of : (n : ℕ) (b : List Place) (p : Place) (o : Option (List Place)) → since p b ≡ o → break_if T n b p o ≡ None → Enters b p
+  enters_of n b p (Some r) e h = cc
+  enters_of n b p None e h = enters_if b p (nat_le most_places (length b)) (nat_le most_visits n) (is_misspelled (T p)) refl refl e h
+
+  pub enters : (n : ℕ) (b : List Place) (p : Place) → own_break T n (visit b p) ≡ None → Enters b p
+  enters n b p h = enters_of n b p (since p b) refl h
+
+  less_room : (b : List Place) (p : Place) → length b < 256 → 256 - length b ≡ suc (256 - length (b ++ p ∷ []))
+  less_room b p h = omega (arith, length-append b (p ∷ []))
+
+  -- walking a place whose visit doesn't break
+  pub walked-enters : (b : List Place) (p : Place) (o : Option Written) → Enters b p → T p ≡ o
+      → walked T b p ≡ visit b p ∷ walk_written T (settle_by T (passed T (b ++ p ∷ []))) (walked T (b ++ p ∷ [])) p o
+  unfolding walked passed walk_visits
+  walked-enters b p o k e =
+      ap (λ n. walk_visits T n b p) (less_room b p k.room)
+      ∙ ap (λ x. visit b p ∷ cond (is_some x) [] (walk_written T (settle_by T (passed T (b ++ p ∷ []))) (walked T (b ++ p ∷ [])) p (T p))) k.is_new
+      ∙ ap (λ x. visit b p ∷ walk_written T (settle_by T (passed T (b ++ p ∷ []))) (walked T (b ++ p ∷ [])) p x) e
+
+  pub passed-enters : (b : List Place) (p : Place) (o : Option Written) → Enters b p → T p ≡ o
+      → passed T b p ≡ joined (visit b p ∷ []) (pass_written T (settle_by T (passed T (b ++ p ∷ []))) p o)
+  unfolding passed pass_visits
+  passed-enters b p o k e =
+      ap (λ n. pass_visits T n b p) (less_room b p k.room)
+      ∙ ap (λ x. joined (visit b p ∷ []) (unless_stands (is_some x) (pass_written T (settle_by T (passed T (b ++ p ∷ []))) p (T p)))) k.is_new
+      ∙ ap (λ x. joined (visit b p ∷ []) (pass_written T (settle_by T (passed T (b ++ p ∷ []))) p x)) e
+
+  pub walk_visits-begins : (n : ℕ) (b : List Place) (p : Place) → (es : List Visit) × (walk_visits T n b p ≡ visit b p ∷ es)
+  unfolding walk_visits
+  walk_visits-begins zero b p = ([], refl)
+  walk_visits-begins (suc n) b p = (_, refl)
+
+  pub pass_visits-begins : (n : ℕ) (b : List Place) (p : Place) → (es : List Visit) × ((pass_visits T n b p).seen ≡ visit b p ∷ es)
+  unfolding pass_visits
+  pass_visits-begins zero b p = ([], refl)
+  pass_visits-begins (suc n) b p = (_, refl)
+
+  pub walked-fault : (f : RefFault) (n : ℕ) (b : List Place) (p : Place) → IsFault f (own_break T n (visit b p)) → IsFault f (first_break T n (walked T b p))
+  unfolding walked
+  walked-fault f n b p h =
+      let k = walk_visits-begins (256 - length b) b p in
+      subst (λ es. IsFault f (first_break T n es)) (sym k.1) (fault_own f n (visit b p) k.0 h)
+
+  pub passed-fault : (f : RefFault) (n : ℕ) (b : List Place) (p : Place) → IsFault f (own_break T n (visit b p)) → IsFault f (first_break T n (passed T b p).seen)
+  unfolding passed
+  passed-fault f n b p h =
+      let k = pass_visits-begins (256 - length b) b p in
+      subst (λ es. IsFault f (first_break T n es)) (sym k.1) (fault_own f n (visit b p) k.0 h)

@@ -1,0 +1,146 @@
+-- What the turns of the walk add to the entries seen.
+use Rattle.std.proofs.Common.{◌≡◌, ℕ, zero, suc, ◌+◌, ◌-◌, ◌<◌, ◌≤◌, List, [], ◌∷◌, ◌++◌, Bool, true, false, cond, Option, Some, None, length, get_or, drop, refl, sym, ap, ap₂, ◌∙◌, subst, append_assoc, append-nil, add-one, arith, length-append, drop-cons}
+use Rattle.name_path.specs.declared.place.Place.{Place}
+use Rattle.json_span.specs.PlainView.{Value, Entry}
+use Rattle.alias_ref.specs.Written.{Step, Container, Written, leaf, parts, refers, misspelled, Tokens, whole, part, is_reference, is_misspelled, is_written}
+use Rattle.alias_ref.specs.Visits.{Visit, visit, lost, Way, ends_at, no_end, joined, goes_on, then_go, since, same_place, go_if, steps_from, way_of, settled, settle_by, pass_written, unless_stands, pass_visits, visits_each, at_end, walk_written, walk_visits, Break, breaks, most_places, most_visits, break_if, own_break, or_else, first_break, walked, passed, walk_break}
+use Rattle.alias_ref.specs.declared.fault.RefRule.{RefRule}
+use Rattle.alias_ref.specs.declared.fault.RefRule.TheVariants as rule
+use Rattle.std.specs.Prelude.{Result, Ok, Err}
+use Rattle.alias_ref.specs.inner.Seen.{Clean, IsFault, Sees}
+use Rattle.alias_ref.specs.declared.fault.RefFault.{RefFault}
+use Rattle.alias_ref.specs.declared.fault.RefFault.TheVariants as faults
+use Rattle.alias_ref.proofs.FirstBreaks.{clean_nil, clean_entry, clean_append, fault_later, fault_first, Enters, enters, walked-enters, passed-enters}
+
+pub goes_on-front : (xs : List Visit) (o : Option Place) (next : Place → Way) → (es : List Visit) × ((goes_on xs o next).seen ≡ xs ++ es)
+goes_on-front xs None next = ([], sym (append-nil xs))
+goes_on-front xs (Some q) next = ((next q).seen, refl)
+
+at_end-front : (xs : List Visit) (o : Option Place) (walk : Place → List Visit) → (es : List Visit) × (at_end xs o walk ≡ xs ++ es)
+at_end-front xs None walk = ([], sym (append-nil xs))
+at_end-front xs (Some q) walk = (walk q, refl)
+
+joined-joined : (xs ys : List Visit) (w : Way) → joined xs (joined ys w) ≡ joined (xs ++ ys) w
+joined-joined xs ys w = let make : List Visit → Way = λ es. record { seen = es; ends = w.ends } in ap make (sym (append_assoc xs ys w.seen))
+
+module _ (T : Tokens) where
+  lost_breaks : (n : ℕ) (p : Place) → first_break T n (lost p ∷ []) ≡ Some (breaks rule.RefTarget p)
+  unfolding first_break
+  lost_breaks n p = refl
+
+  breaks_behind : {n m : ℕ} (xs : List Visit) (p : Place) → Clean T n m xs → first_break T n (xs ++ lost p ∷ []) ≡ Some (breaks rule.RefTarget p)
+  breaks_behind {n} {m} xs p c = fault_later T (faults.Broken rule.RefTarget p []) xs (lost p ∷ []) c (lost_breaks m p)
+
+  -- the names of the ways of a reference
+  pub way_lost : (settle : Place → Way) (home : Place) (t : List Step) (steps : List Step) (n : ℕ) → is_written (T (whole t)) ≡ false → first_break T n (way_of T settle home t steps).seen ≡ Some (breaks rule.RefTarget home)
+  way_lost settle home t steps n h = ap (λ b. first_break T n (go_if b home (steps_from T settle home (whole t) steps)).seen) h ∙ lost_breaks n home
+
+  pub way_found : (settle : Place → Way) (home : Place) (t : List Step) (steps : List Step) → is_written (T (whole t)) ≡ true → way_of T settle home t steps ≡ steps_from T settle home (whole t) steps
+  way_found settle home t steps h = ap (λ b. go_if b home (steps_from T settle home (whole t) steps)) h
+
+  module _ (settle : Place → Way) (home : Place) where
+    steps_on : (p q : Place) (s : Step) (steps : List Step) (b : Bool) → (settle p).ends ≡ Some q → is_written (T (part q s)) ≡ b → steps_from T settle home p (s ∷ steps) ≡ joined (settle p).seen (go_if b home (steps_from T settle home (part q s) steps))
+    unfolding steps_from
+    steps_on p q s steps b e w =
+        let next : Place → Way = λ x. go_if (is_written (T (part x s))) home (steps_from T settle home (part x s) steps) in
+        ap (λ o. goes_on (settle p).seen o next) e ∙ ap (λ x. joined (settle p).seen (go_if x home (steps_from T settle home (part q s) steps))) w
+
+    steps_front : (p : Place) (s : Step) (steps : List Step) → (es : List Visit) × ((steps_from T settle home p (s ∷ steps)).seen ≡ (settle p).seen ++ es)
+    unfolding steps_from
+    steps_front p s steps = goes_on-front (settle p).seen (settle p).ends (λ x. go_if (is_written (T (part x s))) home (steps_from T settle home (part x s) steps))
+
+    steps_none : (p : Place) → steps_from T settle home p [] ≡ ends_at p
+    unfolding steps_from
+    steps_none p = refl
+
+    -- a turn of the loop over the steps
+    module _ (w : Way) (p : Place) (s : Step) (rest : List Step) {n m : ℕ} (es : List Visit) (clean : Clean T n m es) (so_far : joined es (steps_from T settle home p (s ∷ rest)) ≡ w) where
+      pub turn_fault : (f : RefFault) → IsFault f (first_break T m (settle p).seen) → IsFault f (first_break T n w.seen)
+      turn_fault f b =
+          let front = steps_front p s rest in
+          let k = fault_later T f es (steps_from T settle home p (s ∷ rest)).seen clean
+          (subst (λ xs. IsFault f (first_break T m xs)) (sym front.1) (fault_first T f m (settle p).seen front.0 b)) in
+          subst (λ x. IsFault f (first_break T n x.seen)) so_far k
+
+      pub turn_lost : (q : Place) {k : ℕ} → Clean T m k (settle p).seen → (settle p).ends ≡ Some q → is_written (T (part q s)) ≡ false → first_break T n w.seen ≡ Some (breaks rule.RefTarget home)
+      turn_lost q c e u =
+          let on = ap (joined es) (sym (steps_on p q s rest false e u)) ∙ so_far in
+          let all = joined-joined es (settle p).seen (record { seen = lost home ∷ []; ends = None }) in
+          ap (λ x. first_break T n x.seen) (sym on ∙ all) ∙ breaks_behind (es ++ (settle p).seen) home (clean_append T es (settle p).seen clean c)
+
+      pub turn_on : (q : Place) → (settle p).ends ≡ Some q → is_written (T (part q s)) ≡ true → joined (es ++ (settle p).seen) (steps_from T settle home (part q s) rest) ≡ w
+      turn_on q e u = sym (joined-joined es (settle p).seen (steps_from T settle home (part q s) rest)) ∙ ap (joined es) (sym (steps_on p q s rest true e u)) ∙ so_far
+
+    pub turns_done : (w : Way) (p : Place) (es : List Visit) → joined es (steps_from T settle home p []) ≡ w → w ≡ record { seen = es; ends = Some p }
+    turns_done w p es so_far =
+        let make : List Visit → Way = λ xs. record { seen = xs; ends = Some p } in
+        sym so_far ∙ ap (joined es) (steps_none p) ∙ ap make (append-nil es)
+
+  -- a visit that doesn't break, and what it asks for
+  module _ (n : ℕ) (b b' : List Place) (p : Place) (s : Written) {m : ℕ} (is : T p ≡ Some s) (own : own_break T n (visit b p) ≡ None) (more : b' ≡ b ++ p ∷ []) (one : m ≡ n + 1) where
+    entered : Clean T n m (visit b p ∷ [])
+    entered = subst (λ k. Clean T n k (visit b p ∷ [])) (sym one) (clean_entry T n (visit b p) own)
+
+    pass_is : passed T b p ≡ joined (visit b p ∷ []) (pass_written T (settle_by T (passed T b')) p (Some s))
+    pass_is = passed-enters T b p (Some s) (enters T n b p own) is ∙ ap (λ x. joined (visit b p ∷ []) (pass_written T (settle_by T (passed T x)) p (Some s))) (sym more)
+
+    walk_is : walked T b p ≡ visit b p ∷ walk_written T (settle_by T (passed T b')) (walked T b') p (Some s)
+    walk_is = walked-enters T b p (Some s) (enters T n b p own) is ∙ ap (λ x. visit b p ∷ walk_written T (settle_by T (passed T x)) (walked T x) p (Some s)) (sym more)
+
+    pub pass_fault : (f : RefFault) → IsFault f (first_break T m (pass_written T (settle_by T (passed T b')) p (Some s)).seen) → IsFault f (first_break T n (passed T b p).seen)
+    pass_fault f h = subst (λ w. IsFault f (first_break T n w.seen)) (sym pass_is) (fault_later T f (visit b p ∷ []) (pass_written T (settle_by T (passed T b')) p (Some s)).seen entered h)
+
+    pub pass_clean : {k : ℕ} → Clean T m k (pass_written T (settle_by T (passed T b')) p (Some s)).seen → Clean T n k (passed T b p).seen
+    pass_clean {k} h = subst (λ w. Clean T n k w.seen) (sym pass_is) (clean_append T (visit b p ∷ []) (pass_written T (settle_by T (passed T b')) p (Some s)).seen entered h)
+
+    pub pass_ends : (q : Place) → (pass_written T (settle_by T (passed T b')) p (Some s)).ends ≡ Some q → (passed T b p).ends ≡ Some q
+    pass_ends q h = ap (λ w. w.ends) pass_is ∙ h
+
+    pub walk_fault : (f : RefFault) → IsFault f (first_break T m (walk_written T (settle_by T (passed T b')) (walked T b') p (Some s))) → IsFault f (first_break T n (walked T b p))
+    walk_fault f h = subst (λ w. IsFault f (first_break T n w)) (sym walk_is) (fault_later T f (visit b p ∷ []) (walk_written T (settle_by T (passed T b')) (walked T b') p (Some s)) entered h)
+
+    pub walk_clean : {k : ℕ} → Clean T m k (walk_written T (settle_by T (passed T b')) (walked T b') p (Some s)) → Clean T n k (walked T b p)
+    walk_clean {k} h = subst (λ w. Clean T n k w) (sym walk_is) (clean_append T (visit b p ∷ []) (walk_written T (settle_by T (passed T b')) (walked T b') p (Some s)) entered h)
+
+  -- a reference, when it is passed
+  pub refers_fault : (f : RefFault) (n : ℕ) (settle : Place → Way) (p : Place) (t : List Step) (steps : List Step) → IsFault f (first_break T n (way_of T settle p t steps).seen) → IsFault f (first_break T n (pass_written T settle p (Some (refers t steps))).seen)
+  refers_fault f n settle p t steps h =
+      let w : Way = way_of T settle p t steps in
+      let k = goes_on-front w.seen w.ends settle in
+      subst (λ xs. IsFault f (first_break T n xs)) (sym k.1) (fault_first T f n w.seen k.0 h)
+
+  pub refers_on : (settle : Place → Way) (p q : Place) (t : List Step) (steps : List Step) → (way_of T settle p t steps).ends ≡ Some q → pass_written T settle p (Some (refers t steps)) ≡ joined (way_of T settle p t steps).seen (settle q)
+  refers_on settle p q t steps h = ap (λ o. goes_on (way_of T settle p t steps).seen o settle) h
+
+  pub refers_then_fault : (f : RefFault) {n m : ℕ} (settle : Place → Way) (p q : Place) (t : List Step) (steps : List Step) → (way_of T settle p t steps).ends ≡ Some q → Clean T n m (way_of T settle p t steps).seen → IsFault f (first_break T m (settle q).seen) → IsFault f (first_break T n (pass_written T settle p (Some (refers t steps))).seen)
+  refers_then_fault f {n} settle p q t steps e c h = subst (λ w. IsFault f (first_break T n w.seen)) (sym (refers_on settle p q t steps e)) (fault_later T f (way_of T settle p t steps).seen (settle q).seen c h)
+
+  pub refers_clean : {n m k : ℕ} (settle : Place → Way) (p q : Place) (t : List Step) (steps : List Step) → (way_of T settle p t steps).ends ≡ Some q → Clean T n m (way_of T settle p t steps).seen → Clean T m k (settle q).seen → Clean T n k (pass_written T settle p (Some (refers t steps))).seen
+  refers_clean {n} {m} {k} settle p q t steps e c d = subst (λ w. Clean T n k w.seen) (sym (refers_on settle p q t steps e)) (clean_append T (way_of T settle p t steps).seen (settle q).seen c d)
+
+  -- a reference, when it is walked
+  pub target_fault : (f : RefFault) (n : ℕ) (settle : Place → Way) (walk : Place → List Visit) (p : Place) (t : List Step) (steps : List Step) → IsFault f (first_break T n (way_of T settle p t steps).seen) → IsFault f (first_break T n (walk_written T settle walk p (Some (refers t steps))))
+  target_fault f n settle walk p t steps h =
+      let w : Way = way_of T settle p t steps in
+      let k = at_end-front w.seen w.ends walk in
+      subst (λ xs. IsFault f (first_break T n xs)) (sym k.1) (fault_first T f n w.seen k.0 h)
+
+  target_on : (settle : Place → Way) (walk : Place → List Visit) (p q : Place) (t : List Step) (steps : List Step) → (way_of T settle p t steps).ends ≡ Some q → walk_written T settle walk p (Some (refers t steps)) ≡ (way_of T settle p t steps).seen ++ walk q
+  target_on settle walk p q t steps h = ap (λ o. at_end (way_of T settle p t steps).seen o walk) h
+
+  pub target_then_fault : (f : RefFault) {n m : ℕ} (settle : Place → Way) (walk : Place → List Visit) (p q : Place) (t : List Step) (steps : List Step) → (way_of T settle p t steps).ends ≡ Some q → Clean T n m (way_of T settle p t steps).seen → IsFault f (first_break T m (walk q)) → IsFault f (first_break T n (walk_written T settle walk p (Some (refers t steps))))
+  target_then_fault f {n} settle walk p q t steps e c h = subst (λ w. IsFault f (first_break T n w)) (sym (target_on settle walk p q t steps e)) (fault_later T f (way_of T settle p t steps).seen (walk q) c h)
+
+  pub target_clean : {n m k : ℕ} (settle : Place → Way) (walk : Place → List Visit) (p q : Place) (t : List Step) (steps : List Step) → (way_of T settle p t steps).ends ≡ Some q → Clean T n m (way_of T settle p t steps).seen → Clean T m k (walk q) → Clean T n k (walk_written T settle walk p (Some (refers t steps)))
+  target_clean {n} {m} {k} settle walk p q t steps e c d = subst (λ w. Clean T n k w) (sym (target_on settle walk p q t steps e)) (clean_append T (way_of T settle p t steps).seen (walk q) c d)
+
+  pub settle_passes : (pass : Place → Way) (p : Place) → is_reference (T p) ≡ true → settle_by T pass p ≡ pass p
+  settle_passes pass p h = ap (λ b. settled b pass p) h
+
+  pub settle_stays : (pass : Place → Way) (p : Place) → is_reference (T p) ≡ false → settle_by T pass p ≡ ends_at p
+  settle_stays pass p h = ap (λ b. settled b pass p) h
+
+  -- what was seen of some entries tells what was seen of others
+  pub sees_by : {X : Type 0} {n m k : ℕ} (xs ys : List Visit) (r : Result X RefFault) → (Clean T m k xs → Clean T n k ys) → ((f : RefFault) → IsFault f (first_break T m xs) → IsFault f (first_break T n ys)) → Sees T xs m k r → Sees T ys n k r
+  sees_by xs ys (Ok x) c d h = c h
+  sees_by xs ys (Err f) c d h = d f h

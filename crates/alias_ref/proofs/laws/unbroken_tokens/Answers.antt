@@ -1,0 +1,15 @@
+use Rattle.alias_ref.specs.Written.{written_in}
+use Rattle.alias_ref.proofs.UnbrokenMeans.{unbroken_means}
+use Rattle.alias_ref.proofs.LinkDepths.{unbroken_depth}
+use Rattle.alias_ref.proofs.VisitsAreSound.{visits_sound}
+use Rattle.alias_ref.proofs.WrittenParts.{has_parts}
+use Rattle.alias_ref.proofs.laws.unbroken_tokens.Goals as goal
+
+pub returns-clause-meaning : goal.returns-clause-meaning
+returns-clause-meaning c = λ flat token w h. unbroken_means (written_in flat) (has_parts flat) token w h
+
+pub returns-clause-visits : goal.returns-clause-visits
+returns-clause-visits c = λ flat token w h b m p v. let k = visits_sound (written_in flat) (has_parts flat) token b m p w h v in record { is_new = k.0; room = k.1; spelling = k.2; target = k.3 }
+
+pub returns-clause-depth : goal.returns-clause-depth
+returns-clause-depth c = λ flat token w h. unbroken_depth (written_in flat) (has_parts flat) token w h

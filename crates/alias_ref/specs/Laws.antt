@@ -1,0 +1,121 @@
+-- What the definitions come to.
+use Rattle.std.specs.Prelude.{◌≡◌, ◌≢◌, ◌↔◌, ◌<◌, ℕ, List, [], length, true, false, Option, Some, None}
+use Rattle.std.specs.FinMap as flat_map
+use Rattle.tk_io.specs.Order.{names_cmp}
+use Rattle.ring.specs.Routes.{In}
+use Rattle.name_path.specs.Reference.{SpellsPath, SpellsPlace}
+use Rattle.name_path.specs.declared.kind.Kind.{Kind}
+use Rattle.name_path.specs.declared.link.Link.{Link}
+use Rattle.name_path.specs.declared.place.Place.{Place}
+use Rattle.json_span.specs.Tree.{Placed, tree_of}
+use Rattle.json_span.specs.Parts.{IsPart}
+use Rattle.json_span.specs.PlainView.{Value}
+use Rattle.token_tree.specs.Tree.{Definition}
+use Rattle.token_tree.specs.Promise.{IsDefinition}
+use Rattle.group_inherit.specs.Flattening.{Flattened}
+use Rattle.alias_ref.specs.References.{alias_named, place_named}
+use Rattle.alias_ref.specs.Written.{Step, refers, misspelled, Tokens, whole, is_reference, is_misspelled, is_written, Role, written_as, written_at, written_in}
+use Rattle.alias_ref.specs.Meaning.{Leads, Settles, Means}
+use Rattle.alias_ref.specs.Visits.{Break, breaks, most_places, walk_break}
+use Rattle.alias_ref.specs.Asking.{Manner, Lacks, IsRing, IsVisited}
+use Rattle.alias_ref.specs.Kinds.{Kinds, KindOf, LinksAt, IsLink, own_in, group_in}
+use Rattle.alias_ref.specs.PlainParts.{plain_at, Below}
+use Rattle.alias_ref.specs.Depth.{LinkDepth}
+use Rattle.alias_ref.specs.Refs.{refs_of}
+use Rattle.alias_ref.specs.Unchanged.{Unchanged, AreDefinitions}
+use Rattle.alias_ref.specs.declared.fault.RefRule.{RefRule}
+use Rattle.alias_ref.specs.declared.fault.RefRule.TheVariants as rule
+
+abbrev pub Flat : Type 0
+Flat = flat_map.FinMap names_cmp Flattened
+
+-- the readings of texts are those of aliases and pointers
+abbrev pub AliasesNamed : Type 0
+AliasesNamed = (text : List ℕ) (path : List Step) → (alias_named text ≡ Some path) ↔ SpellsPath text path
+
+abbrev pub PointersNamed : Type 0
+PointersNamed = (text : List ℕ) (place : Place) → (place_named text ≡ Some place) ↔ SpellsPlace text place
+
+-- a place has one lead, one end, one meaning, one kind and one list of links
+abbrev pub OneLead : Type 0
+OneLead = (T : Tokens) (p q r : Place) → Leads T p q → Leads T p r → q ≡ r
+
+abbrev pub OneEnd : Type 0
+OneEnd = (T : Tokens) (p q r : Place) → Settles T p q → Settles T p r → q ≡ r
+
+abbrev pub OneMeaning : Type 0
+OneMeaning = (T : Tokens) (p : Place) (v w : Value) → Means T p v → Means T p w → v ≡ w
+
+abbrev pub OneKind : Type 0
+OneKind = (T : Tokens) (own group : Kinds) (token : List Step) (k l : Option Kind) → KindOf T own group token k → KindOf T own group token l → k ≡ l
+
+abbrev pub OneLinks : Type 0
+OneLinks = (T : Tokens) (own group : Kinds) (p : Place) (ls ms : List Link) → LinksAt T own group p ls → LinksAt T own group p ms → ls ≡ ms
+
+-- a ring that is told of is one, from its first place on
+abbrev pub RingsAreReal : Type 0
+RingsAreReal = (T : Tokens) (token : List Step) (p : Place) (ring : List Place) → walk_break T token ≡ Some (record { rule = rule.Cycle; place = p; ring = ring }) → IsRing T ring
+
+-- what is told of a wrong spelling or of a lost target holds at the place that is told
+pub record IsTold (T : Tokens) (b : Break) : Type 0 where
+  pub syntax : b.rule ≡ rule.RefSyntax → T b.place ≡ Some misspelled
+  pub target : b.rule ≡ rule.RefTarget → (is_reference (T b.place) ≡ true) × ((q : Place) → Leads T b.place q → ⊥)
+
+abbrev pub BreaksAreReal : Type 0
+BreaksAreReal = (T : Tokens) (token : List Step) (b : Break) → walk_break T token ≡ Some b → IsTold T b
+
+-- a token without a break means something
+abbrev pub UnbrokenMeans : Type 0
+UnbrokenMeans = (flat : Flat) (token : List Step) → is_written (written_in flat (whole token)) ≡ true → walk_break (written_in flat) token ≡ None → (v : Value) × Means (written_in flat) (whole token) v
+
+-- .. and whatever its walk visits is new on its branch, stands behind few places, is spelled well, and leads somewhere where it is a reference: a token
+-- whose walk comes to a wrong spelling, to a lost target or back to a place on its branch has a break
+pub record IsSoundVisit (T : Tokens) (b : List Place) (p : Place) : Type 0 where
+  pub is_new : Lacks p b
+  pub room : length b < most_places
+  pub spelling : is_misspelled (T p) ≡ false
+  pub target : is_reference (T p) ≡ true → (q : Place) × Leads T p q
+
+abbrev pub UnbrokenIsSound : Type 0
+UnbrokenIsSound = (flat : Flat) (token : List Step) → is_written (written_in flat (whole token)) ≡ true → walk_break (written_in flat) token ≡ None
+    → (b : List Place) (m : Manner) (p : Place) → IsVisited (written_in flat) token b m p → IsSoundVisit (written_in flat) b p
+
+-- .. and has at most so many links one behind the other
+abbrev pub UnbrokenDepth : Type 0
+UnbrokenDepth = (flat : Flat) (token : List Step) → is_written (written_in flat (whole token)) ≡ true → walk_break (written_in flat) token ≡ None → LinkDepth (written_in flat) most_places (whole token)
+
+-- what is written at a trail of a place means what stands there in the place's meaning
+abbrev pub PartsMean : Type 0
+PartsMean = (flat : Flat) (p q : Place) (trail : List Step) (v : Value) → Below (written_in flat) p trail q → Means (written_in flat) p v → (w : Value) × (plain_at v trail ≡ Some w) × Means (written_in flat) q w
+
+-- each link is real, and each reference without steps among the parts of a place is one of its links
+abbrev pub LinksAreReal : Type 0
+LinksAreReal = (T : Tokens) (own group : Kinds) (p : Place) (ls : List Link) → LinksAt T own group p ls → (l : Link) → In l ls → IsLink T own group p.token l
+
+abbrev pub LinksAreAll : Type 0
+LinksAreAll = (T : Tokens) (own group : Kinds) (p q : Place) (trail target : List Step) (ls : List Link) → LinksAt T own group p ls → Below T p trail q → T q ≡ Some (refers target []) → (l : Link) × In l ls × (l.trail ≡ q.trail) × (l.target ≡ target)
+
+-- what is written in a token is decided by its source
+abbrev pub SourceDecides : Type 0
+SourceDecides = (d e : Definition) → IsDefinition d → IsDefinition e → d.source ≡ e.source → (trail : List Step) → written_at d trail ≡ written_at e trail
+
+abbrev pub RefsOfSource : Type 0
+RefsOfSource = (d e : Definition) → IsDefinition d → IsDefinition e → d.source ≡ e.source → refs_of d ≡ refs_of e
+
+-- each well-spelled reference that is written in a value names a token of its list
+abbrev pub WrittenAreListed : Type 0
+WrittenAreListed = (d : Definition) (trail token steps : List Step) → written_at d trail ≡ Some (refers token steps) → In token (refs_of d)
+
+-- .. and each token of the list is named by a well-spelled reference among the parts of the value
+abbrev pub ListedAreWritten : Type 0
+ListedAreWritten = (d : Definition) (token : List Step) → In token (refs_of d) → (role : Role) × (n : Placed) × (steps : List Step) × IsPart n d.value × (written_as role (tree_of n) ≡ refers token steps)
+
+-- Where no walk of references leads to a change, nothing changes.
+pub record AreAlike (old new : Flat) (token : List Step) : Type 0 where
+  pub broken : walk_break (written_in old) token ≡ walk_break (written_in new) token
+  pub meaning : (v : Value) → Means (written_in old) (whole token) v ↔ Means (written_in new) (whole token) v
+  pub kind : (k : Option Kind) → KindOf (written_in old) (own_in old) (group_in old) token k ↔ KindOf (written_in new) (own_in new) (group_in new) token k
+  pub links : (ls : List Link) → LinksAt (written_in old) (own_in old) (group_in old) (whole token) ls ↔ LinksAt (written_in new) (own_in new) (group_in new) (whole token) ls
+
+abbrev pub UnchangedIsAlike : Type 0
+UnchangedIsAlike = (old new : Flat) (token : List Step) → AreDefinitions old → AreDefinitions new → Unchanged old new token → AreAlike old new token

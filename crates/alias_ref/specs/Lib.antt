@@ -1,0 +1,13 @@
+pub mod References
+pub mod Written
+pub mod Meaning
+pub mod Visits
+pub mod Asking
+pub mod Kinds
+pub mod Refs
+pub mod Span
+pub mod Depth
+pub mod PlainParts
+pub mod Unchanged
+pub mod Laws
+pub mod inner

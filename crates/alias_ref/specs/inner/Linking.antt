@@ -1,0 +1,15 @@
+-- What a reference adds to the kind and to the links of the place where it stands.
+use Rattle.std.specs.Prelude.{List, [], ◌∷◌, Option, Some, None}
+use Rattle.name_path.specs.declared.kind.Kind.{Kind}
+use Rattle.name_path.specs.declared.link.Link.{Link}
+use Rattle.name_path.specs.declared.place.Place.{Place}
+use Rattle.alias_ref.specs.Written.{Step}
+
+-- the kind that a target lends, which it does without steps alone
+abbrev pub lent : Option Kind → List Step → Option Kind
+lent k [] = k
+lent k (s ∷ steps) = None
+
+abbrev pub link_here : Place → List Step → Option Kind → List Step → List Link
+link_here p token k [] = record { trail = p.trail; target = token; kind = k } ∷ []
+link_here p token k (s ∷ steps) = []

@@ -1,0 +1,29 @@
+-- What a walk found, against the visits of the definition.
+use Rattle.std.specs.Prelude.{◌≡◌, ℕ, ◌+◌, List, length, true, Option, Some, None, Result, Ok, Err, [], ◌∷◌}
+use Rattle.name_path.specs.declared.place.Place.{Place}
+use Rattle.alias_ref.specs.Written.{Step, Container, parts, Tokens, part, is_written}
+use Rattle.alias_ref.specs.Visits.{Visit, Break, first_break}
+use Rattle.alias_ref.specs.declared.fault.RefFault.{RefFault}
+use Rattle.alias_ref.specs.declared.fault.RefFault.TheVariants as faults
+
+-- no visit breaks, and m counts them behind the n before
+pub record Clean (T : Tokens) (n m : ℕ) (es : List Visit) : Type 0 where
+  pub unbroken : first_break T n es ≡ None
+  pub counted : m ≡ n + length es
+
+-- The fault is this break, unless memory ran out.
+abbrev pub IsFault : RefFault → Option Break → Type 0
+IsFault (faults.Broken r p ring) b = b ≡ Some (record { rule = r; place = p; ring = ring })
+IsFault faults.NoMemory b = Unit {0}
+
+abbrev pub Sees : {X : Type 0} → Tokens → List Visit → ℕ → ℕ → Result X RefFault → Type 0
+Sees T es n m (Ok x) = Clean T n m es
+Sees T es n m (Err f) = IsFault f (first_break T n es)
+
+abbrev pub AllWritten : Tokens → Place → List Step → Type 0
+AllWritten T p [] = Unit {0}
+AllWritten T p (s ∷ steps) = (is_written (T (part p s)) ≡ true) × AllWritten T p steps
+
+-- the parts of each written value are written
+abbrev pub HasParts : Tokens → Type 0
+HasParts T = (p : Place) (c : Container) (steps : List Step) → T p ≡ Some (parts c steps) → AllWritten T p steps

@@ -1,0 +1,62 @@
+//! Laws over the definitions alone, for the layers above.
+
+ghost use Rattle.alias_ref.specs.Laws.{AliasesNamed, PointersNamed, OneLead, OneEnd, OneMeaning, OneKind, OneLinks, RingsAreReal, BreaksAreReal, UnbrokenMeans, UnbrokenIsSound, UnbrokenDepth, PartsMean, LinksAreReal, LinksAreAll, SourceDecides, RefsOfSource, WrittenAreListed, ListedAreWritten, UnchangedIsAlike};
+
+/// The readings of texts are exact: an alias names the path that its text spells, and a pointer the place.
+pub fn references_named()
+    ensures aliases { AliasesNamed }
+    ensures pointers { PointersNamed }
+{}
+
+/// A place has one lead, one end of the references from it, one meaning, and one list of links; a token has one kind.
+pub fn one_meaning()
+    ensures lead { OneLead }
+    ensures end { OneEnd }
+    ensures meaning { OneMeaning }
+    ensures kind { OneKind }
+    ensures links { OneLinks }
+{}
+
+/// What is told of a break holds: a ring is one, a wrong spelling stands where it is told, and a reference whose target is
+/// lost leads nowhere.
+pub fn breaks_are_real()
+    ensures ring { RingsAreReal }
+    ensures told { BreaksAreReal }
+{}
+
+/// A token without a break means something; whatever its walk visits is new on its branch, spelled well, and leads
+/// somewhere where it is a reference; and at most 256 links stand one behind the other in it.
+pub fn unbroken_tokens()
+    ensures meaning { UnbrokenMeans }
+    ensures visits { UnbrokenIsSound }
+    ensures depth { UnbrokenDepth }
+{}
+
+/// What is written at a trail of a place means what stands at that trail of the place's meaning.
+pub fn parts_mean()
+    ensures { PartsMean }
+{}
+
+/// The links of a place are the references without steps that are written in it, neither more nor less.
+pub fn links_are_real()
+    ensures real { LinksAreReal }
+    ensures all { LinksAreAll }
+{}
+
+/// What is written in a token is decided by its source: not by its file or its offsets.
+pub fn source_decides()
+    ensures written { SourceDecides }
+    ensures refs { RefsOfSource }
+{}
+
+/// The tokens that a value names are those of the references that are written in it.
+pub fn refs_are_written()
+    ensures written { WrittenAreListed }
+    ensures listed { ListedAreWritten }
+{}
+
+/// Where no walk of references leads from a token to a path whose raw entry differs, two flat trees have the same break,
+/// meaning, kind and links of it, wherever their spans stand.
+pub fn unchanged_is_alike()
+    ensures { UnchangedIsAlike }
+{}
