@@ -1,15 +1,12 @@
 -- The branch of each visit is a chain of different places.
-use Rattle.std.proofs.Common.{◌≡◌, ℕ, zero, suc, List, [], ◌∷◌, ◌++◌, Bool, true, false, cond, Option, Some, None, refl, sym, ap, ◌∙◌, subst, append_assoc, inl, inr}
+use Rattle.std.proofs.Common.{◌≡◌, ℕ, zero, suc, List, [], ◌∷◌, ◌++◌, Bool, true, false, cond, Option, Some, None, refl, sym, ◌∙◌, subst, append_assoc, inl, inr}
 use Rattle.std.specs.Prelude.{is_some, ◌⊎◌}
 use Rattle.name_path.specs.declared.place.Place.{Place}
-use Rattle.json_span.specs.PlainView.{Value, Entry}
-use Rattle.alias_ref.specs.Written.{Step, Container, Written, leaf, parts, refers, misspelled, Tokens, whole, part, is_reference, is_misspelled, is_written}
-use Rattle.alias_ref.specs.Meaning.{Leads, leads, Goes, arrived, onward, Settles, stays, follows, put_together, Means, means_leaf, means_parts, means_target, EachMeans, none_left, one_more}
-use Rattle.alias_ref.specs.Visits.{Visit, visit, lost, Way, ends_at, no_end, joined, goes_on, then_go, since, same_place, go_if, steps_from, way_of, settled, settle_by, pass_written, unless_stands, pass_visits, visits_each, at_end, walk_written, walk_visits, Break, breaks, most_places, most_visits, break_if, own_break, or_else, first_break, walked, passed, walk_break}
-use Rattle.alias_ref.specs.declared.fault.RefRule.{RefRule}
-use Rattle.alias_ref.specs.declared.fault.RefRule.TheVariants as rule
-use Rattle.alias_ref.specs.Asking.{Manner, walked as walking, passed as passing, AsksFor, for_part, for_step, for_target, Asks, Chain, starts, links_last, links, Lacks, lacks_none, lacks, Differ, differ_none, differ, IsRing, ring}
-use Rattle.alias_ref.proofs.WaysSettle.{DoSettle, way_of-leads, steps_from-goes, settle_by-settles, pass_visits-settles, go_if_ends}
+use Rattle.alias_ref.specs.Written.{Step, Container, Written, leaf, parts, refers, misspelled, Tokens, whole, part, is_reference, is_written}
+use Rattle.alias_ref.specs.Meaning.{Goes, arrived, onward, Settles}
+use Rattle.alias_ref.specs.Visits.{Visit, visit, lost, Way, goes_on, since, same_place, go_if, steps_from, way_of, settled, settle_by, pass_written, unless_stands, pass_visits, visits_each, at_end, walk_written, walk_visits}
+use Rattle.alias_ref.specs.Asking.{walked as walking, passed as passing, for_part, for_step, for_target, Asks, Chain, starts, links_last, links, Lacks, lacks_none, lacks, Differ, differ_none, differ, IsRing, ring}
+use Rattle.alias_ref.proofs.WaysSettle.{DoSettle, way_of-leads, settle_by-settles, pass_visits-settles}
 use Rattle.alias_ref.proofs.SamePlaces.{same_place-is, place_same}
 
 abbrev pub Each : (Visit → Type 0) → List Visit → Type 0

@@ -1,11 +1,9 @@
 -- The first break in lists that are joined.
-use Rattle.std.proofs.Common.{◌≡◌, ℕ, zero, suc, ◌+◌, ◌-◌, ◌<◌, ◌≤◌, List, [], ◌∷◌, ◌++◌, Bool, true, false, cond, Option, Some, None, length, refl, sym, ap, ap₂, ◌∙◌, subst, append_assoc, append-nil, arith, length-append}
+use Rattle.std.proofs.Common.{◌≡◌, ℕ, zero, suc, ◌+◌, ◌-◌, ◌<◌, List, [], ◌∷◌, ◌++◌, Bool, true, false, cond, Option, Some, None, length, refl, sym, ap, ap₂, ◌∙◌, subst, arith, length-append}
 use Rattle.std.specs.Prelude.{is_some, nat_le}
 use Rattle.name_path.specs.declared.place.Place.{Place}
-use Rattle.json_span.specs.PlainView.{Value, Entry}
-use Rattle.alias_ref.specs.Written.{Step, Container, Written, leaf, parts, refers, misspelled, Tokens, whole, part, is_reference, is_misspelled, is_written}
-use Rattle.alias_ref.specs.Visits.{Visit, visit, lost, Way, ends_at, no_end, joined, goes_on, then_go, since, same_place, go_if, steps_from, way_of, settled, settle_by, pass_written, unless_stands, pass_visits, visits_each, at_end, walk_written, walk_visits, Break, breaks, most_places, most_visits, break_if, own_break, or_else, first_break, walked, passed, walk_break}
-use Rattle.alias_ref.specs.declared.fault.RefRule.{RefRule}
+use Rattle.alias_ref.specs.Written.{Written, Tokens, is_misspelled}
+use Rattle.alias_ref.specs.Visits.{Visit, visit, joined, since, settle_by, pass_written, unless_stands, pass_visits, walk_written, walk_visits, Break, breaks, most_places, most_visits, break_if, own_break, or_else, first_break, walked, passed}
 use Rattle.alias_ref.specs.declared.fault.RefRule.TheVariants as rule
 use Rattle.alias_ref.specs.inner.Seen.{Clean, IsFault}
 use Rattle.alias_ref.specs.declared.fault.RefFault.{RefFault}

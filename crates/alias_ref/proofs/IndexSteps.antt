@@ -1,10 +1,10 @@
 -- No index is spelled `$ref`.
-use Rattle.std.proofs.Common.{◌≡◌, ℕ, zero, suc, ◌+◌, ◌<◌, ◌/◌, ◌%◌, ◌==◌, List, [], ◌∷◌, Bool, true, false, cond, sym, ap, ◌∙◌, refl, arith, codes}
+use Rattle.std.proofs.Common.{◌≡◌, ℕ, zero, suc, ◌+◌, ◌<◌, ◌/◌, ◌%◌, ◌==◌, List, [], ◌∷◌, Bool, true, false, cond, ap, refl, arith, codes}
 use Rattle.std.specs.Prelude.{nat_lt}
 use Rattle.std.specs.Fmt.{decimal, digits, digits_onto, digit_glyph}
 use Rattle.std.specs.Str.{bytes_eq}
 use Rattle.token_tree.proofs.Names.{same_text}
-use Rattle.alias_ref.specs.Written.{Step, of_value, of_ref, role_behind}
+use Rattle.alias_ref.specs.Written.{of_value, of_ref, role_behind}
 
 -- no text of digits begins with '$'
 abbrev Above : List ℕ → Type 0

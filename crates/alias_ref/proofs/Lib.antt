@@ -20,3 +20,15 @@ pub mod PartsMean
 pub mod LinksAreReal
 pub mod BreaksAreReal
 pub mod VisitsAreSound
+pub mod ContentsOfValues
+pub mod HandlesInTurn
+pub mod IndexedItems
+pub mod SoundValues
+pub mod SpotsStand
+pub mod PartsInTurn
+pub mod TracesGrow
+pub mod Weights
+pub mod RefsInTurn
+pub mod SpansInTurn
+pub mod AnswersAreOne
+pub mod PlainViews

@@ -1,12 +1,9 @@
 -- A walk without a break has at most 256 links one behind the other.
-use Rattle.std.proofs.Common.{◌≡◌, ℕ, zero, suc, ◌+◌, ◌-◌, List, [], ◌∷◌, ◌++◌, Bool, true, false, cond, Option, Some, None, length, refl, sym, ap, ◌∙◌, subst, arith}
+use Rattle.std.proofs.Common.{◌≡◌, ℕ, zero, suc, ◌+◌, ◌-◌, List, [], ◌∷◌, ◌++◌, true, false, cond, Option, Some, None, length, refl, subst, arith}
 use Rattle.std.specs.Prelude.{is_some}
 use Rattle.name_path.specs.declared.place.Place.{Place}
-use Rattle.json_span.specs.PlainView.{Value, Entry}
-use Rattle.alias_ref.specs.Written.{Step, Container, Written, leaf, parts, refers, misspelled, Tokens, whole, part, is_reference, is_misspelled, is_written}
-use Rattle.alias_ref.specs.Visits.{Visit, visit, lost, Way, ends_at, no_end, joined, goes_on, then_go, since, same_place, go_if, steps_from, way_of, settled, settle_by, pass_written, unless_stands, pass_visits, visits_each, at_end, walk_written, walk_visits, Break, breaks, most_places, most_visits, break_if, own_break, or_else, first_break, walked, passed, walk_break}
-use Rattle.alias_ref.specs.declared.fault.RefRule.{RefRule}
-use Rattle.alias_ref.specs.declared.fault.RefRule.TheVariants as rule
+use Rattle.alias_ref.specs.Written.{Step, Written, leaf, parts, refers, misspelled, Tokens, whole, part, is_misspelled, is_written}
+use Rattle.alias_ref.specs.Visits.{Visit, visit, Way, since, way_of, settle_by, pass_visits, visits_each, walk_written, walk_visits, walked, walk_break}
 use Rattle.alias_ref.specs.inner.Seen.{Clean, HasParts, AllWritten}
 use Rattle.alias_ref.specs.Depth.{LinkDepth, depth_leaf, depth_steps, depth_link, depth_parts, EachDepth, depth_none, depth_more}
 use Rattle.alias_ref.proofs.FirstBreaks.{enters}

@@ -1,12 +1,10 @@
 -- The links of a place are its references without steps.
-use Rattle.std.proofs.Common.{◌≡◌, ℕ, List, [], ◌∷◌, ◌++◌, Option, Some, None, inl, inr, refl, sym, ap, ap₂, ◌∙◌, subst}
-use Rattle.std.specs.Prelude.{◌⊎◌}
+use Rattle.std.proofs.Common.{◌≡◌, List, [], ◌∷◌, Some, inl, inr, refl, sym, ◌∙◌, subst}
 use Rattle.ring.specs.Routes.{In}
-use Rattle.name_path.specs.declared.kind.Kind.{Kind}
 use Rattle.name_path.specs.declared.link.Link.{Link}
 use Rattle.name_path.specs.declared.place.Place.{Place}
-use Rattle.alias_ref.specs.Written.{Step, Container, Written, parts, refers, Tokens, part}
-use Rattle.alias_ref.specs.Kinds.{Kinds, KindOf, LinksAt, links_leaf, links_steps, links_one, links_parts, LinksEach, each_done, each_more, IsLink}
+use Rattle.alias_ref.specs.Written.{Step, refers, Tokens, part}
+use Rattle.alias_ref.specs.Kinds.{Kinds, LinksAt, links_leaf, links_steps, links_one, links_parts, LinksEach, each_done, each_more, IsLink}
 use Rattle.alias_ref.specs.PlainParts.{Below, below_here, below_part}
 use Rattle.alias_ref.proofs.RefsAreWritten.{In-left, In-right, In-either}
 

@@ -3,15 +3,14 @@ use Rattle.std.proofs.Common.{◌≡◌, ℕ, ◌+◌, List, [], ◌∷◌, ◌+
 use Rattle.std.specs.Prelude.{option_and_then}
 use Rattle.std.specs.Fmt.{decimal}
 use Rattle.std.specs.Str.{bytes_eq}
-use Rattle.name_path.specs.declared.kind.Kind.{Kind}
 use Rattle.name_path.specs.declared.place.Place.{Place}
 use Rattle.json_span.specs.Tree.{Tree, a_null, a_boolean, a_number, a_string, an_array, an_object, Placed, placed, Elements, no_elements, element, Members, no_members, member, Entry, tree_of, elements_in, entries_in}
 use Rattle.json_span.specs.Parts.{moved, moved_tree, moved_elements, moved_members}
 use Rattle.json_span.proofs.Unique.{shows_one}
 use Rattle.json_span.specs.Reading.{Shows}
 use Rattle.token_tree.specs.Tree.{Definition}
-use Rattle.token_tree.specs.Shape.{entries_at, has, kind_of, value_of, def_of}
-use Rattle.token_tree.specs.Promise.{IsDefinition, moved_def}
+use Rattle.token_tree.specs.Shape.{entries_at, has, kind_of, value_of}
+use Rattle.token_tree.specs.Promise.{IsDefinition}
 use Rattle.token_tree.proofs.Moved.{moved_entry, moved_tree_of, entries_at_moved, has_moved}
 use Rattle.alias_ref.specs.Written.{Step, array, object, Written, parts, Parts, numbered, named, parts_of, steps_of, part_under, part_at, value_at, Role, of_value, spelled, pointed, object_pointed, object_written, written_as, role_behind, role_at, written_at}
 use Rattle.alias_ref.specs.Refs.{named_by, refs_in, refs_at, refs_in_items, refs_in_members, refs_of}

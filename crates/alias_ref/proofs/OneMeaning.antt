@@ -1,8 +1,8 @@
 -- A place has at most one lead, one end and one meaning.
-use Rattle.std.proofs.Common.{◌≡◌, ℕ, List, [], ◌∷◌, true, false, Some, refl, sym, ap, ap₂, ◌∙◌, subst}
+use Rattle.std.proofs.Common.{◌≡◌, List, ◌∷◌, true, false, Some, refl, sym, ap, ap₂, ◌∙◌, subst}
 use Rattle.name_path.specs.declared.place.Place.{Place}
 use Rattle.json_span.specs.PlainView.{Value, Entry}
-use Rattle.alias_ref.specs.Written.{Step, Container, Written, leaf, parts, refers, misspelled, Tokens, whole, part, is_reference, is_misspelled, is_written}
+use Rattle.alias_ref.specs.Written.{Step, Container, leaf, parts, refers, Tokens, whole, part, is_reference}
 use Rattle.alias_ref.specs.Meaning.{Leads, leads, Goes, arrived, onward, Settles, stays, follows, put_together, Means, means_leaf, means_parts, means_target, EachMeans, none_left, one_more}
 
 module _ (T : Tokens) where

@@ -1,20 +1,18 @@
 -- What is written at a trail of a place means what stands at the trail of the place's meaning.
-use Rattle.std.proofs.Common.{◌≡◌, ℕ, ◌+◌, List, [], ◌∷◌, ◌++◌, Bool, true, false, cond, Option, Some, None, inl, inr, refl, sym, ap, ap₂, ◌∙◌, subst, map, codes, option_map}
+use Rattle.std.proofs.Common.{◌≡◌, ℕ, ◌+◌, List, [], ◌∷◌, Bool, true, false, cond, Some, inl, inr, refl, sym, ap, ◌∙◌, subst, map, codes}
 use Rattle.std.specs.Prelude.{option_and_then, ◌⊎◌}
-use Rattle.std.specs.FinMap as flat_map
 use Rattle.std.specs.Fmt.{decimal}
 use Rattle.std.specs.Str.{bytes_eq}
-use Rattle.tk_io.specs.Order.{names_cmp}
 use Rattle.ring.specs.Routes.{In}
 use Rattle.name_path.specs.declared.place.Place.{Place}
 use Rattle.json_span.specs.Tree.{Tree, a_null, a_boolean, a_number, a_string, an_array, an_object, Placed, tree_of, elements_in, entries_in}
 use Rattle.json_span.specs.Tree.{Entry as Member}
-use Rattle.json_span.specs.Plain.{plain_array, plain_object, plains_of, plain_members_of, plains_in, plain_entries_in}
+use Rattle.json_span.specs.Plain.{plains_of, plain_members_of, plains_in, plain_entries_in}
 use Rattle.json_span.specs.PlainView.{Value, Entry}
 use Rattle.token_tree.proofs.Names.{same_text, text_same}
 use Rattle.token_tree.specs.Shape.{has}
-use Rattle.alias_ref.specs.Written.{Step, Container, array, object, Written, leaf, parts, refers, misspelled, Tokens, part, is_reference, numbered, named, steps_of, Role, spelled, object_pointed, object_written, written_as, role_at, written_in}
-use Rattle.alias_ref.specs.Meaning.{Leads, put_together, Means, means_leaf, means_parts, means_target, EachMeans, none_left, one_more}
+use Rattle.alias_ref.specs.Written.{Step, Container, array, object, parts, Tokens, part, numbered, named, steps_of, Role, spelled, object_pointed, written_as, role_at, written_in}
+use Rattle.alias_ref.specs.Meaning.{put_together, Means, means_leaf, means_parts, means_target, EachMeans, none_left, one_more}
 use Rattle.alias_ref.specs.PlainParts.{plain_numbered, plain_parts, plain_under, plain_at, Below, below_here, below_part}
 use Rattle.alias_ref.specs.Laws.{Flat}
 use Rattle.alias_ref.proofs.OneMeaning.{parts_or_lead}

@@ -1,11 +1,11 @@
 -- The readings of aliases and pointers are exact: the path or place is the one that the text spells.
-use Rattle.std.proofs.Common.{◌≡◌, ◌≢◌, ℕ, ◌+◌, ◌-◌, Bool, true, false, ◌&&◌, ◌||◌, List, [], ◌∷◌, ◌++◌, length, length-append, take, Option, Some, None, ◌⊎◌, inl, inr, refl, sym, ap, ◌∙◌, subst, arith, cond, All, ◌==◌}
+use Rattle.std.proofs.Common.{◌≡◌, ◌≢◌, ℕ, ◌+◌, Bool, true, false, ◌&&◌, ◌||◌, List, [], ◌∷◌, ◌++◌, length, length-append, take, Option, Some, None, ◌⊎◌, inl, inr, refl, sym, ap, ◌∙◌, subst, arith, cond, ◌==◌}
 use Rattle.std.specs.List.{slice_split}
 use Rattle.std.specs.Str.{bytes_eq}
 use Rattle.std.proofs.lemmas.List.Elements.{All-nil, All-cons, All-head, All-tail}
 use Rattle.name_path.specs.Names.{IsName, AreNames, IsTokenPath, root_name}
-use Rattle.name_path.specs.Pieces.{ArePlain, LacksStep, IsCut}
-use Rattle.name_path.specs.Reference.{pointer_text, path_text, curly_text, place_text, value_step, SpellsPath, SpellsPlace}
+use Rattle.name_path.specs.Pieces.{ArePlain, IsCut}
+use Rattle.name_path.specs.Reference.{pointer_text, path_text, curly_text, value_step, SpellsPath, SpellsPlace}
 use Rattle.name_path.specs.declared.place.Place.{Place}
 use Rattle.name_path.proofs.Joins.{pieces_of}
 use Rattle.name_path.proofs.Spellings.{token_plain, one_place, place_found, no_place}

@@ -1,5 +1,5 @@
 -- The tokens that a value names are those of the references that are written in it.
-use Rattle.std.proofs.Common.{◌≡◌, ℕ, ◌+◌, List, [], ◌∷◌, ◌++◌, Bool, true, false, cond, Option, Some, None, inl, inr, refl, sym, ap, ◌∙◌, subst, codes, option_map}
+use Rattle.std.proofs.Common.{◌≡◌, ℕ, ◌+◌, List, [], ◌∷◌, ◌++◌, Bool, true, false, cond, Option, Some, None, inl, inr, refl, sym, ap, ◌∙◌, subst, option_map}
 use Rattle.std.specs.Prelude.{option_and_then, ◌⊎◌}
 use Rattle.std.specs.FinMap as flat_map
 use Rattle.std.specs.Fmt.{decimal}
@@ -7,16 +7,14 @@ use Rattle.std.specs.Str.{bytes_eq}
 use Rattle.tk_io.specs.Order.{names_cmp}
 use Rattle.ring.specs.Routes.{In}
 use Rattle.name_path.specs.declared.place.Place.{Place}
-use Rattle.json_span.specs.Tree.{Tree, a_null, a_boolean, a_number, a_string, an_array, an_object, Placed, placed, Elements, no_elements, element, Members, no_members, member, Entry, tree_of, elements_in, entries_in}
-use Rattle.json_span.specs.Parts.{IsPart, itself, inside, IsIn, in_array, in_object, IsElement, this_element, later_element, IsMember, this_member, later_member}
+use Rattle.json_span.specs.Tree.{Tree, a_null, a_boolean, a_number, a_string, an_array, an_object, Placed, placed, Elements, no_elements, element, Members, no_members, member, tree_of, elements_in, entries_in}
+use Rattle.json_span.specs.Parts.{IsPart, itself, inside, in_array, in_object, IsElement, this_element, later_element, IsMember, this_member, later_member}
 use Rattle.token_tree.specs.Tree.{Definition}
-use Rattle.token_tree.specs.Shape.{has}
 use Rattle.token_tree.proofs.Names.{same_text}
 use Rattle.group_inherit.specs.Flattening.{Flattened}
-use Rattle.alias_ref.specs.Written.{Step, array, object, Written, leaf, parts, refers, misspelled, Parts, numbered, named, parts_of, steps_of, part_under, part_at, value_at, Role, of_value, of_ref, of_token, text_written, object_written, written_as, role_behind, role_at_end, role_at, written_at, written_in}
+use Rattle.alias_ref.specs.Written.{Step, Written, leaf, parts, refers, misspelled, numbered, named, parts_of, part_under, part_at, value_at, Role, of_value, text_written, object_written, written_as, role_behind, role_at_end, role_at, written_at, written_in}
 use Rattle.alias_ref.specs.Refs.{named_by, refs_in, refs_at, refs_in_items, refs_in_members, refs_of}
 use Rattle.alias_ref.proofs.IndexSteps.{index_role}
-use Rattle.alias_ref.proofs.WrittenParts.{Stands, written_is}
 
 pub In-left : {A : Type 0} (u : A) (xs ys : List A) → In u xs → In u (xs ++ ys)
 In-left u [] ys h = elim h [ ]

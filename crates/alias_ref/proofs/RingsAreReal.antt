@@ -1,13 +1,12 @@
 -- A ring that is the first break is real.
-use Rattle.std.proofs.Common.{◌≡◌, ℕ, ◌+◌, ◌-◌, List, [], ◌∷◌, Bool, true, false, cond, Option, Some, None, length, refl, sym, ap, ◌∙◌, subst, inl, inr}
+use Rattle.std.proofs.Common.{◌≡◌, ℕ, ◌+◌, ◌-◌, List, [], ◌∷◌, Bool, true, false, cond, Option, Some, None, length, ap, inl, inr}
 use Rattle.std.specs.Prelude.{nat_le, ◌⊎◌}
 use Rattle.name_path.specs.declared.place.Place.{Place}
-use Rattle.json_span.specs.PlainView.{Value, Entry}
-use Rattle.alias_ref.specs.Written.{Step, Container, Written, leaf, parts, refers, misspelled, Tokens, whole, part, is_reference, is_misspelled, is_written}
-use Rattle.alias_ref.specs.Visits.{Visit, visit, lost, Way, ends_at, no_end, joined, goes_on, then_go, since, same_place, go_if, steps_from, way_of, settled, settle_by, pass_written, unless_stands, pass_visits, visits_each, at_end, walk_written, walk_visits, Break, breaks, most_places, most_visits, break_if, own_break, or_else, first_break, walked, passed, walk_break}
+use Rattle.alias_ref.specs.Written.{Step, Tokens, whole, is_misspelled}
+use Rattle.alias_ref.specs.Visits.{Visit, visit, lost, since, Break, breaks, most_places, most_visits, break_if, own_break, or_else, first_break, walked, walk_break}
 use Rattle.alias_ref.specs.declared.fault.RefRule.{RefRule}
 use Rattle.alias_ref.specs.declared.fault.RefRule.TheVariants as rule
-use Rattle.alias_ref.specs.Asking.{Chain, starts, Differ, differ_none, IsRing}
+use Rattle.alias_ref.specs.Asking.{starts, differ_none, IsRing}
 use Rattle.alias_ref.proofs.BranchesAreChains.{Each, Good, since-ring, walk_visits-good}
 
 pub or_else_is : (a b : Option Break) (x : Break) → or_else a b ≡ Some x → (a ≡ Some x) ⊎ (b ≡ Some x)

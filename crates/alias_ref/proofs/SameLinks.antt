@@ -1,8 +1,7 @@
 -- Trees that agree where references lead have the same kinds and links there.
-use Rattle.std.proofs.Common.{◌≡◌, ℕ, List, [], ◌∷◌, ◌++◌, Option, Some, None, refl, sym, ap, ap₂, ◌∙◌}
+use Rattle.std.proofs.Common.{◌≡◌, List, [], ◌∷◌, Option, Some, None, sym, ap, ap₂, ◌∙◌}
 use Rattle.name_path.specs.declared.place.Place.{Place}
-use Rattle.json_span.specs.PlainView.{Value, Entry}
-use Rattle.alias_ref.specs.Written.{Step, Container, Written, leaf, parts, refers, misspelled, Tokens, whole, part, is_reference, is_misspelled, is_written}
+use Rattle.alias_ref.specs.Written.{Step, Written, leaf, parts, refers, misspelled, Tokens, whole}
 use Rattle.alias_ref.specs.Kinds.{Kinds, link_token, KindOf, kind_alone, kind_linked, LinksAt, links_leaf, links_steps, links_one, links_parts, LinksEach, each_done, each_more}
 use Rattle.group_inherit.specs.Merging.{either}
 use Rattle.name_path.specs.declared.kind.Kind.{Kind}

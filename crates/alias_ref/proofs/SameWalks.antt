@@ -1,14 +1,13 @@
 -- Trees that agree where references lead have the same walks and meanings.
 use Rattle.std.proofs.Common.{◌≡◌, ℕ, zero, suc, ◌+◌, ◌-◌, List, [], ◌∷◌, ◌++◌, Bool, true, false, cond, Option, Some, None, length, refl, sym, ap, ap₂, ◌∙◌, subst}
-use Rattle.std.specs.Prelude.{is_some, nat_le, ◌↔◌}
+use Rattle.std.specs.Prelude.{is_some, nat_le}
 use Rattle.name_path.specs.declared.place.Place.{Place}
 use Rattle.json_span.specs.PlainView.{Value, Entry}
-use Rattle.alias_ref.specs.Written.{Step, Container, Written, leaf, parts, refers, misspelled, Tokens, whole, part, is_reference, is_misspelled, is_written}
-use Rattle.alias_ref.specs.Meaning.{Leads, leads, Goes, arrived, onward, Settles, stays, follows, put_together, Means, means_leaf, means_parts, means_target, EachMeans, none_left, one_more}
-use Rattle.alias_ref.specs.Visits.{Visit, visit, lost, Way, ends_at, no_end, joined, goes_on, then_go, since, same_place, go_if, steps_from, way_of, settled, settle_by, pass_written, unless_stands, pass_visits, visits_each, at_end, walk_written, walk_visits, Break, breaks, most_places, most_visits, break_if, own_break, or_else, first_break, walked, passed, walk_break}
-use Rattle.alias_ref.specs.declared.fault.RefRule.{RefRule}
+use Rattle.alias_ref.specs.Written.{Step, Written, leaf, parts, refers, misspelled, Tokens, whole, part, is_reference, is_misspelled, is_written}
+use Rattle.alias_ref.specs.Meaning.{Leads, leads, Goes, arrived, onward, Settles, stays, follows, Means, means_leaf, means_parts, means_target, EachMeans, none_left, one_more}
+use Rattle.alias_ref.specs.Visits.{Visit, visit, lost, Way, ends_at, no_end, joined, goes_on, then_go, since, go_if, steps_from, way_of, settled, settle_by, pass_written, unless_stands, pass_visits, visits_each, at_end, walk_written, walk_visits, breaks, most_places, most_visits, break_if, own_break, or_else, first_break, walked, walk_break}
 use Rattle.alias_ref.specs.declared.fault.RefRule.TheVariants as rule
-use Rattle.alias_ref.proofs.BranchesAreChains.{Each, Each-append, goes_on_each}
+use Rattle.alias_ref.proofs.BranchesAreChains.{Each, Each-append}
 
 module _ (T T' : Tokens) (In : List Step → Type 0) (agree : (p : Place) → In p.token → T p ≡ T' p) (closed : (p : Place) (u : List Step) (steps : List Step) → In p.token → T' p ≡ Some (refers u steps) → In u) where
   module _ where

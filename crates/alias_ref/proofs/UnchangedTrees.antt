@@ -1,13 +1,12 @@
 -- Flat trees with the same raw entries where references lead have the same walks, meanings, kinds and links there.
 use Rattle.std.proofs.Common.{◌≡◌, List, Option, Some, None, refl, sym, ap, ◌∙◌, option_map}
-use Rattle.std.specs.Prelude.{option_and_then, ◌↔◌}
+use Rattle.std.specs.Prelude.{option_and_then}
 use Rattle.std.specs.FinMap as flat_map
-use Rattle.tk_io.specs.Order.{names_cmp}
 use Rattle.name_path.specs.declared.place.Place.{Place}
 use Rattle.group_inherit.specs.Flattening.{Flattened}
-use Rattle.alias_ref.specs.Written.{Step, Written, refers, Tokens, written_at, written_in}
+use Rattle.alias_ref.specs.Written.{Step, refers, Tokens, written_at, written_in}
 use Rattle.alias_ref.specs.Kinds.{own_in, group_in}
-use Rattle.alias_ref.specs.Unchanged.{Raw, raw_of, raw_in, Reaches, at_start, by_reference, Unchanged, AreDefinitions}
+use Rattle.alias_ref.specs.Unchanged.{raw_of, raw_in, Reaches, at_start, by_reference, Unchanged, AreDefinitions}
 use Rattle.alias_ref.specs.Laws.{Flat, AreAlike}
 use Rattle.alias_ref.proofs.MovedValues.{source_decides, kind_of_source}
 use Rattle.alias_ref.proofs.RefsAreWritten.{reference_listed}

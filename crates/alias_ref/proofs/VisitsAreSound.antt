@@ -1,15 +1,15 @@
 -- Whatever a walk without a break visits is new on its branch, spelled well, and leads somewhere where it is a reference.
-use Rattle.std.proofs.Common.{◌≡◌, ℕ, zero, suc, ◌+◌, ◌-◌, ◌<◌, ◌≤◌, List, [], ◌∷◌, ◌++◌, Bool, true, false, cond, Option, Some, None, length, refl, sym, ap, ◌∙◌, subst, arith, length-append}
+use Rattle.std.proofs.Common.{◌≡◌, ℕ, ◌+◌, ◌-◌, ◌<◌, ◌≤◌, List, [], ◌∷◌, ◌++◌, true, false, Option, Some, None, length, refl, sym, ap, ◌∙◌, subst, arith, length-append}
 use Rattle.std.specs.Prelude.{is_some}
 use Rattle.name_path.specs.declared.place.Place.{Place}
-use Rattle.alias_ref.specs.Written.{Step, Container, Written, leaf, parts, refers, misspelled, Tokens, whole, part, is_reference, is_misspelled, is_written}
-use Rattle.alias_ref.specs.Meaning.{Leads, leads, Goes, arrived, onward, Settles, stays, follows}
-use Rattle.alias_ref.specs.Visits.{Visit, visit, lost, Way, ends_at, joined, goes_on, then_go, since, go_if, steps_from, way_of, settled, settle_by, pass_written, pass_visits, visits_each, at_end, walk_written, walk_visits, most_places, own_break, first_break, walked, passed, walk_break}
+use Rattle.alias_ref.specs.Written.{Step, Written, leaf, parts, refers, misspelled, Tokens, whole, part, is_reference, is_misspelled, is_written}
+use Rattle.alias_ref.specs.Meaning.{Leads, leads, Goes, arrived, onward, Settles}
+use Rattle.alias_ref.specs.Visits.{Visit, visit, Way, goes_on, then_go, since, go_if, steps_from, way_of, settle_by, pass_written, visits_each, at_end, walk_written, most_places, walked, passed, walk_break}
 use Rattle.alias_ref.specs.Asking.{Manner, walked as walking, passed as passing, AsksFor, for_part, for_step, for_target, for_next, Lacks, IsVisited, begins, asked}
 use Rattle.alias_ref.specs.inner.Seen.{Clean, AllWritten, HasParts}
 use Rattle.alias_ref.proofs.BranchesAreChains.{since-lacks}
 use Rattle.alias_ref.proofs.FirstBreaks.{Enters, enters, walked-enters, passed-enters, walk_visits-begins, pass_visits-begins}
-use Rattle.alias_ref.proofs.OneMeaning.{goes_along, lead_once, settle_once}
+use Rattle.alias_ref.proofs.OneMeaning.{lead_once, settle_once}
 use Rattle.alias_ref.proofs.UnbrokenMeans.{clean_front, clean_first, HasEnd, Ending, settle_end, way_end_is, pass_end, at_end_means, front_of}
 use Rattle.alias_ref.proofs.WaysSettle.{DoSettle, way_of-leads, settle_by-settles, pass_visits-settles}
 use Rattle.alias_ref.proofs.WalksInTurns.{goes_on-front, settle_passes, way_found}

@@ -1,16 +1,14 @@
 -- What the turns of the walk add to the entries seen.
-use Rattle.std.proofs.Common.{◌≡◌, ℕ, zero, suc, ◌+◌, ◌-◌, ◌<◌, ◌≤◌, List, [], ◌∷◌, ◌++◌, Bool, true, false, cond, Option, Some, None, length, get_or, drop, refl, sym, ap, ap₂, ◌∙◌, subst, append_assoc, append-nil, add-one, arith, length-append, drop-cons}
+use Rattle.std.proofs.Common.{◌≡◌, ℕ, ◌+◌, List, [], ◌∷◌, ◌++◌, Bool, true, false, Option, Some, None, refl, sym, ap, ◌∙◌, subst, append_assoc, append-nil}
 use Rattle.name_path.specs.declared.place.Place.{Place}
-use Rattle.json_span.specs.PlainView.{Value, Entry}
-use Rattle.alias_ref.specs.Written.{Step, Container, Written, leaf, parts, refers, misspelled, Tokens, whole, part, is_reference, is_misspelled, is_written}
-use Rattle.alias_ref.specs.Visits.{Visit, visit, lost, Way, ends_at, no_end, joined, goes_on, then_go, since, same_place, go_if, steps_from, way_of, settled, settle_by, pass_written, unless_stands, pass_visits, visits_each, at_end, walk_written, walk_visits, Break, breaks, most_places, most_visits, break_if, own_break, or_else, first_break, walked, passed, walk_break}
-use Rattle.alias_ref.specs.declared.fault.RefRule.{RefRule}
+use Rattle.alias_ref.specs.Written.{Step, Written, refers, Tokens, whole, part, is_reference, is_written}
+use Rattle.alias_ref.specs.Visits.{Visit, visit, lost, Way, ends_at, joined, goes_on, go_if, steps_from, way_of, settled, settle_by, pass_written, at_end, walk_written, breaks, own_break, first_break, walked, passed}
 use Rattle.alias_ref.specs.declared.fault.RefRule.TheVariants as rule
 use Rattle.std.specs.Prelude.{Result, Ok, Err}
 use Rattle.alias_ref.specs.inner.Seen.{Clean, IsFault, Sees}
 use Rattle.alias_ref.specs.declared.fault.RefFault.{RefFault}
 use Rattle.alias_ref.specs.declared.fault.RefFault.TheVariants as faults
-use Rattle.alias_ref.proofs.FirstBreaks.{clean_nil, clean_entry, clean_append, fault_later, fault_first, Enters, enters, walked-enters, passed-enters}
+use Rattle.alias_ref.proofs.FirstBreaks.{clean_entry, clean_append, fault_later, fault_first, enters, walked-enters, passed-enters}
 
 pub goes_on-front : (xs : List Visit) (o : Option Place) (next : Place → Way) → (es : List Visit) × ((goes_on xs o next).seen ≡ xs ++ es)
 goes_on-front xs None next = ([], sym (append-nil xs))

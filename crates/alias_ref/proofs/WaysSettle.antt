@@ -1,13 +1,10 @@
 -- A way that has an end settles there.
-use Rattle.std.proofs.Common.{◌≡◌, ℕ, zero, suc, List, [], ◌∷◌, ◌++◌, Bool, true, false, Option, Some, None, refl, sym, ap, ◌∙◌, subst}
+use Rattle.std.proofs.Common.{◌≡◌, ℕ, zero, suc, List, [], ◌∷◌, ◌++◌, Bool, true, false, Option, Some, None, refl, ap, subst}
 use Rattle.std.specs.Prelude.{is_some}
 use Rattle.name_path.specs.declared.place.Place.{Place}
-use Rattle.json_span.specs.PlainView.{Value, Entry}
-use Rattle.alias_ref.specs.Written.{Step, Container, Written, leaf, parts, refers, misspelled, Tokens, whole, part, is_reference, is_misspelled, is_written}
-use Rattle.alias_ref.specs.Meaning.{Leads, leads, Goes, arrived, onward, Settles, stays, follows, put_together, Means, means_leaf, means_parts, means_target, EachMeans, none_left, one_more}
-use Rattle.alias_ref.specs.Visits.{Visit, visit, lost, Way, ends_at, no_end, joined, goes_on, then_go, since, same_place, go_if, steps_from, way_of, settled, settle_by, pass_written, unless_stands, pass_visits, visits_each, at_end, walk_written, walk_visits, Break, breaks, most_places, most_visits, break_if, own_break, or_else, first_break, walked, passed, walk_break}
-use Rattle.alias_ref.specs.declared.fault.RefRule.{RefRule}
-use Rattle.alias_ref.specs.declared.fault.RefRule.TheVariants as rule
+use Rattle.alias_ref.specs.Written.{Step, Written, leaf, parts, refers, misspelled, Tokens, whole, part, is_reference, is_written}
+use Rattle.alias_ref.specs.Meaning.{Leads, leads, Goes, arrived, onward, Settles, stays, follows}
+use Rattle.alias_ref.specs.Visits.{Visit, Way, goes_on, since, go_if, steps_from, way_of, settled, settle_by, pass_written, unless_stands, pass_visits}
 
 pub goes_on_ends : (xs : List Visit) (o : Option Place) (next : Place → Way) {r : Place} → (goes_on xs o next).ends ≡ Some r → (q : Place) × (o ≡ Some q) × ((next q).ends ≡ Some r)
 goes_on_ends xs None next h = cc

@@ -1,20 +1,20 @@
 -- What is written at the parts of a place of a flat tree.
-use Rattle.std.proofs.Common.{◌≡◌, ℕ, zero, suc, ◌+◌, List, [], ◌∷◌, ◌++◌, Bool, true, false, cond, Option, Some, None, inl, inr, refl, sym, ap, ◌∙◌, subst, map, codes, option_map}
+use Rattle.std.proofs.Common.{◌≡◌, ℕ, List, [], ◌∷◌, ◌++◌, Bool, true, false, cond, Option, Some, None, inl, inr, refl, sym, ap, ◌∙◌, subst, codes, option_map}
 use Rattle.std.specs.Prelude.{option_and_then, ◌⊎◌}
 use Rattle.std.specs.FinMap as flat_map
 use Rattle.std.specs.Str.{bytes_eq}
 use Rattle.tk_io.specs.Order.{names_cmp}
 use Rattle.ring.specs.Routes.{In}
 use Rattle.name_path.specs.declared.place.Place.{Place}
-use Rattle.json_span.specs.Tree.{Tree, a_null, a_boolean, a_number, a_string, an_array, an_object, Placed, tree_of, Entry, elements_in, entries_in}
+use Rattle.json_span.specs.Tree.{Tree, a_null, a_boolean, a_number, a_string, an_array, an_object, Placed, tree_of, Entry, entries_in}
 use Rattle.json_span.specs.Plain.{plain_string}
 use Rattle.token_tree.proofs.Names.{text_same}
-use Rattle.token_tree.specs.Tree.{Definition}
 use Rattle.token_tree.specs.Shape.{has}
 use Rattle.group_inherit.specs.Flattening.{Flattened}
 use Rattle.alias_ref.specs.References.{is_curly, alias_named, place_named}
-use Rattle.alias_ref.specs.Written.{Step, Container, array, object, Written, leaf, parts, refers, misspelled, Tokens, whole, part, is_reference, is_written, Parts, numbered, named, parts_of, steps_of, part_under, part_at, value_at, Role, of_value, of_ref, of_token, spelled, text_written, pointed, object_pointed, object_written, written_as, role_behind, role_at_end, role_at, written_at, written_in}
+use Rattle.alias_ref.specs.Written.{Step, Container, object, Written, leaf, parts, whole, part, is_written, Parts, named, parts_of, steps_of, part_under, part_at, value_at, Role, of_value, of_ref, of_token, spelled, text_written, object_pointed, written_as, role_behind, role_at_end, role_at, written_at, written_in}
 use Rattle.alias_ref.specs.inner.Seen.{AllWritten, HasParts}
+use Rattle.alias_ref.specs.inner.Spots.{Stands}
 
 pub value_at-end : (n : Placed) (trail : List Step) (s : Step) → value_at n (trail ++ s ∷ []) ≡ option_and_then (λ m. part_at m s) (value_at n trail)
 unfolding value_at
@@ -38,11 +38,6 @@ role_at-end true [] s = refl
 role_at-end false [] s = refl
 role_at-end true (r ∷ trail) s = role_end r trail s
 role_at-end false (r ∷ trail) s = role_end r trail s
-
--- The token and the value at a place.
-pub record Stands (flat : flat_map.FinMap names_cmp Flattened) (p : Place) (f : Flattened) (n : Placed) : Type 0 where
-  pub token : flat_map.get flat p.token ≡ Some f
-  pub value : value_at f.def.value p.trail ≡ Some n
 
 pub written_stands : (flat : flat_map.FinMap names_cmp Flattened) (p : Place) (f : Flattened) (n : Placed) → Stands flat p f n → written_in flat p ≡ Some (written_as (role_at f.def.by_ref p.trail) (tree_of n))
 unfolding written_in written_at

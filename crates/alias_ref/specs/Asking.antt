@@ -1,7 +1,7 @@
 -- Which visits a visit asks for, and when places make a ring.
 use Rattle.std.specs.Prelude.{◌≡◌, List, [], ◌∷◌, ◌++◌, true, Some}
 use Rattle.name_path.specs.declared.place.Place.{Place}
-use Rattle.alias_ref.specs.Written.{Step, Container, Written, parts, refers, Tokens, whole, part, is_reference, is_written}
+use Rattle.alias_ref.specs.Written.{Step, Container, parts, refers, Tokens, whole, part, is_reference, is_written}
 use Rattle.alias_ref.specs.Meaning.{Leads, Goes}
 
 -- how a place is visited

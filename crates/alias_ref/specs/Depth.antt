@@ -2,7 +2,7 @@
 use Rattle.std.specs.Prelude.{◌≡◌, ℕ, suc, List, [], ◌∷◌, Some}
 use Rattle.name_path.specs.declared.place.Place.{Place}
 use Rattle.json_span.specs.PlainView.{Value}
-use Rattle.alias_ref.specs.Written.{Step, Container, Written, leaf, parts, refers, Tokens, whole, part}
+use Rattle.alias_ref.specs.Written.{Step, Container, leaf, parts, refers, Tokens, whole, part}
 
 mutual
   -- from this place at most n references without steps stand one behind the other

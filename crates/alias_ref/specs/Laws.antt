@@ -16,14 +16,13 @@ use Rattle.group_inherit.specs.Flattening.{Flattened}
 use Rattle.alias_ref.specs.References.{alias_named, place_named}
 use Rattle.alias_ref.specs.Written.{Step, refers, misspelled, Tokens, whole, is_reference, is_misspelled, is_written, Role, written_as, written_at, written_in}
 use Rattle.alias_ref.specs.Meaning.{Leads, Settles, Means}
-use Rattle.alias_ref.specs.Visits.{Break, breaks, most_places, walk_break}
+use Rattle.alias_ref.specs.Visits.{Break, most_places, walk_break}
 use Rattle.alias_ref.specs.Asking.{Manner, Lacks, IsRing, IsVisited}
 use Rattle.alias_ref.specs.Kinds.{Kinds, KindOf, LinksAt, IsLink, own_in, group_in}
 use Rattle.alias_ref.specs.PlainParts.{plain_at, Below}
 use Rattle.alias_ref.specs.Depth.{LinkDepth}
 use Rattle.alias_ref.specs.Refs.{refs_of}
 use Rattle.alias_ref.specs.Unchanged.{Unchanged, AreDefinitions}
-use Rattle.alias_ref.specs.declared.fault.RefRule.{RefRule}
 use Rattle.alias_ref.specs.declared.fault.RefRule.TheVariants as rule
 
 abbrev pub Flat : Type 0
@@ -60,6 +59,7 @@ RingsAreReal = (T : Tokens) (token : List Step) (p : Place) (ring : List Place) 
 pub record IsTold (T : Tokens) (b : Break) : Type 0 where
   pub syntax : b.rule ≡ rule.RefSyntax → T b.place ≡ Some misspelled
   pub target : b.rule ≡ rule.RefTarget → (is_reference (T b.place) ≡ true) × ((q : Place) → Leads T b.place q → ⊥)
+  pub ring : b.rule ≢ rule.Cycle → b.ring ≡ []
 
 abbrev pub BreaksAreReal : Type 0
 BreaksAreReal = (T : Tokens) (token : List Step) (b : Break) → walk_break T token ≡ Some b → IsTold T b

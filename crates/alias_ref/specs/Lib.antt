@@ -10,4 +10,5 @@ pub mod Depth
 pub mod PlainParts
 pub mod Unchanged
 pub mod Laws
+pub mod Answer
 pub mod inner

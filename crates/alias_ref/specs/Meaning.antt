@@ -1,9 +1,9 @@
 -- What a place means: where references lead, where they settle, and the value without references.
 use Rattle.std.specs.Prelude.{◌≡◌, List, [], ◌∷◌, true, false, Some, map}
 use Rattle.name_path.specs.declared.place.Place.{Place}
-use Rattle.json_span.specs.Plain.{plain_array, plain_object, PlainEntry, plains_of, plain_members_of}
+use Rattle.json_span.specs.Plain.{plain_array, plain_object, plains_of, plain_members_of}
 use Rattle.json_span.specs.PlainView.{Value, Entry}
-use Rattle.alias_ref.specs.Written.{Step, Container, array, object, Written, leaf, parts, refers, Tokens, whole, part, is_reference, is_written}
+use Rattle.alias_ref.specs.Written.{Step, Container, array, object, leaf, parts, refers, Tokens, whole, part, is_reference, is_written}
 
 mutual
   -- q is where the steps of the reference at p end

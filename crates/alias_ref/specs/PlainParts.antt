@@ -4,7 +4,7 @@ use Rattle.std.specs.Fmt.{decimal}
 use Rattle.std.specs.Str.{bytes_eq}
 use Rattle.ring.specs.Routes.{In}
 use Rattle.name_path.specs.declared.place.Place.{Place}
-use Rattle.json_span.specs.Plain.{plain_null, plain_boolean, plain_number, plain_string, plain_array, plain_object, PlainEntry, plains_in, plain_entries_in}
+use Rattle.json_span.specs.Plain.{plain_null, plain_boolean, plain_number, plain_string, plain_array, plain_object, plains_in, plain_entries_in}
 use Rattle.json_span.specs.PlainView.{Value, Entry}
 use Rattle.alias_ref.specs.Written.{Step, Container, parts, Tokens, part}
 

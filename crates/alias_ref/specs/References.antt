@@ -1,5 +1,5 @@
 -- The references that texts spell, as readings that compute: curly aliases, and pointers by RFC 6901 behind a '#'.
-use Rattle.std.specs.Prelude.{ℕ, ◌-◌, Bool, true, false, ◌&&◌, ◌||◌, ◌==◌, nat_le, if◌then◌else◌, List, [], ◌∷◌, length, Option, Some, None, slice_index}
+use Rattle.std.specs.Prelude.{ℕ, ◌-◌, Bool, false, ◌&&◌, ◌||◌, ◌==◌, nat_le, if◌then◌else◌, List, [], ◌∷◌, length, Option, Some, None, slice_index}
 use Rattle.std.specs.Str.{bytes_eq}
 use Rattle.name_path.specs.Names.{root_name}
 use Rattle.name_path.specs.Reference.{pointer_text, curly_text, value_step}

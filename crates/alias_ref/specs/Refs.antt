@@ -1,5 +1,5 @@
 -- The tokens that the references of a value name, in written order.
-use Rattle.std.specs.Prelude.{ℕ, List, [], ◌∷◌, ◌++◌, Bool}
+use Rattle.std.specs.Prelude.{List, [], ◌∷◌, ◌++◌}
 use Rattle.json_span.specs.Tree.{Tree, a_null, a_boolean, a_number, a_string, an_array, an_object, Placed, placed, Elements, no_elements, element, Members, no_members, member, entries_in}
 use Rattle.token_tree.specs.Tree.{Definition}
 use Rattle.alias_ref.specs.Written.{Step, Written, leaf, parts, refers, misspelled, Role, of_value, text_written, object_written, role_behind, role_at}

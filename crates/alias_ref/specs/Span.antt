@@ -1,11 +1,11 @@
 -- Where a place stands in its file.
-use Rattle.std.specs.Prelude.{ℕ, List, [], ◌∷◌, Option, Some, None, option_map, unwrap_or, if◌then◌else◌}
+use Rattle.std.specs.Prelude.{ℕ, List, [], ◌∷◌, Option, Some, option_map, unwrap_or, if◌then◌else◌}
 use Rattle.std.specs.FinMap as flat_map
 use Rattle.tk_io.specs.Order.{names_cmp}
 use Rattle.name_path.specs.declared.place.Place.{Place}
 use Rattle.json_span.specs.Tree.{Placed, tree_of, start_of, end_of}
 use Rattle.group_inherit.specs.Flattening.{Flattened}
-use Rattle.alias_ref.specs.Written.{Step, Role, written_as, role_behind, role_at, is_reference, part_at, value_at}
+use Rattle.alias_ref.specs.Written.{Step, Role, written_as, role_behind, role_at, is_reference, part_at}
 
 abbrev pub span_of_value : Placed → ℕ × ℕ
 span_of_value n = (start_of n, end_of n)

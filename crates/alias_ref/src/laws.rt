@@ -1,5 +1,6 @@
 //! Laws over the definitions alone, for the layers above.
 
+ghost use Rattle.alias_ref.specs.Answer.{OneResolved, OneFirstBreak, NeverBoth};
 ghost use Rattle.alias_ref.specs.Laws.{AliasesNamed, PointersNamed, OneLead, OneEnd, OneMeaning, OneKind, OneLinks, RingsAreReal, BreaksAreReal, UnbrokenMeans, UnbrokenIsSound, UnbrokenDepth, PartsMean, LinksAreReal, LinksAreAll, SourceDecides, RefsOfSource, WrittenAreListed, ListedAreWritten, UnchangedIsAlike};
 
 /// The readings of texts are exact: an alias names the path that its text spells, and a pointer the place.
@@ -59,4 +60,12 @@ pub fn refs_are_written()
 /// meaning, kind and links of it, wherever their spans stand.
 pub fn unchanged_is_alike()
     ensures { UnchangedIsAlike }
+{}
+
+/// The answer of a token is decided by the flat tree and the path: it comes to one thing, or breaks one rule first, and
+/// never both.
+pub fn one_answer()
+    ensures resolved { OneResolved }
+    ensures broken { OneFirstBreak }
+    ensures either { NeverBoth }
 {}

@@ -2,11 +2,26 @@
 //! and links of tokens (Format Module 2025.10, aliases and references).
 #![tactic(auto)]
 
+mod content;
 mod fault;
+mod handles;
+mod index;
 mod laws;
+mod passing;
+mod refs;
+mod resolved;
+mod span;
+mod spot;
+#[cfg(test)]
+mod tests;
+mod trace;
+mod walking;
 
 pub use fault::{RefFault, RefRule};
 pub use laws::{
-    breaks_are_real, links_are_real, one_meaning, parts_mean, references_named, refs_are_written,
-    source_decides, unbroken_tokens, unchanged_is_alike,
+    breaks_are_real, links_are_real, one_answer, one_meaning, parts_mean, references_named,
+    refs_are_written, source_decides, unbroken_tokens, unchanged_is_alike,
 };
+pub use refs::refs_of;
+pub use resolved::{Resolved, evaluate};
+pub use span::span_of;

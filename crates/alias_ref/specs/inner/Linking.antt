@@ -1,5 +1,5 @@
 -- What a reference adds to the kind and to the links of the place where it stands.
-use Rattle.std.specs.Prelude.{List, [], ◌∷◌, Option, Some, None}
+use Rattle.std.specs.Prelude.{List, [], ◌∷◌, Bool, true, false, Option, None}
 use Rattle.name_path.specs.declared.kind.Kind.{Kind}
 use Rattle.name_path.specs.declared.link.Link.{Link}
 use Rattle.name_path.specs.declared.place.Place.{Place}
@@ -13,3 +13,8 @@ lent k (s ∷ steps) = None
 abbrev pub link_here : Place → List Step → Option Kind → List Step → List Link
 link_here p token k [] = record { trail = p.trail; target = token; kind = k } ∷ []
 link_here p token k (s ∷ steps) = []
+
+-- .. which is listed where it is written in the token's own value
+abbrev pub added : Bool → Place → List Step → Option Kind → List Step → List Link
+added true p token k steps = link_here p token k steps
+added false p token k steps = []

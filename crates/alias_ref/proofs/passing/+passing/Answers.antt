@@ -1,0 +1,278 @@
+use Rattle.std.proofs.Common.{◌≡◌, ◌+◌, ◌∷◌, ◌++◌, [], length, drop, Some, None, arith, refl, sym, ap, ap₂, ◌∙◌, subst, length-append}
+use Rattle.std.specs.Prelude.{IfOk}
+use Rattle.std.specs.FinMap as map
+use Rattle.std.proofs.lemmas.Result.{err_from_is_err_and}
+use Rattle.alias_ref.specs.Written.{whole, part, is_reference, is_written, is_misspelled, refers, written_in}
+use Rattle.alias_ref.specs.Visits.{settle_by, steps_from, joined, pass_written, passed, first_break}
+use Rattle.alias_ref.specs.inner.Contents.{content_view}
+use Rattle.alias_ref.specs.inner.Seen.{Clean, Sees, IsFault}
+use Rattle.alias_ref.specs.inner.Spots.{IsSpot, start_in}
+use Rattle.alias_ref.proofs.FirstBreaks.{clean_nil, clean_append, enters, passed-fault}
+use Rattle.alias_ref.proofs.SpotsStand.{spot_written, spot_start, spot_whole, spot_no_part, items_fit, settled_spot, stays_there}
+use Rattle.alias_ref.proofs.TracesGrow.{starts_more, none_case, some_case, not_there, drop_at, drop_all}
+use Rattle.alias_ref.proofs.WalksInTurns.{way_lost, way_found, turn_fault, turn_lost, turn_on, turns_done, pass_fault, pass_clean, pass_ends, refers_fault, refers_then_fault, refers_clean, settle_passes, settle_stays, sees_by}
+use Rattle.alias_ref.proofs.passing.+passing.Goals as goal
+
+pub follow-returns-in_default-clause-seen : goal.follow-returns-in_default-clause-seen
+follow-returns-in_default-clause-seen t c =
+    let T = written_in c.args.flat.now in
+    let settle = settle_by T (passed T c.args.trace.now.places.items) in
+    let token = c.args.named.now.token in
+    let gone : map.get c.args.flat.now token ≡ None = none_case c.in_ok-spot.field-0 _ c.in_default.is c.in_ok-spot.ensures.none in
+    subst (IsFault c.broken.result) (sym (way_lost T settle c.args.home.now token c.args.named.now.trail c.args.trace.now.visits (not_there c.args.flat.now token gone))) c.broken.ensures
+
+pub follow-loop-step-init : goal.follow-loop-step-init
+follow-loop-step-init t c =
+    let T = written_in c.args.flat.now in
+    let settle = settle_by T (passed T c.args.trace.now.places.items) in
+    let place = some_case c.in_ok-spot.field-0 c.in-Some.spot (λ s. s.place ≡ whole c.args.named.now.token) c.in-Some.is c.in_ok-spot.ensures.place in
+    let at = some_case c.in_ok-spot.field-0 c.in-Some.spot (IsSpot c.args.flat.now) c.in-Some.is c.in_ok-spot.ensures.at in
+    ([], clean_nil T c.args.trace.now.visits, ap₂ (steps_from T settle c.args.home.now) place c.as_slice-steps.ensures, at, (refl, refl))
+
+pub follow-returns-in_err-end-clause-seen : goal.follow-returns-in_err-end-clause-seen
+follow-returns-in_err-end-clause-seen t c =
+    let T = written_in c.args.flat.now in
+    let settle = settle_by T (passed T c.args.trace.now.places.items) in
+    let home = c.args.home.now in
+    let token = c.args.named.now.token in
+    let trail = c.args.named.now.trail in
+    let n = c.args.trace.now.visits in
+    let i = c.loop-step.step-index in
+    let inv = c.loop-step.invariant in
+    let ss = c.as_slice-steps.result.now in
+    let s = c.step-item.result in
+    let f = c.in_err-end.field-0.0 in
+    let p = err_from_is_err_and c.from_residual-in_err-end.result c.from_residual-in_err-end.ensures.1 in
+    let place = some_case c.in_ok-spot.field-0 c.in-Some.spot (λ x. x.place ≡ whole token) c.in-Some.is c.in_ok-spot.ensures.place in
+    let at = some_case c.in_ok-spot.field-0 c.in-Some.spot (IsSpot c.args.flat.now) c.in-Some.is c.in_ok-spot.ensures.at in
+    let found = way_found T settle home token trail (spot_whole c.args.flat.now c.in-Some.spot token at place) in
+    let so_far = ap (λ xs. joined inv.0 (steps_from T settle home c.loop-step.spot.place xs)) (sym (drop_at ss i s (omega arith) c.step-item.is)) ∙ inv.2 in
+    let seen = subst (λ b. IsFault f (first_break T c.loop-step.trace.visits (settle_by T (passed T b) c.loop-step.spot.place).seen)) inv.4.0 c.in_err-end.ensures.seen in
+    let turn = turn_fault T settle home (steps_from T settle home (whole token) trail) c.loop-step.spot.place s (drop (i + 1) ss) inv.0 inv.1 so_far f seen in
+    rw (p.1, p.2) (subst (λ w. IsFault f (first_break T n w.seen)) (sym found) turn)
+
+pub follow-part-requires : goal.follow-part-requires
+follow-part-requires t c = record { short = items_fit c.args.flat.now c.in_ok-end.end c.in_ok-end.ensures.found }
+
+pub follow-returns-in_default-2-clause-seen : goal.follow-returns-in_default-2-clause-seen
+follow-returns-in_default-2-clause-seen t c =
+    let flat = c.args.flat.now in
+    let T = written_in flat in
+    let branch = c.args.trace.now.places.items in
+    let settle = settle_by T (passed T branch) in
+    let home = c.args.home.now in
+    let token = c.args.named.now.token in
+    let trail = c.args.named.now.trail in
+    let n = c.args.trace.now.visits in
+    let i = c.loop-step.step-index in
+    let inv = c.loop-step.invariant in
+    let ss = c.as_slice-steps.result.now in
+    let s = c.step-item.result in
+    let end = c.in_ok-end.end in
+    let k = c.in_ok-end.ensures in
+    let here = c.loop-step.spot.place in
+    let first = some_case c.in_ok-spot.field-0 c.in-Some.spot (λ x. x.place ≡ whole token) c.in-Some.is c.in_ok-spot.ensures.place in
+    let at = some_case c.in_ok-spot.field-0 c.in-Some.spot (IsSpot flat) c.in-Some.is c.in_ok-spot.ensures.at in
+    let found = way_found T settle home token trail (spot_whole flat c.in-Some.spot token at first) in
+    let so_far = ap (λ xs. joined inv.0 (steps_from T settle home here xs)) (sym (drop_at ss i s (omega arith) c.step-item.is)) ∙ inv.2 in
+    let seen = subst (λ b. Clean T c.loop-step.trace.visits c.settle.new.trace.visits (settle_by T (passed T b) here).seen) inv.4.0 k.seen in
+    let ends = subst (λ b. (settle_by T (passed T b) here).ends ≡ Some end.place) inv.4.0 k.ends in
+    let plain = settled_spot flat branch here end k.found ends in
+    let gone = none_case c.in_ok-next.field-0 _ c.in_default-2.is c.in_ok-next.ensures.none in
+    let lost = ap is_written (spot_no_part flat end s k.found plain gone) in
+    let turn = turn_lost T settle home (steps_from T settle home (whole token) trail) here s (drop (i + 1) ss) inv.0 inv.1 so_far end.place seen ends lost in
+    subst (IsFault c.broken-in_default-2.result) (sym (ap (λ w. first_break T n w.seen) found ∙ turn)) c.broken-in_default-2.ensures
+
+pub follow-loop-step-preserved : goal.follow-loop-step-preserved
+follow-loop-step-preserved t c =
+    let flat = c.args.flat.now in
+    let T = written_in flat in
+    let branch = c.args.trace.now.places.items in
+    let settle = settle_by T (passed T branch) in
+    let home = c.args.home.now in
+    let token = c.args.named.now.token in
+    let trail = c.args.named.now.trail in
+    let n = c.args.trace.now.visits in
+    let i = c.loop-step.step-index in
+    let inv = c.loop-step.invariant in
+    let ss = c.as_slice-steps.result.now in
+    let s = c.step-item.result in
+    let end = c.in_ok-end.end in
+    let k = c.in_ok-end.ensures in
+    let here = c.loop-step.spot.place in
+    let first = some_case c.in_ok-spot.field-0 c.in-Some.spot (λ x. x.place ≡ whole token) c.in-Some.is c.in_ok-spot.ensures.place in
+    let at = some_case c.in_ok-spot.field-0 c.in-Some.spot (IsSpot flat) c.in-Some.is c.in_ok-spot.ensures.at in
+    let found = way_found T settle home token trail (spot_whole flat c.in-Some.spot token at first) in
+    let so_far = ap (λ xs. joined inv.0 (steps_from T settle home here xs)) (sym (drop_at ss i s (omega arith) c.step-item.is)) ∙ inv.2 in
+    let seen = subst (λ b. Clean T c.loop-step.trace.visits c.settle.new.trace.visits (settle_by T (passed T b) here).seen) inv.4.0 k.seen in
+    let ends = subst (λ b. (settle_by T (passed T b) here).ends ≡ Some end.place) inv.4.0 k.ends in
+    let plain = settled_spot flat branch here end k.found ends in
+    let next = c.in-Some-2.next in
+    let place = some_case c.in_ok-next.field-0 next (λ x. x.place ≡ part end.place s) c.in-Some-2.is c.in_ok-next.ensures.place in
+    let there = some_case c.in_ok-next.field-0 next (IsSpot flat) c.in-Some-2.is (c.in_ok-next.ensures.at flat k.found plain) in
+    let written = ap is_written (subst (λ x. T x ≡ Some (content_view next.content)) place (spot_written flat next there)) in
+    let xs = inv.0 ++ (settle here).seen in
+    let turn = turn_on T settle home (steps_from T settle home (whole token) trail) here s (drop (i + 1) ss) inv.0 inv.1 so_far end.place ends written in
+    (xs, clean_append T inv.0 (settle here).seen inv.1 seen, ap (λ x. joined xs (steps_from T settle home x (drop (i + 1) ss))) place ∙ turn, there, (k.branch.0 ∙ inv.4.0, k.branch.1 ∙ inv.4.1))
+
+pub follow-returns-clause-seen : goal.follow-returns-clause-seen
+follow-returns-clause-seen t c =
+    let T = written_in c.args.flat.now in
+    let settle = settle_by T (passed T c.args.trace.now.places.items) in
+    let home = c.args.home.now in
+    let token = c.args.named.now.token in
+    let trail = c.args.named.now.trail in
+    let inv = c.loop-step.invariant in
+    let ss = c.as_slice-steps.result.now in
+    let place = some_case c.in_ok-spot.field-0 c.in-Some.spot (λ x. x.place ≡ whole token) c.in-Some.is c.in_ok-spot.ensures.place in
+    let at = some_case c.in_ok-spot.field-0 c.in-Some.spot (IsSpot c.args.flat.now) c.in-Some.is c.in_ok-spot.ensures.at in
+    let found = way_found T settle home token trail (spot_whole c.args.flat.now c.in-Some.spot token at place) in
+    let so_far = ap (λ xs. joined inv.0 (steps_from T settle home c.loop-step.spot.place xs)) (sym (drop_all ss c.loop-step.step-index (λ k. omega (arith, k)))) ∙ inv.2 in
+    let done = turns_done T settle home (steps_from T settle home (whole token) trail) c.loop-step.spot.place inv.0 so_far in
+    subst (λ w. Clean T c.args.trace.now.visits c.loop-step.trace.visits w.seen) (sym (found ∙ done)) inv.1
+
+pub follow-returns-clause-ends : goal.follow-returns-clause-ends
+follow-returns-clause-ends t c =
+    let T = written_in c.args.flat.now in
+    let settle = settle_by T (passed T c.args.trace.now.places.items) in
+    let home = c.args.home.now in
+    let token = c.args.named.now.token in
+    let trail = c.args.named.now.trail in
+    let inv = c.loop-step.invariant in
+    let ss = c.as_slice-steps.result.now in
+    let place = some_case c.in_ok-spot.field-0 c.in-Some.spot (λ x. x.place ≡ whole token) c.in-Some.is c.in_ok-spot.ensures.place in
+    let at = some_case c.in_ok-spot.field-0 c.in-Some.spot (IsSpot c.args.flat.now) c.in-Some.is c.in_ok-spot.ensures.at in
+    let found = way_found T settle home token trail (spot_whole c.args.flat.now c.in-Some.spot token at place) in
+    let so_far = ap (λ xs. joined inv.0 (steps_from T settle home c.loop-step.spot.place xs)) (sym (drop_all ss c.loop-step.step-index (λ k. omega (arith, k)))) ∙ inv.2 in
+    let done = turns_done T settle home (steps_from T settle home (whole token) trail) c.loop-step.spot.place inv.0 so_far in
+    ap (λ w. w.ends) (found ∙ done)
+
+pub pass-returns-in_err-enter-clause-seen : goal.pass-returns-in_err-enter-clause-seen
+pass-returns-in_err-enter-clause-seen t c =
+    let T = written_in c.args.flat.now in
+    let flat = c.args.flat.now in
+    let spot = c.args.spot in
+    let p = err_from_is_err_and c.from_residual.result c.from_residual.ensures.1 in
+    let is = spot_written flat spot c.requires.at in
+    let fault = passed-fault T c.in_err-enter.field-0.0 c.args.trace.now.visits c.args.trace.now.places.items spot.place (c.in_err-enter.ensures.broken flat T c.requires.starts (spot_start flat spot c.requires.at) is) in
+    rw (p.1, p.2) fault
+
+pub pass-pass_on-requires : goal.pass-pass_on-requires
+pass-pass_on-requires t c =
+    let T = written_in c.args.flat.now in
+    let flat = c.args.flat.now in
+    let spot = c.args.spot in
+    let is = spot_written flat spot c.requires.at in
+    let e = c.in_ok-enter.ensures in
+    let own = e.broken flat T c.requires.starts (spot_start flat spot c.requires.at) is in
+    let entered = enters T c.args.trace.now.visits c.args.trace.now.places.items spot.place own in
+    let grown : length c.enter.new.self.places.items ≡ length c.args.trace.now.places.items + 1 = ap length e.places ∙ length-append c.args.trace.now.places.items (spot.place ∷ []) in
+    let starts = starts_more (start_in flat) c.args.trace.now.places.items c.enter.new.self.places.items c.args.trace.now.starts.items c.enter.new.self.starts.items spot.place spot.start c.requires.starts e.places e.starts (spot_start flat spot c.requires.at) in
+    (omega (arith, entered.room, grown), (c.requires.at, (omega (arith, entered.room, grown), (starts, ap is_misspelled (sym is) ∙ entered.spelled))))
+
+pub pass-returns-in_err-end-clause-seen : goal.pass-returns-in_err-end-clause-seen
+pass-returns-in_err-end-clause-seen t c =
+    let T = written_in c.args.flat.now in
+    let flat = c.args.flat.now in
+    let spot = c.args.spot in
+    let p = err_from_is_err_and c.from_residual-in_err-end.result c.from_residual-in_err-end.ensures.1 in
+    let is = spot_written flat spot c.requires.at in
+    let e = c.in_ok-enter.ensures in
+    let own = e.broken flat T c.requires.starts (spot_start flat spot c.requires.at) is in
+    rw (p.1, p.2) (pass_fault T c.args.trace.now.visits c.args.trace.now.places.items c.enter.new.self.places.items spot.place (content_view spot.content) is own e.places e.counted c.in_err-end.field-0.0 c.in_err-end.ensures.seen)
+
+pub pass-returns-clause-seen : goal.pass-returns-clause-seen
+pass-returns-clause-seen t c =
+    let T = written_in c.args.flat.now in
+    let flat = c.args.flat.now in
+    let spot = c.args.spot in
+    let is = spot_written flat spot c.requires.at in
+    let e = c.in_ok-enter.ensures in
+    let own = e.broken flat T c.requires.starts (spot_start flat spot c.requires.at) is in
+    subst (λ k. Clean T c.args.trace.now.visits k (passed T c.args.trace.now.places.items spot.place).seen) (sym c.leave.ensures.visits)
+    (pass_clean T c.args.trace.now.visits c.args.trace.now.places.items c.enter.new.self.places.items spot.place (content_view spot.content) is own e.places e.counted c.in_ok-end.ensures.seen)
+
+pub pass-returns-clause-ends : goal.pass-returns-clause-ends
+pass-returns-clause-ends t c =
+    let T = written_in c.args.flat.now in
+    let flat = c.args.flat.now in
+    let spot = c.args.spot in
+    let is = spot_written flat spot c.requires.at in
+    let e = c.in_ok-enter.ensures in
+    let own = e.broken flat T c.requires.starts (spot_start flat spot c.requires.at) is in
+    pass_ends T c.args.trace.now.visits c.args.trace.now.places.items c.enter.new.self.places.items spot.place (content_view spot.content) is own e.places e.counted c.in_ok-end.end.place c.in_ok-end.ensures.ends
+
+pub pass_on-returns-in_err-target-clause-seen : goal.pass_on-returns-in_err-target-clause-seen
+pass_on-returns-in_err-target-clause-seen t c =
+    let T = written_in c.args.flat.now in
+    let settle = settle_by T (passed T c.args.trace.now.places.items) in
+    let spot = c.args.spot in
+    let token = c.in-Refers.named.token in
+    let trail = c.in-Refers.named.trail in
+    let is = ap content_view c.in-Refers.is in
+    let f = c.in_err-target.field-0.0 in
+    let p = err_from_is_err_and c.from_residual.result c.from_residual.ensures.1 in
+    rw (p.1, p.2) (subst (λ w. IsFault f (first_break T c.args.trace.now.visits (pass_written T settle spot.place (Some w)).seen)) (sym is)
+    (refers_fault T f c.args.trace.now.visits settle spot.place token trail c.in_err-target.ensures.seen))
+
+pub pass_on-returns-in-Refers-clause-seen : goal.pass_on-returns-in-Refers-clause-seen
+pass_on-returns-in-Refers-clause-seen t c =
+    let T = written_in c.args.flat.now in
+    let settle = settle_by T (passed T c.args.trace.now.places.items) in
+    let spot = c.args.spot in
+    let token = c.in-Refers.named.token in
+    let trail = c.in-Refers.named.trail in
+    let is = ap content_view c.in-Refers.is in
+    let k = c.in_ok-target.ensures in
+    let q = c.in_ok-target.target.place in
+    let seen = subst (λ b. Sees T (settle_by T (passed T b) q).seen c.follow.new.trace.visits c.settle.new.trace.visits c.settle.result) k.branch.0 c.settle.ensures.seen in
+    subst (λ x. Sees T (pass_written T settle spot.place (Some x)).seen c.args.trace.now.visits c.settle.new.trace.visits c.settle.result) (sym is)
+    (sees_by T (settle q).seen (pass_written T settle spot.place (Some (refers token trail))).seen c.settle.result
+    (λ d. refers_clean T settle spot.place q token trail k.ends k.seen d)
+    (λ f h. refers_then_fault T f settle spot.place q token trail k.ends k.seen h)
+    seen)
+
+pub pass_on-returns : goal.pass_on-returns
+pass_on-returns t c =
+    let T = written_in c.args.flat.now in
+    let settle = settle_by T (passed T c.args.trace.now.places.items) in
+    let spot = c.args.spot in
+    let stays = stays_there T settle spot.place spot.content (λ q e. c.in_default.not-Refers q e) c.requires.spelled in
+    record {
+      seen = subst (λ w. Clean T c.args.trace.now.visits c.args.trace.now.visits w.seen) (sym stays) (clean_nil T c.args.trace.now.visits);
+      ends = ap (λ w. w.ends) stays;
+      found = c.requires.at;
+      branch = (refl, refl);
+    }
+
+pub settle-returns-then-is_reference-clause-seen : goal.settle-returns-then-is_reference-clause-seen
+settle-returns-then-is_reference-clause-seen t c =
+    let T = written_in c.args.flat.now in
+    let pass = passed T c.args.trace.now.places.items in
+    let is = spot_written c.args.flat.now c.args.spot c.requires.at in
+    let refers = ap is_reference is ∙ sym c.is_reference.ensures ∙ c.if-is_reference.true in
+    subst (λ w. Sees T w.seen c.args.trace.now.visits c.pass.new.trace.visits c.pass.result) (sym (settle_passes T pass c.args.spot.place refers)) c.pass.ensures.seen
+
+pub settle-returns-then-is_reference-clause-ends : goal.settle-returns-then-is_reference-clause-ends
+settle-returns-then-is_reference-clause-ends t c =
+    let T = written_in c.args.flat.now in
+    let pass = passed T c.args.trace.now.places.items in
+    let is = spot_written c.args.flat.now c.args.spot c.requires.at in
+    let refers = ap is_reference is ∙ sym c.is_reference.ensures ∙ c.if-is_reference.true in
+    subst (λ w. IfOk c.pass.result (λ e. w.ends ≡ Some e.place)) (sym (settle_passes T pass c.args.spot.place refers)) c.pass.ensures.ends
+
+pub settle-returns-else-is_reference-clause-seen : goal.settle-returns-else-is_reference-clause-seen
+settle-returns-else-is_reference-clause-seen t c =
+    let T = written_in c.args.flat.now in
+    let pass = passed T c.args.trace.now.places.items in
+    let is = spot_written c.args.flat.now c.args.spot c.requires.at in
+    let stays = ap is_reference is ∙ sym c.is_reference.ensures ∙ c.if-is_reference.false in
+    subst (λ w. Clean T c.args.trace.now.visits c.args.trace.now.visits w.seen) (sym (settle_stays T pass c.args.spot.place stays)) (clean_nil T c.args.trace.now.visits)
+
+pub settle-returns-else-is_reference-clause-ends : goal.settle-returns-else-is_reference-clause-ends
+settle-returns-else-is_reference-clause-ends t c =
+    let T = written_in c.args.flat.now in
+    let pass = passed T c.args.trace.now.places.items in
+    let is = spot_written c.args.flat.now c.args.spot c.requires.at in
+    let stays = ap is_reference is ∙ sym c.is_reference.ensures ∙ c.if-is_reference.false in
+    ap (λ w. w.ends) (settle_stays T pass c.args.spot.place stays)

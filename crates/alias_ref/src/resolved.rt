@@ -1,0 +1,70 @@
+//! What tokens come to.
+
+ghost use Rattle.std.specs.Prelude.{◌≡◌, ◌+◌, Some, IfOk, IfErr};
+ghost use Rattle.std.specs.FinMap as map;
+ghost use Rattle.group_inherit.specs.Flattening.{Flattened};
+ghost use Rattle.alias_ref.specs.Answer.{IsResolved, IsRefBreak, HasRealRing};
+ghost use Rattle.alias_ref.specs.Written.{written_in};
+
+use crate::fault::{RefFault, RefRule};
+use crate::spot::whole_spot;
+use crate::trace::{Trace, broken};
+use crate::walking::walk;
+use group_inherit::Flat;
+use json_span::Plain;
+use name_path::{Kind, Links, Path, Place, Trail};
+use std::alloc::Global;
+use std::sync::ledger::Ledger;
+use tk_io::Steps;
+
+/// A token whose references are resolved.
+#[derive(Drop)]
+pub struct Resolved<'s> {
+    /// Its own `$type`; else the kind of the token that its whole value refers to; else the `$type` of the nearest group.
+    pub kind: Kind,
+    /// Its value without references.
+    pub plain: Plain<'s>,
+    /// The references without steps that are written in its value, in written order.
+    pub links: Links<'s>,
+}
+
+/// What the token of a path comes to (Format Module 2025.10, aliases, references and types). The flat tree holds the path.
+/// One step of `evals`, whatever it answers.
+///
+/// # Errors
+/// The first rule that the walk of the token's references breaks, in the order of the walk: [`RefRule::RefSyntax`],
+/// [`RefRule::RefTarget`], [`RefRule::Cycle`], [`RefRule::Deep`], [`RefRule::Big`]; else [`RefRule::NoType`] at the whole value
+/// where nothing gives the token a kind. [`RefFault::NoMemory`].
+pub fn evaluate<'s, N: Ledger>(
+    alloc: Global,
+    flat: &Flat<'s>,
+    path: &Path<'s>,
+    evals: &mut Steps<N>,
+) -> Result<Resolved<'s>, RefFault<'s>>
+    requires token { (f : Flattened) × (map.get flat.now path.now ≡ Some f) }
+    ensures step { evals.new ≡ evals.old + 1 }
+    ensures resolved { IfOk result (λ r. IsResolved flat.now path.now r) }
+    ensures broken { IfErr result (λ e. IsRefBreak flat.now path.now e) }
+    ensures ring { IfErr result (λ e. HasRealRing (written_in flat.now) e) }
+{
+    evals.tick();
+    let Some(spot) = whole_spot(alloc, flat, path)? else {
+        unreachable!()
+    };
+    let mut trace = Trace::new(alloc);
+    let mut links = Links::new(alloc);
+    let found = walk(alloc, flat, spot, true, &mut trace, &mut links)?;
+    let Some(kind) = found.kind else {
+        let token = path.copy()?;
+        let place = Place {
+            token,
+            trail: Trail::new(alloc),
+        };
+        return Err(broken(alloc, RefRule::NoType, &place));
+    };
+    Ok(Resolved {
+        kind,
+        plain: found.plain,
+        links,
+    })
+}

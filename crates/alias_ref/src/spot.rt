@@ -1,0 +1,112 @@
+//! Where a walk stands.
+
+ghost use Rattle.std.specs.Prelude.{◌≡◌, ◌<◌, ◌^◌, ℕ, Some, None, false, length, option_map, IfOk, IfSome, IfNone};
+ghost use Rattle.std.specs.FinMap as map;
+ghost use Rattle.alias_ref.specs.Written.{whole, part, part_under, is_reference};
+ghost use Rattle.alias_ref.specs.Laws.{Flat as FlatTree};
+ghost use Rattle.alias_ref.specs.inner.Contents.{content_view, content_parts, content_items};
+ghost use Rattle.alias_ref.specs.inner.Handles.{ref_view};
+ghost use Rattle.alias_ref.specs.inner.Spots.{IsSpot, IsPartAt};
+
+use crate::content::{Content, read_content};
+use crate::handles::NodeRef;
+use crate::index::item;
+use group_inherit::{Entry, Flat};
+use name_path::{Path, Place, Trail};
+use std::alloc::Global;
+use tk_io::{NoMemory, Text};
+
+/// A place, its token, the offset where its value starts, and what is written there.
+#[derive(Drop)]
+pub(crate) struct Spot<'a, 's> {
+    pub(crate) place: Place<'s>,
+    pub(crate) token: &'a Entry<'s>,
+    pub(crate) start: usize,
+    pub(crate) content: Content<'a, 's>,
+}
+
+/// The whole value of a token; none where there is no such token.
+pub(crate) fn whole_spot<'a, 's>(
+    alloc: Global,
+    flat: &'a Flat<'s>,
+    token: &Path<'s>,
+) -> Result<Option<Spot<'a, 's>>, NoMemory>
+    ensures place { IfOk result (λ o. IfSome o (λ s. s.place ≡ whole token.now)) }
+    ensures at { IfOk result (λ o. IfSome o (λ s. IsSpot flat.entry.now s)) }
+    ensures none { IfOk result (λ o. IfNone o (map.get flat.entry.now token.now ≡ None)) }
+{
+    let Some(entry) = flat.get(token) else {
+        return Ok(None);
+    };
+    entry.def.keeps();
+    let _ = entry.def.source.len();
+    let node = NodeRef::of(&entry.def.value);
+    let content = read_content(alloc, node, entry.def.by_ref)?;
+    let place = Place {
+        token: token.copy()?,
+        trail: Trail::new(alloc),
+    };
+    Ok(Some(Spot {
+        place,
+        token: entry,
+        start: node.start(),
+        content,
+    }))
+}
+
+/// The part behind a step.
+fn part_node<'a, 's>(content: &Content<'a, 's>, step: &str) -> Option<NodeRef<'a, 's>>
+    requires { length (content_items content.now) < 2 ^ 64 }
+    ensures { option_map ref_view result ≡ part_under step.now (content_parts content.now) }
+{
+    match content {
+        Content::Array(items) => item(*items, step),
+        Content::Object(fields) => fields.get(step),
+        Content::Leaf(_) | Content::Refers(_) | Content::Misspelled => None,
+    }
+}
+
+/// The part of a place behind a step, which leads to this value.
+pub(crate) fn part_spot<'a, 's>(
+    alloc: Global,
+    place: &Place<'s>,
+    token: &'a Entry<'s>,
+    step: &Text<'s>,
+    node: NodeRef<'a, 's>,
+) -> Result<Spot<'a, 's>, NoMemory>
+    ensures place { IfOk result (λ s. s.place ≡ part place.now step.now) }
+    ensures at { (flat : FlatTree) → IsPartAt flat place.now token.entry.now step.now (ref_view node.entry) → IfOk result (λ s. IsSpot flat s) }
+{
+    let content = read_content(alloc, node, false)?;
+    let Place {
+        token: path,
+        mut trail,
+    } = place.copy()?;
+    trail.push(step.copy()?)?;
+    Ok(Spot {
+        place: Place { token: path, trail },
+        token,
+        start: node.start(),
+        content,
+    })
+}
+
+impl<'a, 's> Spot<'a, 's> {
+    /// The part behind a step; none where the step leads to nothing.
+    pub(crate) fn part(
+        &self,
+        alloc: Global,
+        step: &Text<'s>,
+    ) -> Result<Option<Spot<'a, 's>>, NoMemory>
+        requires short { length (content_items self.now.content) < 2 ^ 64 }
+        ensures place { IfOk result (λ o. IfSome o (λ s. s.place ≡ part self.now.place step.now)) }
+        ensures at { (flat : FlatTree) → IsSpot flat self.now → is_reference (Some (content_view self.now.content)) ≡ false → IfOk result (λ o. IfSome o (λ s. IsSpot flat s)) }
+        ensures none { IfOk result (λ o. IfNone o (part_under step.now (content_parts self.now.content) ≡ None)) }
+    {
+        let Some(node) = part_node(&self.content, step.as_str()) else {
+            return Ok(None);
+        };
+        let spot = part_spot(alloc, &self.place, self.token, step, node)?;
+        Ok(Some(spot))
+    }
+}

@@ -1,0 +1,282 @@
+//! Small trees with the answer of every token, as an independent reader gives it.
+
+ghost use Rattle.std.specs.Prelude.{◌≡◌, ◌<◌};
+
+mod trees;
+
+use self::trees::TREES;
+use crate::{RefFault, RefRule, Resolved, evaluate, refs_of, span_of};
+use group_inherit::{Flat, flatten};
+use itoa::Buffer;
+use json_span::{Plain, PlainFields, PlainItems, read};
+use name_path::{Link, Path, Place, print_path, print_place};
+use std::alloc::Global;
+use std::marker::Brand;
+use std::str;
+use std::sync::ledger::{Blank, Ledger};
+use std::test::Fail;
+use tk_io::{Bytes, NoMemory, Steps, Text};
+use token_tree::{TokenDef, shape};
+
+fn append_texts(out: &mut Bytes, texts: &[Text<'_>]) -> Result<(), NoMemory> {
+    for text in texts {
+        out.append(b"/")?;
+        out.append(text.as_str().as_bytes())?;
+    }
+    Ok(())
+}
+
+#[cycle(printing)]
+fn append_plain(out: &mut Bytes, plain: &Plain<'_>, room: usize) -> Result<(), NoMemory> {
+    if room == 0 {
+        return Ok(());
+    }
+    match plain {
+        Plain::Null => out.append(b"null"),
+        Plain::Bool(truth) => out.append(if *truth { b"true" } else { b"false" }),
+        Plain::Num(spelling) => out.append(spelling.as_bytes()),
+        Plain::Str(text) => {
+            out.append(b"'")?;
+            out.append(text.as_str().as_bytes())?;
+            out.append(b"'")
+        }
+        Plain::Arr(items) => append_items(out, items, room - 1),
+        Plain::Obj(fields) => append_fields(out, fields, room - 1),
+    }
+}
+
+#[cycle(printing)]
+fn append_items(out: &mut Bytes, items: &PlainItems<'_>, room: usize) -> Result<(), NoMemory> {
+    out.append(b"[")?;
+    for i in 0..items.len() {
+        if let Some(item) = items.at(i) {
+            append_plain(out, item, room)?;
+        }
+        out.append(b",")?;
+    }
+    out.append(b"]")
+}
+
+#[cycle(printing)]
+fn append_fields(out: &mut Bytes, fields: &PlainFields<'_>, room: usize) -> Result<(), NoMemory> {
+    out.append(b"{")?;
+    for i in 0..fields.len() {
+        if let Some(field) = fields.at(i) {
+            out.append(field.name.as_str().as_bytes())?;
+            out.append(b":")?;
+            append_plain(out, &field.value, room)?;
+        }
+        out.append(b",")?;
+    }
+    out.append(b"}")
+}
+
+fn append_link(out: &mut Bytes, link: &Link<'_>) -> Result<(), NoMemory> {
+    out.append(b" ")?;
+    append_texts(out, link.trail.as_slice())?;
+    out.append(b">")?;
+    print_path(&link.target, out)?;
+    out.append(b":")?;
+    match link.kind {
+        Some(kind) => out.append(kind.name().as_bytes()),
+        None => out.append(b"-"),
+    }
+}
+
+fn append_resolved(out: &mut Bytes, resolved: &Resolved<'_>) -> Result<(), NoMemory> {
+    out.append(resolved.kind.name().as_bytes())?;
+    out.append(b" ")?;
+    append_plain(out, &resolved.plain, 64)?;
+    for link in resolved.links.as_slice() {
+        append_link(out, link)?;
+    }
+    Ok(())
+}
+
+fn rule_name(rule: RefRule) -> &'static str {
+    match rule {
+        RefRule::RefSyntax => "syntax",
+        RefRule::RefTarget => "target",
+        RefRule::Cycle => "cycle",
+        RefRule::Deep => "depth",
+        RefRule::Big => "size",
+        RefRule::NoType => "type",
+    }
+}
+
+fn append_broken(
+    out: &mut Bytes,
+    rule: RefRule,
+    place: &Place<'_>,
+    ring: &[Place<'_>],
+) -> Result<(), NoMemory> {
+    out.append(rule_name(rule).as_bytes())?;
+    out.append(b" ")?;
+    print_place(place, out)?;
+    for place in ring {
+        out.append(b" ")?;
+        print_place(place, out)?;
+    }
+    Ok(())
+}
+
+fn append_number(out: &mut Bytes, number: usize) -> Result<(), NoMemory> {
+    let mut buffer = Buffer::new();
+    out.append(buffer.format(number).as_bytes())
+}
+
+fn append_span(out: &mut Bytes, flat: &Flat<'_>, place: &Place<'_>) -> Result<(), NoMemory> {
+    if flat.get(&place.token).is_none() {
+        return Ok(());
+    }
+    let (start, end) = span_of(flat, place);
+    out.append(b" ")?;
+    append_number(out, start)?;
+    out.append(b"-")?;
+    append_number(out, end)
+}
+
+fn append_refs(alloc: Global, out: &mut Bytes, def: &TokenDef<'_>) -> Result<(), NoMemory> {
+    let paths = refs_of(alloc, def)?;
+    out.append(b" [")?;
+    for path in paths.as_slice() {
+        print_path(path, out)?;
+        out.append(b" ")?;
+    }
+    out.append(b"];")
+}
+
+fn append_answer<'s, L: Ledger>(
+    alloc: Global,
+    out: &mut Bytes,
+    flat: &Flat<'s>,
+    path: &Path<'s>,
+    evals: &mut Steps<L>,
+) -> Result<(), NoMemory> {
+    let Some(entry) = flat.get(path) else {
+        return Ok(());
+    };
+    print_path(path, out)?;
+    out.append(b" ")?;
+    let answer = evaluate(alloc, flat, path, evals);
+    match answer {
+        Ok(resolved) => append_resolved(out, &resolved)?,
+        Err(RefFault::Broken { rule, place, ring }) => {
+            append_broken(out, rule, &place, ring.as_slice())?;
+            append_span(out, flat, &place)?;
+        }
+        Err(RefFault::NoMemory) => return Err(NoMemory),
+    }
+    append_refs(alloc, out, &entry.def)
+}
+
+/// The answers of the first tokens of a file, in path order; none where it has no flat tree.
+fn answers<L: Ledger>(alloc: Global, text: &[u8], most: usize, page: Blank) -> Option<Bytes>
+    requires page { (page.name ≡ L.name) × (page.parts ≡ L.parts) × (0 < L.parts) }
+{
+    let mut steps: Steps<L> = Steps::new(page);
+    let text = str::from_utf8(text).ok()?;
+    let Ok(root) = read(alloc, text, &mut steps) else {
+        return None;
+    };
+    let Ok(group) = shape(alloc, "t", text, &root) else {
+        return None;
+    };
+    let Ok(flat) = flatten(alloc, &group, &mut steps) else {
+        return None;
+    };
+    let mut out = Bytes::new(alloc);
+    for (i, (path, _)) in flat.entries(alloc).ok()?.as_slice().iter().enumerate() {
+        if i < most {
+            append_answer(alloc, &mut out, &flat, path, &mut steps).ok()?;
+        }
+    }
+    Some(out)
+}
+
+fn answers_of(alloc: Global, text: &[u8], most: usize) -> Option<Bytes> {
+    answers::<Brand>(alloc, text, most, Blank::new(1))
+}
+
+#[test]
+fn answers_the_tokens_of_small_trees(rt: HostRuntime) -> Result<(), Fail> {
+    let alloc = rt.alloc();
+    for (text, expected) in &TREES {
+        let answer = answers_of(alloc, text.as_bytes(), 100).expect(
+            &rt,
+            "the file has a flat tree",
+        );
+        assert_eq!(rt; answer.as_slice(), expected.as_bytes(), "{text}");
+    }
+    Ok(())
+}
+
+/// Tokens each but the last of which is an alias of the next.
+fn chain(alloc: Global, last: usize) -> Result<Bytes, NoMemory> {
+    let mut out = Bytes::new(alloc);
+    out.append(b"{\"$type\":\"number\"")?;
+    for i in 0..last {
+        out.append(b",\"n")?;
+        append_number(&mut out, i)?;
+        out.append(b"\":{\"$value\":\"{n")?;
+        append_number(&mut out, i + 1)?;
+        out.append(b"}\"}")?;
+    }
+    out.append(b",\"n")?;
+    append_number(&mut out, last)?;
+    out.append(b"\":{\"$value\":1}}")?;
+    Ok(out)
+}
+
+/// A token with one text and so many more.
+fn texts(alloc: Global, more: usize) -> Result<Bytes, NoMemory> {
+    let mut out = Bytes::new(alloc);
+    out.append(b"{\"f\":{\"$type\":\"fontFamily\",\"$value\":[\"x\"")?;
+    for _ in 0..more {
+        out.append(b",\"x\"")?;
+    }
+    out.append(b"]}}")?;
+    Ok(out)
+}
+
+/// A token that would need more than two to the power of so many visits.
+fn doubling(alloc: Global, power: usize) -> Result<Bytes, NoMemory> {
+    let mut out = Bytes::new(alloc);
+    out.append(b"{\"c\":{\"$type\":\"number\",\"$value\":{\"$ref\":\"#/z/$value/x")?;
+    append_number(&mut out, power)?;
+    out.append(b"/n\"}},\"z\":{\"$value\":{\"n\":1,\"x0\":{\"$ref\":\"#/z/$value\"}")?;
+    for i in 0..power {
+        out.append(b",\"x")?;
+        append_number(&mut out, i + 1)?;
+        out.append(b"\":{\"$ref\":\"#/z/$value/x")?;
+        append_number(&mut out, i)?;
+        out.append(b"/x")?;
+        append_number(&mut out, i)?;
+        out.append(b"\"}")?;
+    }
+    out.append(b"}}}")?;
+    Ok(out)
+}
+
+#[test]
+fn answers_the_largest_walks(rt: HostRuntime) -> Result<(), Fail> {
+    let alloc = rt.alloc();
+    let rows = [
+        (chain(alloc, 255)?, "n0 number 1 >n1:number [n1 ];"),
+        (
+            chain(alloc, 256)?,
+            "n0 depth #/n256/$value 6729-6730 [n1 ];",
+        ),
+        (texts(alloc, 1022)?, "f fontFamily ['x','x',"),
+        (texts(alloc, 1023)?, "f size #/f/$value/1023 4129-4132 [];"),
+        (doubling(alloc, 40)?, "c size #/z/$value/x4 213-240 [z ];"),
+    ];
+    for (text, expected) in &rows {
+        let answer = answers_of(alloc, text.as_slice(), 1).expect(&rt, "the file has a flat tree");
+        assert!(rt;
+            answer.as_slice().starts_with(expected.as_bytes()),
+            "{expected}"
+        );
+    }
+    Ok(())
+}

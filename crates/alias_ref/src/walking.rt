@@ -1,0 +1,249 @@
+//! The walk of a value: its meaning, and the first rule that it breaks.
+
+ghost use Rattle.std.specs.Prelude.{◌≡◌, ◌≤◌, ◌++◌, List, [], map, length, Some, false, IfOk, OnOk};
+ghost use Rattle.json_span.specs.PlainView.{plain_view, plain_items_view, plain_fields_view, Entry as PlainEntry};
+ghost use Rattle.group_inherit.specs.Merging.{either};
+ghost use Rattle.alias_ref.specs.Written.{written_in, is_misspelled, part, numbered, named, steps_of};
+ghost use Rattle.alias_ref.specs.Meaning.{Means, EachMeans};
+ghost use Rattle.alias_ref.specs.Visits.{settle_by, passed, walked, walk_written, visits_each};
+ghost use Rattle.alias_ref.specs.Kinds.{KindOf, own_in, group_in};
+ghost use Rattle.alias_ref.specs.inner.Contents.{content_view};
+ghost use Rattle.alias_ref.specs.inner.Handles.{ref_view, items_view, fields_view};
+ghost use Rattle.alias_ref.specs.inner.Linking.{lent, added};
+ghost use Rattle.alias_ref.specs.inner.Seen.{Sees};
+ghost use Rattle.alias_ref.specs.inner.Spots.{IsSpot, IsHolder, IsPartAt, HasStarts, IsSameBranch, HasGrown, HasGrownEach};
+
+use crate::content::Content;
+use crate::fault::RefFault;
+use crate::handles::{Fields, Items, NodeRef};
+use crate::index::index_text;
+use crate::passing::follow;
+use crate::spot::{Spot, part_spot};
+use crate::trace::Trace;
+use group_inherit::{Entry, Flat};
+use json_span::{Plain, PlainField, PlainFields, PlainItems};
+use name_path::{Kind, Link, Links, Place};
+use std::alloc::Global;
+use tk_io::{NoMemory, Text};
+
+/// What a walk finds at a place: the value without references, and the kind of the token whose whole value it is.
+#[derive(Drop)]
+pub(crate) struct Found<'s> {
+    pub(crate) plain: Plain<'s>,
+    pub(crate) kind: Option<Kind>,
+}
+
+/// The kind of a token, where what its whole value refers to lends this one.
+fn kind_here(token: &Entry<'_>, lent: Option<Kind>) -> Option<Kind>
+    ensures { result ≡ either token.now.def.kind (either lent token.now.group_kind) }
+{
+    token.def.kind.or(lent).or(token.group_kind)
+}
+
+/// What a reference at a place makes of what its target gives.
+fn refer<'s>(
+    place: &Place<'s>,
+    token: &Entry<'s>,
+    named: Place<'s>,
+    own: bool,
+    found: Found<'s>,
+    links: &mut Links<'s>,
+) -> Result<Found<'s>, NoMemory>
+    ensures plain { IfOk result (λ o. o.plain ≡ found.entry.plain) }
+    ensures kind { IfOk result (λ o. o.kind ≡ either token.now.def.kind (either (lent found.entry.kind named.entry.trail) token.now.group_kind)) }
+    ensures links { OnOk result (links.new ≡ links.old ++ added own place.now named.entry.token found.entry.kind named.entry.trail) }
+{
+    let kind = found.kind;
+    if named.trail.len() > 0 {
+        return Ok(Found {
+            plain: found.plain,
+            kind: kind_here(token, None),
+        });
+    }
+    if own {
+        links.push(Link {
+            trail: place.trail.copy()?,
+            target: named.token,
+            kind,
+        })?;
+    }
+    Ok(Found {
+        plain: found.plain,
+        kind: kind_here(token, kind),
+    })
+}
+
+/// Walks a place. `own` says that it is written in the token whose links are listed.
+#[cycle(walking)]
+pub(crate) fn walk<'a, 's>(
+    alloc: Global,
+    flat: &'a Flat<'s>,
+    spot: Spot<'a, 's>,
+    own: bool,
+    trace: &mut Trace<'s>,
+    links: &mut Links<'s>,
+) -> Result<Found<'s>, RefFault<'s>>
+    requires at { IsSpot flat.now spot }
+    requires room { length trace.old.places.items ≤ 256 }
+    requires starts { HasStarts flat.now trace.old }
+    ensures seen { Sees (written_in flat.entry.now) (walked (written_in flat.entry.now) trace.old.places.items spot.entry.place) trace.old.visits trace.new.visits result }
+    ensures means { IfOk result (λ v. Means (written_in flat.entry.now) spot.entry.place (plain_view v.plain)) }
+    ensures kind { IfOk result (λ v. spot.entry.place.trail ≡ [] → KindOf (written_in flat.entry.now) (own_in flat.entry.now) (group_in flat.entry.now) spot.entry.place.token v.kind) }
+    ensures links { OnOk result (HasGrown own (written_in flat.entry.now) (own_in flat.entry.now) (group_in flat.entry.now) spot.entry.place links.old links.new) }
+    ensures branch { OnOk result (IsSameBranch trace.old trace.new) }
+{
+    trace.enter(alloc, &spot)?;
+    let found = walk_on(alloc, flat, spot, own, trace, links)?;
+    trace.leave();
+    Ok(found)
+}
+
+/// What walking a place asks for, once it stands on the branch.
+#[cycle(walking)]
+fn walk_on<'a, 's>(
+    alloc: Global,
+    flat: &'a Flat<'s>,
+    spot: Spot<'a, 's>,
+    own: bool,
+    trace: &mut Trace<'s>,
+    links: &mut Links<'s>,
+) -> Result<Found<'s>, RefFault<'s>>
+    requires at { IsSpot flat.now spot }
+    requires room { length trace.old.places.items ≤ 256 }
+    requires starts { HasStarts flat.now trace.old }
+    requires spelled { is_misspelled (Some (content_view spot.content)) ≡ false }
+    ensures seen { Sees (written_in flat.entry.now) (walk_written (written_in flat.entry.now) (settle_by (written_in flat.entry.now) (passed (written_in flat.entry.now) trace.old.places.items)) (walked (written_in flat.entry.now) trace.old.places.items) spot.entry.place (Some (content_view spot.entry.content))) trace.old.visits trace.new.visits result }
+    ensures means { IfOk result (λ v. Means (written_in flat.entry.now) spot.entry.place (plain_view v.plain)) }
+    ensures kind { IfOk result (λ v. spot.entry.place.trail ≡ [] → KindOf (written_in flat.entry.now) (own_in flat.entry.now) (group_in flat.entry.now) spot.entry.place.token v.kind) }
+    ensures links { OnOk result (HasGrown own (written_in flat.entry.now) (own_in flat.entry.now) (group_in flat.entry.now) spot.entry.place links.old links.new) }
+    ensures branch { OnOk result (IsSameBranch trace.old trace.new) }
+{
+    let Spot {
+        place,
+        token,
+        start: _,
+        content,
+    } = spot;
+    match content {
+        Content::Leaf(plain) => Ok(Found {
+            plain,
+            kind: kind_here(token, None),
+        }),
+        Content::Array(items) => {
+            let list = walk_items(alloc, flat, &place, token, items, own, trace, links)?;
+            Ok(Found {
+                plain: Plain::Arr(list),
+                kind: kind_here(token, None),
+            })
+        }
+        Content::Object(fields) => {
+            let list = walk_fields(alloc, flat, &place, token, fields, own, trace, links)?;
+            Ok(Found {
+                plain: Plain::Obj(list),
+                kind: kind_here(token, None),
+            })
+        }
+        Content::Refers(named) => {
+            let target = follow(alloc, flat, &place, &named, trace)?;
+            let found = walk(alloc, flat, target, false, trace, links)?;
+            Ok(refer(&place, token, named, own, found, links)?)
+        }
+        Content::Misspelled => unreachable!(),
+    }
+}
+
+/// Walks the items of an array, in order.
+#[cycle(walking)]
+fn walk_items<'a, 's>(
+    alloc: Global,
+    flat: &'a Flat<'s>,
+    place: &Place<'s>,
+    token: &'a Entry<'s>,
+    items: Items<'a, 's>,
+    own: bool,
+    trace: &mut Trace<'s>,
+    links: &mut Links<'s>,
+) -> Result<PlainItems<'s>, RefFault<'s>>
+    requires at { IsHolder flat.now place.now token.now (numbered 0 (items_view items)) }
+    requires room { length trace.old.places.items ≤ 256 }
+    requires starts { HasStarts flat.now trace.old }
+    ensures seen { Sees (written_in flat.entry.now) (visits_each (walked (written_in flat.entry.now) trace.old.places.items) place.now (steps_of (numbered 0 (items_view items.entry)))) trace.old.visits trace.new.visits result }
+    ensures means { IfOk result (λ l. (es : List PlainEntry) × EachMeans (written_in flat.entry.now) place.now (steps_of (numbered 0 (items_view items.entry))) es × (plain_items_view l ≡ map (λ e. e.value) es)) }
+    ensures links { OnOk result (HasGrownEach own (written_in flat.entry.now) (own_in flat.entry.now) (group_in flat.entry.now) place.now (steps_of (numbered 0 (items_view items.entry))) links.old links.new) }
+    ensures branch { OnOk result (IsSameBranch trace.old trace.new) }
+{
+    let mut list = PlainItems::new(alloc);
+    let mut index: usize = 0;
+    for node in items {
+        let step = index_text(alloc, index)?;
+        let plain = walk_part(alloc, flat, place, token, &step, node, own, trace, links)?;
+        list.push(plain)?;
+        index += 1;
+    }
+    Ok(list)
+}
+
+/// Walks the members of an object, in order.
+#[cycle(walking)]
+fn walk_fields<'a, 's>(
+    alloc: Global,
+    flat: &'a Flat<'s>,
+    place: &Place<'s>,
+    token: &'a Entry<'s>,
+    fields: Fields<'a, 's>,
+    own: bool,
+    trace: &mut Trace<'s>,
+    links: &mut Links<'s>,
+) -> Result<PlainFields<'s>, RefFault<'s>>
+    requires at { IsHolder flat.now place.now token.now (named (fields_view fields)) }
+    requires room { length trace.old.places.items ≤ 256 }
+    requires starts { HasStarts flat.now trace.old }
+    ensures seen { Sees (written_in flat.entry.now) (visits_each (walked (written_in flat.entry.now) trace.old.places.items) place.now (steps_of (named (fields_view fields.entry)))) trace.old.visits trace.new.visits result }
+    ensures means { IfOk result (λ l. EachMeans (written_in flat.entry.now) place.now (steps_of (named (fields_view fields.entry))) (plain_fields_view l)) }
+    ensures links { OnOk result (HasGrownEach own (written_in flat.entry.now) (own_in flat.entry.now) (group_in flat.entry.now) place.now (steps_of (named (fields_view fields.entry))) links.old links.new) }
+    ensures branch { OnOk result (IsSameBranch trace.old trace.new) }
+{
+    let mut list = PlainFields::new(alloc);
+    for field in fields {
+        let name = field.name(alloc)?;
+        let value = walk_part(
+            alloc,
+            flat,
+            place,
+            token,
+            &name,
+            field.value(),
+            own,
+            trace,
+            links,
+        )?;
+        list.push(PlainField { name, value })?;
+    }
+    Ok(list)
+}
+
+/// Walks the part behind a step.
+#[cycle(walking)]
+fn walk_part<'a, 's>(
+    alloc: Global,
+    flat: &'a Flat<'s>,
+    place: &Place<'s>,
+    token: &'a Entry<'s>,
+    step: &Text<'s>,
+    node: NodeRef<'a, 's>,
+    own: bool,
+    trace: &mut Trace<'s>,
+    links: &mut Links<'s>,
+) -> Result<Plain<'s>, RefFault<'s>>
+    requires at { IsPartAt flat.now place.now token.now step.now (ref_view node) }
+    requires room { length trace.old.places.items ≤ 256 }
+    requires starts { HasStarts flat.now trace.old }
+    ensures seen { Sees (written_in flat.entry.now) (walked (written_in flat.entry.now) trace.old.places.items (part place.now step.now)) trace.old.visits trace.new.visits result }
+    ensures means { IfOk result (λ v. Means (written_in flat.entry.now) (part place.now step.now) (plain_view v)) }
+    ensures links { OnOk result (HasGrown own (written_in flat.entry.now) (own_in flat.entry.now) (group_in flat.entry.now) (part place.now step.now) links.old links.new) }
+    ensures branch { OnOk result (IsSameBranch trace.old trace.new) }
+{
+    let spot = part_spot(alloc, place, token, step, node)?;
+    let found = walk(alloc, flat, spot, own, trace, links)?;
+    Ok(found.plain)
+}
