@@ -21,7 +21,6 @@ pub mod LinksAreReal
 pub mod BreaksAreReal
 pub mod VisitsAreSound
 pub mod ContentsOfValues
-pub mod HandlesInTurn
 pub mod IndexedItems
 pub mod SoundValues
 pub mod SpotsStand

@@ -1,5 +1,5 @@
 -- The parts of a place, one after the other: their visits, meanings and links.
-use Rattle.std.proofs.Common.{◌≡◌, ℕ, List, [], ◌∷◌, ◌++◌, Bool, true, false, Option, Some, refl, sym, ap, ◌∙◌, subst, append_assoc, append-nil}
+use Rattle.std.proofs.Common.{◌≡◌, ℕ, List, [], ◌∷◌, ◌++◌, Bool, true, false, Option, Some, map, refl, sym, ap, ◌∙◌, subst, append_assoc, append-nil}
 use Rattle.name_path.specs.declared.kind.Kind.{Kind}
 use Rattle.name_path.specs.declared.link.Link.{Link}
 use Rattle.name_path.specs.declared.place.Place.{Place}
@@ -142,3 +142,7 @@ with_rest {T} {own} {kinds} {groups} {branch} {p} {all} {ps} {n} {m} {es} {old} 
 pub with_entries : {T : Tokens} {own : Bool} {kinds groups : Kinds} {branch : List Place} {p : Place} {all ps : Parts} {n m : ℕ} {es : List Entry} {old new : List Link} → PartsWalked T own kinds groups branch p all ps n m es old new → (gs : List Entry) → es ≡ gs
     → PartsWalked T own kinds groups branch p all ps n m gs old new
 with_entries {T} {own} {kinds} {groups} {branch} {p} {all} {ps} {n} {m} {es} {old} {new} w gs e = subst (λ xs. PartsWalked T own kinds groups branch p all ps n m xs old new) e w
+
+pub push_map : {A B : Type 0} (f : A → B) (xs : List A) (x : A) → map f (xs ++ x ∷ []) ≡ map f xs ++ f x ∷ []
+push_map f [] x = refl
+push_map f (y ∷ xs) x = ap (λ l. f y ∷ l) (push_map f xs x)

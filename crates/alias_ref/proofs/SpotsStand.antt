@@ -13,7 +13,7 @@ use Rattle.alias_ref.specs.Visits.{Way, ends_at, settle_by, passed, pass_written
 use Rattle.alias_ref.specs.Laws.{Flat}
 use Rattle.alias_ref.specs.inner.Contents.{content_view, content_parts, content_items, role_of, IsContent}
 use Rattle.alias_ref.specs.inner.Spots.{Stands, IsSound, IsSpot, IsPartAt, IsHolder, start_in}
-use Rattle.alias_ref.specs.inner.Handles.{items_view}
+use Rattle.json_span.specs.View.{items_view}
 use Rattle.alias_ref.specs.declared.content.Content.{Content}
 use Rattle.alias_ref.specs.declared.content.Content.TheVariants as content
 use Rattle.alias_ref.specs.declared.spot.Spot.{Spot}

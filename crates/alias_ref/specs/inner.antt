@@ -1,6 +1,5 @@
 pub mod Seen
 pub mod Linking
-pub mod Handles
 pub mod Contents
 pub mod Spots
 pub mod Turns

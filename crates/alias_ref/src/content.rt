@@ -7,10 +7,9 @@ ghost use Rattle.token_tree.specs.Shape.{has};
 ghost use Rattle.alias_ref.specs.References.{is_curly, alias_named, place_named};
 ghost use Rattle.alias_ref.specs.Written.{Role, of_value, of_token, spelled, whole, named, text_written, object_pointed, object_written, written_as, is_misspelled, is_reference, part_under};
 ghost use Rattle.alias_ref.specs.inner.Contents.{content_view, content_parts, IsContent, role_of};
-ghost use Rattle.alias_ref.specs.inner.Handles.{ref_view, json_view, fields_view};
+ghost use Rattle.json_span.specs.View.{ref_view, json_view, fields_view};
 
-use crate::handles::{Fields, Items, NodeRef};
-use json_span::Plain;
+use json_span::{Fields, Items, NodeRef, Plain};
 use name_path::{Place, RefStop, Trail, read_curly, read_pointer};
 use std::alloc::Global;
 use tk_io::{NoMemory, Text};

@@ -3,10 +3,10 @@
 ghost use Rattle.std.specs.Prelude.{◌≡◌, ◌≢◌, ◌<◌, ◌^◌, ℕ, length, slice_get, option_map, IfOk, IfSome, IfNone};
 ghost use Rattle.std.specs.Fmt.{decimal};
 ghost use Rattle.alias_ref.specs.Written.{numbered, part_under};
-ghost use Rattle.alias_ref.specs.inner.Handles.{ref_view, items_view};
+ghost use Rattle.json_span.specs.View.{ref_view, items_view};
 
-use crate::handles::{Items, NodeRef};
 use itoa::Buffer;
+use json_span::{Items, NodeRef};
 use std::alloc::Global;
 use tk_io::{NoMemory, Text};
 

@@ -4,7 +4,6 @@
 
 mod content;
 mod fault;
-mod handles;
 mod index;
 mod laws;
 mod passing;

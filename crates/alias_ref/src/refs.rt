@@ -4,11 +4,11 @@ ghost use Rattle.std.specs.Prelude.{◌≡◌, ◌++◌, IfOk, OnOk};
 ghost use Rattle.alias_ref.specs.Written.{role_behind};
 ghost use Rattle.alias_ref.specs.Refs.{named_by, refs_in, refs_of};
 ghost use Rattle.alias_ref.specs.inner.Contents.{content_view, role_of};
-ghost use Rattle.alias_ref.specs.inner.Handles.{ref_view, field_view, items_view, fields_view};
+ghost use Rattle.json_span.specs.View.{ref_view, field_view, items_view, fields_view};
 ghost use Rattle.alias_ref.specs.inner.Steps.{items_refs, entries_refs};
 
 use crate::content::{Content, read_content};
-use crate::handles::{Field, Fields, Items, NodeRef};
+use json_span::{Field, Fields, Items, NodeRef};
 use name_path::Paths;
 use std::alloc::Global;
 use tk_io::NoMemory;
@@ -19,7 +19,7 @@ pub fn refs_of<'s>(alloc: Global, def: &TokenDef<'s>) -> Result<Paths<'s>, NoMem
     ensures { IfOk result (λ paths. paths ≡ refs_of def.now) }
 {
     let mut paths = Paths::new(alloc);
-    add_refs(alloc, NodeRef::of(&def.value), def.by_ref, &mut paths)?;
+    add_refs(alloc, def.value.as_ref(), def.by_ref, &mut paths)?;
     Ok(paths)
 }
 

@@ -6,12 +6,12 @@ ghost use Rattle.group_inherit.specs.Flattening.{Flattened};
 ghost use Rattle.json_span.specs.Tree.{Placed, array_in};
 ghost use Rattle.alias_ref.specs.Span.{span_in};
 ghost use Rattle.alias_ref.specs.Written.{Role};
-ghost use Rattle.alias_ref.specs.inner.Handles.{ref_view, json_view};
+ghost use Rattle.json_span.specs.View.{ref_view, json_view};
 ghost use Rattle.alias_ref.specs.inner.Steps.{next_in};
 
-use crate::handles::NodeRef;
 use crate::index::item;
 use group_inherit::Flat;
+use json_span::NodeRef;
 use name_path::Place;
 
 /// The byte offsets of a place in the file of its token's definition: the steps are followed in the written value until they
@@ -25,7 +25,7 @@ pub fn span_of<'s>(flat: &Flat<'s>, place: &Place<'s>) -> (usize, usize)
     };
     entry.def.keeps();
     let _ = entry.def.source.len();
-    let mut node = NodeRef::of(&entry.def.value);
+    let mut node = entry.def.value.as_ref();
     let steps = place.trail.as_slice();
     for step in steps {
         let Some(next) = next_node(node, step.as_str()) else {

@@ -5,13 +5,13 @@ ghost use Rattle.std.specs.FinMap as map;
 ghost use Rattle.alias_ref.specs.Written.{whole, part, part_under, is_reference};
 ghost use Rattle.alias_ref.specs.Laws.{Flat as FlatTree};
 ghost use Rattle.alias_ref.specs.inner.Contents.{content_view, content_parts, content_items};
-ghost use Rattle.alias_ref.specs.inner.Handles.{ref_view};
+ghost use Rattle.json_span.specs.View.{ref_view};
 ghost use Rattle.alias_ref.specs.inner.Spots.{IsSpot, IsPartAt};
 
 use crate::content::{Content, read_content};
-use crate::handles::NodeRef;
 use crate::index::item;
 use group_inherit::{Entry, Flat};
+use json_span::NodeRef;
 use name_path::{Path, Place, Trail};
 use std::alloc::Global;
 use tk_io::{NoMemory, Text};
@@ -40,7 +40,7 @@ pub(crate) fn whole_spot<'a, 's>(
     };
     entry.def.keeps();
     let _ = entry.def.source.len();
-    let node = NodeRef::of(&entry.def.value);
+    let node = entry.def.value.as_ref();
     let content = read_content(alloc, node, entry.def.by_ref)?;
     let place = Place {
         token: token.copy()?,

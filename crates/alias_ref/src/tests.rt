@@ -186,9 +186,9 @@ fn answers<L: Ledger>(alloc: Global, text: &[u8], most: usize, page: Blank) -> O
         return None;
     };
     let mut out = Bytes::new(alloc);
-    for (i, (path, _)) in flat.entries(alloc).ok()?.as_slice().iter().enumerate() {
+    for (i, entry) in flat.as_slice().iter().enumerate() {
         if i < most {
-            append_answer(alloc, &mut out, &flat, path, &mut steps).ok()?;
+            append_answer(alloc, &mut out, &flat, &entry.0, &mut steps).ok()?;
         }
     }
     Some(out)

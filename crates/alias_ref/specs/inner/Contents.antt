@@ -3,7 +3,7 @@ use Rattle.std.specs.Prelude.{◌≡◌, List, [], Bool, true, false, Some}
 use Rattle.json_span.specs.Tree.{Tree, Placed}
 use Rattle.json_span.specs.PlainView.{plain_view}
 use Rattle.alias_ref.specs.Written.{Written, leaf, parts, refers, misspelled, array, object, Parts, numbered, named, parts_of, steps_of, Role, of_value, of_token, written_as, is_reference}
-use Rattle.alias_ref.specs.inner.Handles.{items_view, fields_view}
+use Rattle.json_span.specs.View.{items_view, fields_view}
 use Rattle.alias_ref.specs.declared.content.Content.{Content}
 use Rattle.alias_ref.specs.declared.content.Content.TheVariants as content
 

@@ -1,6 +1,6 @@
 use Rattle.std.proofs.Common.{sym, ap, ◌∙◌, option_map}
 use Rattle.alias_ref.specs.inner.Contents.{role_of}
-use Rattle.alias_ref.specs.inner.Handles.{json_view, fields_view}
+use Rattle.json_span.specs.View.{json_view, fields_view}
 use Rattle.alias_ref.proofs.ContentsOfValues.{object_content}
 use Rattle.alias_ref.proofs.content.read_content.Goals as goal
 

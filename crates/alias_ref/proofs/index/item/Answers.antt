@@ -1,5 +1,5 @@
 use Rattle.std.proofs.Common.{rules, ◌<◌, ◌^◌, sym, ap, ◌∙◌, option_map, arith}
-use Rattle.alias_ref.specs.inner.Handles.{ref_view, items_view}
+use Rattle.json_span.specs.View.{ref_view, items_view}
 use Rattle.alias_ref.proofs.IndexedItems.{no_item, item_is}
 use Rattle.alias_ref.proofs.index.item.Goals as goal
 

@@ -1,6 +1,6 @@
 use Rattle.std.proofs.Common.{◌≡◌}
 use Rattle.std.specs.Prelude.{slice_get}
-use Rattle.alias_ref.specs.inner.Handles.{items_view}
+use Rattle.json_span.specs.View.{items_view}
 use Rattle.alias_ref.proofs.index.nth.Given as goal
 
 abbrev pub invariant-loop-node : goal.invariant-loop-node

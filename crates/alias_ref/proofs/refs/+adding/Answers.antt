@@ -3,7 +3,7 @@ use Rattle.std.proofs.lemmas.Result.{on_ok_weaker}
 use Rattle.json_span.specs.Tree.{array_in, object_in}
 use Rattle.alias_ref.specs.Refs.{named_by, refs_in}
 use Rattle.alias_ref.specs.inner.Contents.{content_view, role_of}
-use Rattle.alias_ref.specs.inner.Handles.{ref_view, json_view, items_view, fields_view}
+use Rattle.json_span.specs.View.{ref_view, json_view, items_view, fields_view}
 use Rattle.alias_ref.specs.inner.Steps.{items_refs, entries_refs}
 use Rattle.alias_ref.proofs.RefsInTurn.{added_then, refs_array, refs_object}
 use Rattle.alias_ref.proofs.Weights.{array_lighter, object_lighter}

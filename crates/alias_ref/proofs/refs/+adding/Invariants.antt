@@ -1,5 +1,5 @@
 use Rattle.std.proofs.Common.{◌≡◌, ◌++◌, ◌+◌, ◌≤◌}
-use Rattle.alias_ref.specs.inner.Handles.{ref_view, field_view, items_view, fields_view}
+use Rattle.json_span.specs.View.{ref_view, field_view, items_view, fields_view}
 use Rattle.alias_ref.specs.inner.Steps.{items_refs, entries_refs}
 use Rattle.alias_ref.proofs.Weights.{weight, weights, entry_weights}
 use Rattle.alias_ref.proofs.refs.+adding.Given as goal

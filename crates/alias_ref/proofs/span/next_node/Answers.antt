@@ -1,6 +1,6 @@
 use Rattle.std.proofs.Common.{rules, ◌≡◌, None, sym, ◌∙◌, codes}
 use Rattle.json_span.specs.Tree.{under}
-use Rattle.alias_ref.specs.inner.Handles.{ref_view, fields_view}
+use Rattle.json_span.specs.View.{ref_view, fields_view}
 use Rattle.alias_ref.proofs.SpansInTurn.{next_object, none_there}
 use Rattle.alias_ref.proofs.span.next_node.Goals as goal
 

@@ -3,7 +3,7 @@ use Rattle.std.specs.FinMap as map
 use Rattle.token_tree.specs.Promise.{IsDefinition}
 use Rattle.alias_ref.specs.Written.{role_at, role_behind}
 use Rattle.alias_ref.specs.Span.{span_below, span_in}
-use Rattle.alias_ref.specs.inner.Handles.{ref_view}
+use Rattle.json_span.specs.View.{ref_view}
 use Rattle.alias_ref.specs.inner.Steps.{next_in}
 use Rattle.alias_ref.proofs.SoundValues.{sound_definition, sound_part}
 use Rattle.alias_ref.proofs.SpansInTurn.{array_short, span_stops, span_goes, span_end, span_begins, next_is_part, sound_there, span_pair}
@@ -14,7 +14,7 @@ pub loop-step-init : goal.loop-step-init
 loop-step-init c =
     let f = c.in-Some.entry.now in
     let role = role_at f.def.by_ref [] in
-    let node = ref_view c.of-node.result in
+    let node = ref_view c.as_ref-node.result in
     let view : node ≡ f.def.value = search rules in
     let there : map.get c.args.flat.now c.args.place.now.token ≡ Some f = search rules in
     let keeps : IsDefinition f.def = search rules in

@@ -1,7 +1,7 @@
 use Rattle.std.proofs.Common.{◌≡◌, Some, drop}
 use Rattle.alias_ref.specs.Written.{Role}
 use Rattle.alias_ref.specs.Span.{span_below, span_in}
-use Rattle.alias_ref.specs.inner.Handles.{ref_view}
+use Rattle.json_span.specs.View.{ref_view}
 use Rattle.alias_ref.specs.inner.Spots.{IsSound}
 use Rattle.alias_ref.proofs.span.span_of.Given as goal
 

@@ -1,7 +1,7 @@
 use Rattle.std.proofs.Common.{sym, ap, ◌∙◌}
 use Rattle.alias_ref.specs.Written.{part_under}
 use Rattle.alias_ref.specs.inner.Contents.{content_parts}
-use Rattle.alias_ref.specs.inner.Handles.{fields_view}
+use Rattle.json_span.specs.View.{fields_view}
 use Rattle.alias_ref.proofs.ContentsOfValues.{under_named}
 use Rattle.alias_ref.proofs.spot.part_node.Goals as goal
 

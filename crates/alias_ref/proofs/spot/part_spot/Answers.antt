@@ -3,7 +3,7 @@ use Rattle.name_path.specs.declared.place.Place.{Place}
 use Rattle.json_span.specs.Tree.{tree_of}
 use Rattle.alias_ref.specs.Written.{part, role_at}
 use Rattle.alias_ref.specs.inner.Contents.{IsContent}
-use Rattle.alias_ref.specs.inner.Handles.{ref_view}
+use Rattle.json_span.specs.View.{ref_view}
 use Rattle.alias_ref.specs.inner.Spots.{Stands}
 use Rattle.alias_ref.proofs.SpotsStand.{part_content, part_stands_at}
 use Rattle.alias_ref.proofs.spot.part_spot.Goals as goal

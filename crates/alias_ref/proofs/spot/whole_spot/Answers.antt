@@ -5,7 +5,7 @@ use Rattle.json_span.specs.Tree.{tree_of, start_of}
 use Rattle.token_tree.specs.Promise.{IsDefinition}
 use Rattle.alias_ref.specs.Written.{whole, role_at}
 use Rattle.alias_ref.specs.inner.Contents.{IsContent, role_of}
-use Rattle.alias_ref.specs.inner.Handles.{ref_view, json_view}
+use Rattle.json_span.specs.View.{ref_view, json_view}
 use Rattle.alias_ref.specs.inner.Spots.{Stands}
 use Rattle.alias_ref.proofs.SoundValues.{sound_definition}
 use Rattle.alias_ref.proofs.SpotsStand.{whole_role}
@@ -19,11 +19,11 @@ returns-clause-at c =
     let here : Place = record { token = c.in_ok-copy.field-0; trail = c.new.result } in
     let same : here ≡ whole c.args.token.now = search rules in
     let there : map.get flat c.args.token.now ≡ Some f = search rules in
-    let view : ref_view c.of-node.result ≡ f.def.value = search rules in
+    let view : ref_view c.as_ref-node.result ≡ f.def.value = search rules in
     let few : length f.def.source < 2 ^ 64 = search (rules, arith) in
     let content = c.in_ok-content.content in
     let keeps : IsDefinition f.def = search rules in
-    let raw : IsContent content (role_of f.def.by_ref) (json_view c.of-node.result) = search rules in
+    let raw : IsContent content (role_of f.def.by_ref) (json_view c.as_ref-node.result) = search rules in
     record {
       value = f.def.value;
       stands = subst (λ p. Stands flat p f f.def.value) (sym same) (whole_stands flat c.args.token.now f there);

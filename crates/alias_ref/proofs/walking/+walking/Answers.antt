@@ -1,6 +1,5 @@
 use Rattle.std.proofs.Common.{rules, ◌≡◌, ◌+◌, ◌∷◌, ◌++◌, [], length, Some, arith, refl, sym, ap, ap₂, ◌∙◌, subst, length-append}
 use Rattle.json_span.specs.Tree.{Placed}
-use Rattle.json_span.proofs.Views.{push-map}
 use Rattle.std.proofs.lemmas.Result.{err_from_is_err_and}
 use Rattle.group_inherit.specs.Merging.{either}
 use Rattle.json_span.specs.Plain.{plains_of, plain_array}
@@ -10,15 +9,15 @@ use Rattle.alias_ref.specs.Meaning.{Means, means_leaf, means_parts, means_target
 use Rattle.alias_ref.specs.Visits.{settle_by, passed, walked, walk_written, first_break}
 use Rattle.alias_ref.specs.Kinds.{own_in, group_in}
 use Rattle.alias_ref.specs.inner.Contents.{content_view}
-use Rattle.alias_ref.specs.inner.Handles.{ref_view, field_view, items_view, fields_view}
+use Rattle.json_span.specs.View.{ref_view, field_view, items_view, fields_view}
 use Rattle.alias_ref.specs.inner.Linking.{lent}
 use Rattle.alias_ref.specs.inner.Seen.{Clean, IsFault}
 use Rattle.alias_ref.specs.inner.Spots.{start_in}
 use Rattle.alias_ref.proofs.FirstBreaks.{clean_nil, enters, walked-fault}
 use Rattle.alias_ref.proofs.LinksOfParts.{alone, refers_kind}
-use Rattle.alias_ref.proofs.PartsInTurn.{none_walked, walked_more, walked_fault, leaf_grown, grown_parts, lead_by, refers_grown, with_rest, with_entries}
+use Rattle.alias_ref.proofs.PartsInTurn.{none_walked, walked_more, walked_fault, leaf_grown, grown_parts, lead_by, refers_grown, with_rest, with_entries, push_map}
 use Rattle.alias_ref.proofs.PlainViews.{array_view, object_view}
-use Rattle.alias_ref.proofs.SpotsStand.{spot_written, spot_start, own_is, group_is, holder_part}
+use Rattle.alias_ref.proofs.SpotsStand.{spot_written, spot_start, own_is, group_is, holder_part, holder_few}
 use Rattle.alias_ref.proofs.TracesGrow.{starts_more, same_starts, same_then}
 use Rattle.alias_ref.proofs.WalksInTurns.{walk_fault, walk_clean, target_fault, target_then_fault, target_clean}
 use Rattle.alias_ref.proofs.walking.+walking.Goals as goal
@@ -236,6 +235,13 @@ walk_items-returns-in_err-plain-clause-seen t c =
     let seen = subst (λ b. IsFault f (first_break T c.loop-node.trace.visits (walked T b (part place step)))) inv.4.0 c.in_err-plain.ensures.seen in
     rw (p.1, p.2) (walked_fault T kinds groups branch place f own all rest step m n c.loop-node.trace.visits inv.2.0 c.args.links.now c.loop-node.links w seen)
 
+pub walk_items-overflow_add-index : goal.walk_items-overflow_add-index
+walk_items-overflow_add-index t c =
+    let inv = c.loop-node.invariant in
+    let first : items_view c.loop-node.node-iterator ≡ ref_view c.in-Some.node ∷ items_view c.next.new.self = search rules in
+    let few = holder_few c.args.flat.now c.args.place.now c.args.token.now (items_view c.args.items) c.requires.at in
+    omega (arith, inv.3, ap length first, few)
+
 pub walk_items-loop-node-preserved-in_ok-push : goal.walk_items-loop-node-preserved-in_ok-push
 walk_items-loop-node-preserved-in_ok-push t c =
     let flat = c.args.flat.now in
@@ -266,7 +272,7 @@ walk_items-loop-node-preserved-in_ok-push t c =
       tt,
       (
         inv.2.0 ++ entry ∷ [],
-        pushed ∙ ap (λ vs. vs ++ v ∷ []) inv.2.1 ∙ sym (push-map (λ x. x.value) inv.2.0 entry),
+        pushed ∙ ap (λ vs. vs ++ v ∷ []) inv.2.1 ∙ sym (push_map (λ x. x.value) inv.2.0 entry),
         walked_more T kinds groups branch place own all rest step m n c.loop-node.trace.visits c.walk_part.new.trace.visits inv.2.0 v c.args.links.now c.loop-node.links c.walk_part.new.links w clean e.means e.links,
       ),
       omega (arith, inv.3, ap length first),
@@ -303,7 +309,7 @@ walk_items-loop-node-preserved t c =
       tt,
       (
         inv.2.0 ++ entry ∷ [],
-        pushed ∙ ap (λ vs. vs ++ v ∷ []) inv.2.1 ∙ sym (push-map (λ x. x.value) inv.2.0 entry),
+        pushed ∙ ap (λ vs. vs ++ v ∷ []) inv.2.1 ∙ sym (push_map (λ x. x.value) inv.2.0 entry),
         walked_more T kinds groups branch place own all rest step m n c.loop-node.trace.visits c.walk_part.new.trace.visits inv.2.0 v c.args.links.now c.loop-node.links c.walk_part.new.links w clean e.means e.links,
       ),
       omega (arith, inv.3, ap length first),

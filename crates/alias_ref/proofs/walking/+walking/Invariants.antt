@@ -2,7 +2,7 @@ use Rattle.std.proofs.Common.{◌≡◌, ◌+◌, ◌-◌, ◌*◌, List, length
 use Rattle.json_span.specs.PlainView.{Entry, plain_items_view, plain_fields_view}
 use Rattle.alias_ref.specs.Written.{written_in, numbered, named}
 use Rattle.alias_ref.specs.Kinds.{own_in, group_in}
-use Rattle.alias_ref.specs.inner.Handles.{items_view, fields_view}
+use Rattle.json_span.specs.View.{items_view, fields_view}
 use Rattle.alias_ref.specs.inner.Spots.{IsSameBranch}
 use Rattle.alias_ref.specs.inner.Turns.{PartsWalked}
 use Rattle.alias_ref.proofs.walking.+walking.Given as goal

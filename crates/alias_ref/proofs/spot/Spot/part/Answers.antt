@@ -1,7 +1,7 @@
 use Rattle.std.proofs.Common.{rules, ◌≡◌, Some}
 use Rattle.alias_ref.specs.Written.{part_under}
 use Rattle.alias_ref.specs.inner.Contents.{content_parts}
-use Rattle.alias_ref.specs.inner.Handles.{ref_view}
+use Rattle.json_span.specs.View.{ref_view}
 use Rattle.alias_ref.proofs.SpotsStand.{spot_part}
 use Rattle.alias_ref.proofs.spot.Spot.part.Goals as goal
 
