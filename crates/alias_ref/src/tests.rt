@@ -4,7 +4,7 @@ ghost use Rattle.std.specs.Prelude.{◌≡◌, ◌<◌};
 
 mod trees;
 
-use self::trees::TREES;
+use self::trees::{PART_1, PART_2, PART_3, PART_4};
 use crate::{RefFault, RefRule, Resolved, evaluate, refs_of, span_of};
 use group_inherit::{Flat, flatten};
 use itoa::Buffer;
@@ -12,6 +12,7 @@ use json_span::{Plain, PlainFields, PlainItems, read};
 use name_path::{Link, Path, Place, print_path, print_place};
 use std::alloc::Global;
 use std::marker::Brand;
+use std::process::Abort;
 use std::str;
 use std::sync::ledger::{Blank, Ledger};
 use std::test::Fail;
@@ -125,7 +126,7 @@ fn append_number(out: &mut Bytes, number: usize) -> Result<(), NoMemory> {
     out.append(buffer.format(number).as_bytes())
 }
 
-fn append_span(out: &mut Bytes, flat: &Flat<'_>, place: &Place<'_>) -> Result<(), NoMemory> {
+fn append_span<'s>(out: &mut Bytes, flat: &Flat<'s>, place: &Place<'s>) -> Result<(), NoMemory> {
     if flat.get(&place.token).is_none() {
         return Ok(());
     }
@@ -198,17 +199,32 @@ fn answers_of(alloc: Global, text: &[u8], most: usize) -> Option<Bytes> {
     answers::<Brand>(alloc, text, most, Blank::new(1))
 }
 
-#[test]
-fn answers_the_tokens_of_small_trees(rt: HostRuntime) -> Result<(), Fail> {
-    let alloc = rt.alloc();
-    for (text, expected) in &TREES {
-        let answer = answers_of(alloc, text.as_bytes(), 100).expect(
-            &rt,
-            "the file has a flat tree",
-        );
+fn check_trees(rt: &impl Abort, alloc: Global, trees: &[(&str, &str)]) -> Result<(), Fail> {
+    for (text, expected) in trees {
+        let answer = answers_of(alloc, text.as_bytes(), 100).expect(rt, "the file has a flat tree");
         assert_eq!(rt; answer.as_slice(), expected.as_bytes(), "{text}");
     }
     Ok(())
+}
+
+#[test]
+fn answers_the_tokens_of_the_first_trees(rt: HostRuntime) -> Result<(), Fail> {
+    check_trees(&rt, rt.alloc(), &PART_1)
+}
+
+#[test]
+fn answers_the_tokens_of_the_second_trees(rt: HostRuntime) -> Result<(), Fail> {
+    check_trees(&rt, rt.alloc(), &PART_2)
+}
+
+#[test]
+fn answers_the_tokens_of_the_third_trees(rt: HostRuntime) -> Result<(), Fail> {
+    check_trees(&rt, rt.alloc(), &PART_3)
+}
+
+#[test]
+fn answers_the_tokens_of_the_fourth_trees(rt: HostRuntime) -> Result<(), Fail> {
+    check_trees(&rt, rt.alloc(), &PART_4)
 }
 
 /// Tokens each but the last of which is an alias of the next.

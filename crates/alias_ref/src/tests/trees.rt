@@ -1,7 +1,7 @@
 //! Token files, and the answer of each of their tokens in path order: its kind, its value without references and its links, or the rule that it breaks with
 //! its place, its ring and its span; and then the tokens that it names.
 
-pub(crate) static TREES: [(&str, &str); 72] = [
+pub(crate) static PART_1: [(&str, &str); 18] = [
     (
         r##"{"a":{"$value":"{b}"},"b":{"$value":"{c}"},"c":{"$type":"dimension","$value":{"value":4,"unit":"px"}}}"##,
         r##"a dimension {value:4,unit:'px',} >b:dimension [b ];b dimension {value:4,unit:'px',} >c:dimension [c ];c dimension {value:4,unit:'px',} [];"##,
@@ -74,6 +74,9 @@ pub(crate) static TREES: [(&str, &str); 72] = [
         r##"{"a":{"$type":"number","$value":{"$ref":"#/b","x":1}},"b":{"$type":"number","$value":1}}"##,
         r##"a syntax #/a/$value 32-52 [];b number 1 [];"##,
     ),
+];
+
+pub(crate) static PART_2: [(&str, &str); 18] = [
     (
         r##"{"a":{"$type":"number","$value":{"$ref":1,"x":"{b}"}},"b":{"$type":"number","$value":1}}"##,
         r##"a syntax #/a/$value 32-52 [b ];b number 1 [];"##,
@@ -146,6 +149,9 @@ pub(crate) static TREES: [(&str, &str); 72] = [
         r##"{"a":{"$value":1}}"##,
         r##"a type #/a/$value 15-16 [];"##,
     ),
+];
+
+pub(crate) static PART_3: [(&str, &str); 18] = [
     (
         r##"{"a":{"$value":{"x":"{missing}"}},"b":{"$value":"x"}}"##,
         r##"a target #/a/$value/x 20-31 [missing ];b type #/b/$value 48-51 [];"##,
@@ -218,6 +224,9 @@ pub(crate) static TREES: [(&str, &str); 72] = [
         r##"{"a":{"$type":"border","$value":{"$value":1,"$root":"{b}","":"{b}"}},"b":{"$type":"number","$value":{"$ref":"#/a/$value/$value"}},"c":{"$type":"number","$value":{"$ref":"#/a/$value/$root/x"}},"d":{"$type":"number","$value":{"$ref":"#/a/$value/"}}}"##,
         r##"a border {$value:1,$root:1,:1,} /$root>b:number />b:number [b b ];b number 1 [a ];c target #/c/$value 161-190 [a ];d number 1 [a ];"##,
     ),
+];
+
+pub(crate) static PART_4: [(&str, &str); 18] = [
     (
         r##"{"a":{"$type":"number","$value":{"$ref":"#/b/$value/$ref"}},"b":{"$value":{"$ref":"#/c"}},"c":{"$value":{"x":1}}}"##,
         r##"a target #/a/$value 32-58 [b ];b type #/b/$value 74-88 [c ];c type #/c/$value 104-111 [];"##,
