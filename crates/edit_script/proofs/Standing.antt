@@ -7,7 +7,8 @@ use Rattle.std.specs.FinMap as map
 use Rattle.std.specs.Ordering.{is_eq, eq_by_cmp}
 use Rattle.std.specs.Str.{bytes_eq}
 use Rattle.tk_io.specs.Order.{text_cmp}
-use Rattle.edit_script.specs.Files.{FilesData, AreFilesAfter, said_by, later_or, last_word, said_text, text_after, up_to, commit_count, without_commits, whole, AreFilesAt}
+use Rattle.tk_io.specs.FilesData.{FilesData}
+use Rattle.edit_script.specs.Files.{AreFilesAfter, said_by, later_or, last_word, said_text, text_after, up_to, commit_count, without_commits, whole, AreFilesAt}
 use Rattle.edit_script.specs.Script.{EventData, put, del, commit}
 use Rattle.edit_script.proofs.Rising.{same_key, tied, equal}
 

@@ -2,12 +2,8 @@
 use Rattle.std.specs.Prelude.{◌≡◌, ℕ, zero, suc, List, [], ◌∷◌, ◌++◌, Option, Some, None, if◌then◌else◌}
 use Rattle.std.specs.FinMap as map
 use Rattle.std.specs.Str.{bytes_eq}
-use Rattle.tk_io.specs.Order.{text_cmp}
+use Rattle.tk_io.specs.FilesData.{FilesData}
 use Rattle.edit_script.specs.Script.{EventData, put, del, commit}
-
--- files: from path to text
-abbrev pub FilesData : Type 0
-FilesData = map.FinMap text_cmp (List ℕ)
 
 -- what an event says of a path: that it has this text, that it has none, or nothing
 abbrev pub said_by : EventData → List ℕ → Option (Option (List ℕ))

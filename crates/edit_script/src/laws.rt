@@ -4,7 +4,7 @@ ghost use Rattle.std.specs.FinMap as map;
 ghost use Rattle.std.specs.List.{concat, flat_map, slice_get};
 ghost use Rattle.std.specs.Str.{IsUtf8};
 ghost use Rattle.edit_script.specs.Delta.{Held, ChangeData, Delta, IsDelta, AreDeltas, applied, replayed, held_at};
-ghost use Rattle.edit_script.specs.Files.{FilesData, AreFilesAfter, AreFilesAt, up_to, commit_count, whole};
+ghost use Rattle.edit_script.specs.Files.{AreFilesAfter, AreFilesAt, up_to, commit_count, whole};
 ghost use Rattle.edit_script.specs.Script.{EventData, put, del, commit, IsScript, IsScriptStop};
 ghost use Rattle.edit_script.specs.declared.line.Line.TheVariants.{StreamHead, Commit as CommitLine, Done};
 ghost use Rattle.edit_script.specs.Shown.{Lined, with_line};

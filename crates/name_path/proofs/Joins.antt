@@ -34,6 +34,9 @@ pieces_lack c (x ∷ xs) = elim (cases_eq x c) [
     onto (part ∷ parts) q h = All-cons (λ text. All (λ b. b ≢ c) text) (x ∷ part) parts
         (All-cons (λ b. b ≢ c) x part q (All-head (λ text. All (λ b. b ≢ c) text) part parts h)) (All-tail (λ text. All (λ b. b ≢ c) text) part parts h)
 
+pub tail_lacks : (c : ℕ) (x : List ℕ) (xs : List (List ℕ)) → EachLacks c (x ∷ xs) → EachLacks c xs
+tail_lacks c x xs h = All-tail (λ text. All (λ b. b ≢ c) text) x xs h
+
 onto_some : (x : ℕ) (parts : List (List ℕ)) → onto_first x parts ≡ [] → ⊥
 onto_some x [] e = (cc)
 onto_some x (part ∷ parts) e = (cc)

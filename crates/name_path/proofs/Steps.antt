@@ -5,37 +5,29 @@ use Rattle.std.proofs.lemmas.List.{take-append-drop, take_more, take_all, length
 use Rattle.std.proofs.lemmas.List.Elements.{All-get_or, All-cons, All-nil, All-tail}
 use Rattle.std.proofs.lemmas.List.Splits.{join_with_byte-slice_split}
 use Rattle.name_path.specs.Reference.{escaped, pointer_text, curly_text, path_text}
-use Rattle.name_path.specs.Pieces.{texts_of, EachLacks, ArePlain}
+use Rattle.name_path.specs.Pieces.{EachLacks, ArePlain}
 use Rattle.name_path.proofs.Escaping.{spelled_left, no_spelling, spells_itself, escaped_append, all_escaped_lack}
 use Rattle.name_path.proofs.Joins.{steps_join, split_join, some_piece, pieces_of, inside_one}
 
-pub texts_more : (ts : List (Bor (List ℕ))) (i : ℕ) (d : Bor (List ℕ)) → i < length ts → take (i + 1) (texts_of ts) ≡ take i (texts_of ts) ++ (get_or ts i d).now ∷ []
-texts_more ts i d h =
-    take_more (texts_of ts) i [] (omega (arith, length-map ts (λ (t : Bor (List ℕ)). t.now), h))
-    ∙ ap (λ (t : List ℕ). take i (texts_of ts) ++ t ∷ []) (get_or-map (λ (t : Bor (List ℕ)). t.now) ts i d [] h)
-
-pub texts_all : (ts : List (Bor (List ℕ))) (i : ℕ) → length ts ≤ i → take i (texts_of ts) ≡ texts_of ts
-texts_all ts i h = take_all i (texts_of ts) (omega (arith, length-map ts (λ (t : Bor (List ℕ)). t.now), h))
-
-pub lacks_at : (c : ℕ) (ts : List (Bor (List ℕ))) (i : ℕ) (d : Bor (List ℕ)) → i < length ts → EachLacks c (texts_of ts) → All (λ b. b ≢ c) (get_or ts i d).now
-lacks_at c ts i d h each =
-    subst (All (λ b. b ≢ c)) (get_or-map (λ (t : Bor (List ℕ)). t.now) ts i d [] h)
-    (All-get_or (All (λ b. b ≢ c)) (texts_of ts) i [] (omega (arith, length-map ts (λ (t : Bor (List ℕ)). t.now), h)) each)
+pub lacks_at : (c : ℕ) (segments : List (List ℕ)) (i : ℕ) (segment : List ℕ) → i < length segments → segment ≡ get_or segments i segment → EachLacks c segments → All (λ b. b ≢ c) segment
+lacks_at c segments i segment h is each = subst (All (λ b. b ≢ c)) (sym is) (All-get_or (All (λ b. b ≢ c)) segments i segment h each)
 
 -- a step that a segment spells
-pub spelled_at : (ts : List (Bor (List ℕ))) (steps : List (List ℕ)) (i : ℕ) (d : Bor (List ℕ)) → i < length ts → texts_of ts ≡ map escaped steps → (get_or ts i d).now ≡ escaped (get_or steps i [])
-spelled_at ts steps i d h e =
-    let less : i < length steps = omega (arith, length-map ts (λ (t : Bor (List ℕ)). t.now), h, ap length e, length-map steps escaped) in
-    sym (get_or-map (λ (t : Bor (List ℕ)). t.now) ts i d [] h) ∙ (ap (λ (xs : List (List ℕ)). get_or xs i []) e ∙ get_or-map escaped steps i [] [] less)
+pub spelled_at : (segments steps : List (List ℕ)) (i : ℕ) (segment : List ℕ) → i < length segments → segment ≡ get_or segments i segment → segments ≡ map escaped steps → segment ≡ escaped (get_or steps i [])
+spelled_at segments steps i segment h is e =
+    let less : i < length steps = omega (arith, h, ap length e, length-map steps escaped) in
+    is ∙ (ap (λ (xs : List (List ℕ)). get_or xs i segment) e ∙ get_or-map escaped steps i [] segment less)
 
 pub map_more : (xs : List (List ℕ)) (x : List ℕ) → map escaped (xs ++ x ∷ []) ≡ map escaped xs ++ escaped x ∷ []
 map_more [] x = refl
 map_more (y ∷ ys) x = ap (λ (zs : List (List ℕ)). escaped y ∷ zs) (map_more ys x)
 
-pub step_added : (ts : List (Bor (List ℕ))) (i : ℕ) (d : Bor (List ℕ)) (steps new : List (List ℕ)) (step : List ℕ) → i < length ts → map escaped steps ≡ take i (texts_of ts)
-    → new ≡ steps ++ step ∷ [] → (get_or ts i d).now ≡ escaped step → map escaped new ≡ take (i + 1) (texts_of ts)
-step_added ts i d steps new step h so_far made spelled =
-    ap (map escaped) made ∙ (map_more steps step ∙ (ap₂ (λ (xs : List (List ℕ)) (x : List ℕ). xs ++ x ∷ []) so_far (sym spelled) ∙ sym (texts_more ts i d h)))
+pub step_added : (segments : List (List ℕ)) (i : ℕ) (segment : List ℕ) (steps new : List (List ℕ)) (step : List ℕ) → i < length segments → segment ≡ get_or segments i segment
+    → map escaped steps ≡ take i segments → new ≡ steps ++ step ∷ [] → segment ≡ escaped step → map escaped new ≡ take (i + 1) segments
+step_added segments i segment steps new step h is so_far made spelled =
+    ap (map escaped) made
+    ∙ (map_more steps step
+    ∙ (ap₂ (λ (xs : List (List ℕ)) (x : List ℕ). xs ++ x ∷ []) so_far (sym spelled ∙ is) ∙ sym (take_more segments i segment h)))
 
 module _ (segment step left plain behind : List ℕ) where
   -- a '~' that begins no escape
@@ -73,28 +65,34 @@ all_back P xs ys zs e h = back xs (subst (All P) e h)
     back [] k = k
     back (u ∷ us) k = back us (All-tail P u (us ++ ys) k)
 
-module _ (text rest : List ℕ) (segments : List (List ℕ)) where
-  -- the steps of a pointer are what its segments spell
-  pub steps_found : (steps : List (List ℕ)) → text ≡ 35 ∷ (47 ∷ rest) → segments ≡ slice_split (λ b. b == 47) rest → segments ≡ map escaped steps → text ≡ pointer_text steps
-  steps_found [] e s m = absurd (some_piece 47 rest (sym s ∙ m))
-  steps_found (x ∷ xs) e s m =
-      e ∙ (ap (λ (z : List ℕ). 35 ∷ (47 ∷ z)) (sym (join_with_byte-slice_split 47 rest) ∙ ap (join_with_byte 47) (sym s ∙ m))
-      ∙ ap (λ (z : List ℕ). 35 ∷ z) (sym (steps_join x xs)))
+-- the steps of a pointer are what the pieces behind the first '/' spell
+pointer_join : (steps : List (List ℕ)) → pointer_text steps ≡ join_with_byte 47 ((35 ∷ []) ∷ map escaped steps)
+pointer_join [] = refl
+pointer_join (x ∷ xs) = ap (λ (z : List ℕ). 35 ∷ z) (steps_join x xs)
 
-  pub no_steps : text ≡ 35 ∷ (47 ∷ rest) → segments ≡ slice_split (λ b. b == 47) rest → ((steps : List (List ℕ)) → segments ≢ map escaped steps) → (steps : List (List ℕ)) → text ≢ pointer_text steps
-  no_steps e s none [] f = (let k : 35 ∷ (47 ∷ rest) ≡ 35 ∷ [] = sym e ∙ f in cc)
-  no_steps e s none (x ∷ xs) f =
-      let k : 35 ∷ (47 ∷ rest) ≡ 35 ∷ (47 ∷ join_with_byte 47 (map escaped (x ∷ xs))) = sym e ∙ (f ∙ ap (λ (z : List ℕ). 35 ∷ z) (steps_join x xs)) in
-      let t : rest ≡ join_with_byte 47 (map escaped (x ∷ xs)) = cc in
-      none (x ∷ xs) (s ∙ (ap (slice_split (λ b. b == 47)) t ∙ split_join 47 (escaped x) (map escaped xs) (all_escaped_lack (x ∷ xs))))
+pointer_pieces : (steps : List (List ℕ)) → slice_split (λ b. b == 47) (pointer_text steps) ≡ (35 ∷ []) ∷ map escaped steps
+pointer_pieces steps =
+    ap (slice_split (λ b. b == 47)) (pointer_join steps)
+    ∙ split_join 47 (35 ∷ []) (map escaped steps)
+    (All-cons (λ text. All (λ b. b ≢ 47) text) (35 ∷ []) (map escaped steps) (All-cons (λ b. b ≢ 47) 35 [] (λ h. omega arith) (All-nil (λ b. b ≢ 47))) (all_escaped_lack steps))
 
--- behind '#' stands nothing or '/'
-pub no_slash : (text rest : List ℕ) → text ≡ 35 ∷ rest → (rest ≡ [] → ⊥) → ((behind : List ℕ) → rest ≢ 47 ∷ behind) → (steps : List (List ℕ)) → text ≢ pointer_text steps
-no_slash text rest e some none [] f = some (let k : 35 ∷ rest ≡ 35 ∷ [] = sym e ∙ f in cc)
-no_slash text rest e some none (x ∷ xs) f =
-    let k : 35 ∷ rest ≡ 35 ∷ (47 ∷ join_with_byte 47 (map escaped (x ∷ xs))) = sym e ∙ (f ∙ ap (λ (z : List ℕ). 35 ∷ z) (steps_join x xs)) in
-    let t : rest ≡ 47 ∷ join_with_byte 47 (map escaped (x ∷ xs)) = cc in
-    none (join_with_byte 47 (map escaped (x ∷ xs))) t
+module _ (text first : List ℕ) (segments : List (List ℕ)) where
+  pub steps_found : (steps : List (List ℕ)) → slice_split (λ b. b == 47) text ≡ first ∷ segments → first ≡ 35 ∷ [] → segments ≡ map escaped steps → text ≡ pointer_text steps
+  steps_found steps s f m =
+      sym (join_with_byte-slice_split 47 text)
+      ∙ (ap (join_with_byte 47) (s ∙ ap₂ (λ (x : List ℕ) (xs : List (List ℕ)). x ∷ xs) f m) ∙ sym (pointer_join steps))
+
+  pub no_steps : slice_split (λ b. b == 47) text ≡ first ∷ segments → ((steps : List (List ℕ)) → segments ≢ map escaped steps) → (steps : List (List ℕ)) → text ≢ pointer_text steps
+  no_steps s none steps e =
+      let k : first ∷ segments ≡ (35 ∷ []) ∷ map escaped steps = sym s ∙ (ap (slice_split (λ b. b == 47)) e ∙ pointer_pieces steps) in
+      let t : segments ≡ map escaped steps = cc in
+      none steps t
+
+  pub no_mark : slice_split (λ b. b == 47) text ≡ first ∷ segments → first ≢ 35 ∷ [] → (steps : List (List ℕ)) → text ≢ pointer_text steps
+  no_mark s other steps e =
+      let k : first ∷ segments ≡ (35 ∷ []) ∷ map escaped steps = sym s ∙ (ap (slice_split (λ b. b == 47)) e ∙ pointer_pieces steps) in
+      let t : first ≡ 35 ∷ [] = cc in
+      other t
 
 module _ (text inside : List ℕ) (path : List (List ℕ)) where
   pub curly_found : text ≡ 123 ∷ (inside ++ 125 ∷ []) → path ≡ slice_split (λ b. b == 46) inside → (path ≢ []) × (text ≡ curly_text path)

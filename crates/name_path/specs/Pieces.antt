@@ -1,11 +1,6 @@
 -- Texts cut into pieces.
-use Rattle.std.specs.Prelude.{◌≡◌, ◌≢◌, ℕ, List, [], ◌∷◌, ◌++◌, ◌⊎◌, All, map}
+use Rattle.std.specs.Prelude.{◌≡◌, ◌≢◌, ℕ, List, [], ◌∷◌, ◌++◌, ◌⊎◌, All}
 use Rattle.name_path.specs.Reference.{value_step}
-use Rattle.std.specs.Borrow.{Bor}
-
--- what references to texts point to
-abbrev pub texts_of : List (Bor (List ℕ)) → List (List ℕ)
-texts_of texts = map (λ text. text.now) texts
 
 -- no text holds the byte
 abbrev pub EachLacks : ℕ → List (List ℕ) → Type 0

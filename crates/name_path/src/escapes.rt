@@ -1,12 +1,13 @@
 // Escapes in the steps of a pointer (RFC 6901 section 3).
-ghost use Rattle.std.specs.Prelude.{◌≡◌, ◌≢◌, ◌++◌, ◌∷◌, ℕ, List, All, OnOk, OnErr, IfOk, IfSome, IfNone, IsErrOf, [], length, ◌<◌};
+ghost use Rattle.std.specs.Prelude.{◌≡◌, ◌≢◌, ◌↔◌, ◌++◌, ◌∷◌, ℕ, List, All, IsTrue, OnOk, OnErr, IfOk, IfSome, IfNone, IsErrOf, [], length, ◌<◌};
 ghost use Rattle.std.specs.String.{string_bytes};
+ghost use Rattle.tk_io.specs.Writing.{Extends};
 ghost use Rattle.name_path.specs.Reference.{escaped};
 
 use crate::RefStop;
-use crate::pieces::{around, behind};
+use crate::pieces::around;
 use std::alloc::Global;
-use tk_io::{Bytes, NoMemory};
+use tk_io::{Bytes, NoMemory, behind};
 
 /// What the escape behind a `~` stands for and what follows it, or none where there is no escape.
 fn behind_tilde<'a>(text: &'a str) -> Option<(&'static str, &'a str)>
@@ -51,23 +52,40 @@ pub fn unescaped(alloc: Global, segment: &str) -> Result<String, RefStop>
 }
 
 fn append_byte(byte: u8, out: &mut Bytes) -> Result<(), NoMemory>
-    ensures { OnOk result (out.new ≡ out.old ++ escaped (byte ∷ [])) }
+    ensures ok { OnOk result (out.new ≡ out.old ++ escaped (byte ∷ [])) }
+    ensures err { OnErr result (out.new ≡ out.old) }
 {
-    if byte == b'~' {
-        return out.append(b"~0");
+    match byte {
+        b'~' => out.append(b"~0"),
+        b'/' => out.append(b"~1"),
+        _ => out.append(&[byte]),
     }
-    if byte == b'/' {
-        return out.append(b"~1");
-    }
-    out.append(&[byte])
 }
 
-/// Appends a step with `~` as `~0` and `/` as `~1`.
-pub fn append_escaped(step: &str, out: &mut Bytes) -> Result<(), NoMemory>
-    ensures { OnOk result (out.new ≡ out.old ++ escaped step.now) }
+fn append_bytes(step: &[u8], out: &mut Bytes) -> Result<(), NoMemory>
+    ensures ok { OnOk result (out.new ≡ out.old ++ escaped step.now) }
+    ensures err { OnErr result (Extends out.old out.new) }
 {
-    for byte in step.as_bytes() {
+    for byte in step {
         append_byte(*byte, out)?;
     }
     Ok(())
+}
+
+fn is_plain(step: &[u8]) -> bool
+    ensures { IsTrue result ↔ All (λ b. (b ≢ 126) × (b ≢ 47)) step.now }
+{
+    step.iter().all(|b| !matches!(*b, b'~' | b'/'))
+}
+
+/// Appends a step with `~` as `~0` and `/` as `~1`; of a refusal a part may stay.
+pub fn append_escaped(step: &str, out: &mut Bytes) -> Result<(), NoMemory>
+    ensures ok { OnOk result (out.new ≡ out.old ++ escaped step.now) }
+    ensures err { OnErr result (Extends out.old out.new) }
+{
+    let bytes = step.as_bytes();
+    if is_plain(bytes) {
+        return out.append(bytes);
+    }
+    append_bytes(bytes, out)
 }

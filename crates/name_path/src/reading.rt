@@ -1,14 +1,13 @@
 // Readers of references.
 ghost use Rattle.std.specs.Prelude.{◌≡◌, ◌≢◌, ◌++◌, ◌∷◌, [], ℕ, ◌==◌, ◌<◌, List, All, IfOk, IfSome, IfNone, IsErrOf, MatchOption, map};
-ghost use Rattle.std.specs.List.{slice_split};
 ghost use Rattle.name_path.specs.Names.{AreNames};
 ghost use Rattle.name_path.specs.Reference.{escaped, pointer_text, curly_text, SpellsPath, SpellsPlace, SpellsGroup};
-ghost use Rattle.name_path.specs.Pieces.{texts_of, ArePlain, EachLacks, IsCut};
+ghost use Rattle.name_path.specs.Pieces.{ArePlain, EachLacks, IsCut};
 ghost use Rattle.name_path.specs.declared.place.Place.{Place};
 ghost use Rattle.name_path.specs.declared.reading.RefStop.TheVariants.{NoMemory as OutOfMemory};
 
 use crate::escapes::unescaped;
-use crate::pieces::{around, before, behind, pieces};
+use crate::pieces::around;
 use crate::{Path, Place, Trail};
 use std::alloc::Global;
 use tk_io::{NoMemory, Text};
@@ -30,39 +29,28 @@ impl From<NoMemory> for RefStop {
     }
 }
 
-/// What stands between a brace at the text's beginning and one at its end.
-fn inside_braces<'a>(text: &'a str) -> Option<&'a str>
-    ensures some { IfSome result (λ inside. text.entry.now ≡ 123 ∷ (inside.now ++ 125 ∷ [])) }
-    ensures none { IfNone result ((inside : List ℕ) → text.entry.now ≢ 123 ∷ (inside ++ 125 ∷ [])) }
-{
-    match behind(text, '{') {
-        Some(rest) => before(rest, '}'),
-        None => None,
-    }
-}
-
-/// The path of these names.
-fn path_of<'s>(alloc: Global, names: &[&str]) -> Result<Path<'s>, NoMemory>
-    ensures { IfOk result (λ path. path ≡ texts_of names.now) }
+/// A path of the same names.
+fn path_like<'s>(alloc: Global, names: &[Text<'s>]) -> Result<Path<'s>, NoMemory>
+    ensures { IfOk result (λ path. path ≡ names.now) }
 {
     let mut path = Path::new(alloc);
     for name in names {
-        path.push(Text::owned(alloc, name)?)?;
+        path.push(name.copy()?)?;
     }
     Ok(path)
 }
 
 /// The texts between the points inside the braces, whether they are names or not; none where there are no braces.
-fn curly_names<'s>(alloc: Global, text: &str) -> Result<Option<Path<'s>>, NoMemory>
+fn curly_names<'s>(alloc: Global, text: &Text<'s>) -> Result<Option<Path<'s>>, NoMemory>
     ensures some { IfOk result (λ found. IfSome found (λ path. (path ≢ []) × (text.now ≡ curly_text path))) }
     ensures one { IfOk result (λ found. IfSome found (λ path. (other : List (List ℕ)) → ArePlain other → text.now ≡ curly_text other → other ≡ path)) }
     ensures none { IfOk result (λ found. IfNone found ((path : List (List ℕ)) → text.now ≢ curly_text path)) }
 {
-    let Some(inside) = inside_braces(text) else {
+    let Some(inside) = text.inside(alloc, '{', '}')? else {
         return Ok(None);
     };
-    let names = pieces(alloc, inside, '.')?;
-    let path = path_of(alloc, names.as_slice())?;
+    let names = inside.split(alloc, '.')?;
+    let path = path_like(alloc, names.as_slice())?;
     Ok(Some(path))
 }
 
@@ -71,7 +59,7 @@ pub fn read_curly<'s>(alloc: Global, text: &Text<'s>) -> Result<Path<'s>, RefSto
     ensures path { IfOk result (λ path. SpellsPath text.now path) }
     ensures bad { IsErrOf result RefStop.BadRef → (path : List (List ℕ)) → ¬ SpellsPath text.now path }
 {
-    let Some(path) = curly_names(alloc, text.as_str())? else {
+    let Some(path) = curly_names(alloc, text)? else {
         return Err(RefStop::BadRef);
     };
     if !path.is_token_path() {
@@ -81,25 +69,25 @@ pub fn read_curly<'s>(alloc: Global, text: &Text<'s>) -> Result<Path<'s>, RefSto
 }
 
 /// The step that a segment without `/` spells. One without `~` spells itself.
-fn step_of<'s>(alloc: Global, segment: &str) -> Result<Text<'s>, RefStop>
+fn step_of<'s>(alloc: Global, segment: &Text<'s>) -> Result<Text<'s>, RefStop>
     requires { All (λ b. b ≢ 47) segment.now }
     ensures step { IfOk result (λ step. segment.now ≡ escaped step) }
     ensures bad { IsErrOf result RefStop.BadRef → (step : List ℕ) → segment.now ≢ escaped step }
 {
-    match around(segment, '~') {
-        None => Ok(Text::owned(alloc, segment)?),
+    match around(segment.as_str(), '~') {
+        None => Ok(segment.copy()?),
         Some(_) => {
-            let step = unescaped(alloc, segment)?;
-            Ok(Text::owned(alloc, step.as_str())?)
+            let step = unescaped(alloc, segment.as_str())?;
+            Ok(Text::from_string(step)?)
         }
     }
 }
 
 /// The steps that the segments spell.
-fn decoded<'s>(alloc: Global, segments: &[&str]) -> Result<Trail<'s>, RefStop>
-    requires { EachLacks 47 (texts_of segments.now) }
-    ensures steps { IfOk result (λ steps. texts_of segments.now ≡ map escaped steps) }
-    ensures bad { IsErrOf result RefStop.BadRef → (steps : List (List ℕ)) → texts_of segments.now ≢ map escaped steps }
+fn decoded<'s>(alloc: Global, segments: &[Text<'s>]) -> Result<Trail<'s>, RefStop>
+    requires { EachLacks 47 segments.now }
+    ensures steps { IfOk result (λ steps. segments.now ≡ map escaped steps) }
+    ensures bad { IsErrOf result RefStop.BadRef → (steps : List (List ℕ)) → segments.now ≢ map escaped steps }
 {
     let mut steps = Trail::new(alloc);
     for segment in segments {
@@ -109,21 +97,18 @@ fn decoded<'s>(alloc: Global, segments: &[&str]) -> Result<Trail<'s>, RefStop>
 }
 
 /// The steps of a pointer after its `#`.
-fn steps_of<'s>(alloc: Global, text: &str) -> Result<Trail<'s>, RefStop>
+fn steps_of<'s>(alloc: Global, text: &Text<'s>) -> Result<Trail<'s>, RefStop>
     ensures steps { IfOk result (λ steps. text.now ≡ pointer_text steps) }
     ensures bad { IsErrOf result RefStop.BadRef → (steps : List (List ℕ)) → text.now ≢ pointer_text steps }
 {
-    let Some(rest) = behind(text, '#') else {
+    let pieces = text.split(alloc, '/')?;
+    let Some((first, segments)) = pieces.as_slice().split_first() else {
         return Err(RefStop::BadRef);
     };
-    if rest.is_empty() {
-        return Ok(Trail::new(alloc));
+    if first.as_str() == "#" {
+        return decoded(alloc, segments);
     }
-    let Some(rest) = behind(rest, '/') else {
-        return Err(RefStop::BadRef);
-    };
-    let segments = pieces(alloc, rest, '/')?;
-    decoded(alloc, segments.as_slice())
+    Err(RefStop::BadRef)
 }
 
 /// The steps before the first `$value` and those behind it, of which there are none where there is no `$value`.
@@ -136,16 +121,6 @@ fn cut<'a, 's>(steps: &'a [Text<'s>]) -> (&'a [Text<'s>], &'a [Text<'s>])
         }
     }
     (steps, &steps[..0])
-}
-
-fn path_like<'s>(alloc: Global, names: &[Text<'s>]) -> Result<Path<'s>, NoMemory>
-    ensures { IfOk result (λ path. path ≡ names.now) }
-{
-    let mut path = Path::new(alloc);
-    for name in names {
-        path.push(name.copy()?)?;
-    }
-    Ok(path)
 }
 
 fn trail_like<'s>(alloc: Global, steps: &[Text<'s>]) -> Result<Trail<'s>, NoMemory>
@@ -164,7 +139,7 @@ pub fn read_pointer<'s>(alloc: Global, text: &Text<'s>) -> Result<Place<'s>, Ref
     ensures place { IfOk result (λ place. SpellsPlace text.now place) }
     ensures bad { IsErrOf result RefStop.BadRef → (place : Place) → ¬ SpellsPlace text.now place }
 {
-    let steps: Trail<'s> = steps_of(alloc, text.as_str())?;
+    let steps: Trail<'s> = steps_of(alloc, text)?;
     let (names, rest) = cut(steps.as_slice());
     let token = path_like(alloc, names)?;
     if !token.is_token_path() {
@@ -180,10 +155,10 @@ pub fn read_group<'s>(alloc: Global, text: &Text<'s>) -> Result<Path<'s>, RefSto
     ensures path { IfOk result (λ path. SpellsGroup text.now path) }
     ensures bad { IsErrOf result RefStop.BadRef → (path : List (List ℕ)) → ¬ SpellsGroup text.now path }
 {
-    if let Some(path) = curly_names(alloc, text.as_str())? {
+    if let Some(path) = curly_names(alloc, text)? {
         return names_alone(path);
     }
-    let steps: Trail<'s> = steps_of(alloc, text.as_str())?;
+    let steps: Trail<'s> = steps_of(alloc, text)?;
     let path = path_like(alloc, steps.as_slice())?;
     names_alone(path)
 }

@@ -1,3 +1,4 @@
+pub mod Extending
 pub mod MapViews
 mod Members
 pub mod SortedEntries

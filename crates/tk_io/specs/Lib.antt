@@ -3,6 +3,7 @@ pub mod Reading
 pub mod Writing
 pub mod Memory
 pub mod Order
+pub mod FilesData
 pub mod Shown
 pub mod Text
 pub mod Search

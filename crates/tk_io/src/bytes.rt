@@ -1,5 +1,5 @@
 // Bytes that grow at their end.
-ghost use Rattle.std.specs.Prelude.{◌≡◌, [], ◌++◌, OnOk, OnErr, length};
+ghost use Rattle.std.specs.Prelude.{◌≡◌, ◌==◌, [], ◌++◌, OnOk, OnErr, length, take};
 
 use crate::NoMemory;
 use std::alloc::Global;
@@ -45,6 +45,36 @@ impl Bytes {
     {
         self.items.extend_from_slice(piece)?;
         Ok(())
+    }
+
+    /// Takes away all bytes behind the first `len`; none where there are no more than that.
+    pub fn truncate(&mut self, len: usize)
+        ensures { self.new ≡ take len self.old }
+    {
+        self.items.truncate(len);
+    }
+
+    /// Ends a run of appends that began at the length `start`: where it was refused, all bytes behind `start` are taken away.
+    pub fn all_or_nothing(
+        &mut self,
+        start: usize,
+        appended: Result<(), NoMemory>,
+    ) -> Result<(), NoMemory>
+        ensures same { result ≡ appended }
+        ensures ok { OnOk result (self.new ≡ self.old) }
+        ensures err { OnErr result (self.new ≡ take start self.old) }
+    {
+        if appended.is_err() {
+            self.truncate(start);
+        }
+        appended
+    }
+
+    /// Whether there are none.
+    pub fn is_empty(&self) -> bool
+        ensures { result ≡ (length self.now == 0) }
+    {
+        self.items.is_empty()
     }
 
     /// How many bytes there are.

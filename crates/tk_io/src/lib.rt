@@ -29,5 +29,5 @@ pub use sink::{Sink, write_all};
 pub use source::{ReadStop, Source, read_all};
 pub use steps::Steps;
 pub use streams::{StdSink, StdSource};
-pub use text::Text;
+pub use text::{Text, behind};
 pub use text_map::TextMap;

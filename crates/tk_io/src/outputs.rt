@@ -1,5 +1,5 @@
 // The outputs of a build.
-ghost use Rattle.std.specs.Prelude.{◌≡◌, List, ℕ, Some, cond, OnOk, OnErr};
+ghost use Rattle.std.specs.Prelude.{◌≡◌, ◌==◌, List, ℕ, Some, cond, OnOk, OnErr};
 ghost use Rattle.std.specs.BTreeMap.{is_at};
 ghost use Rattle.std.specs.FinMap as map;
 ghost use Rattle.std.specs.List.{slice_get};
@@ -46,6 +46,13 @@ impl Outputs {
         ensures { result ≡ map.len self.now }
     {
         self.bodies.len()
+    }
+
+    /// Whether there are none.
+    pub fn is_empty(&self) -> bool
+        ensures { result ≡ (map.len self.now == 0) }
+    {
+        self.bodies.is_empty()
     }
 
     /// The bytes of the output at the path, or none where there is no such output.

@@ -1,10 +1,12 @@
 // A text that is a slice of a source, or shared.
-ghost use Rattle.std.specs.Prelude.{◌≡◌, [], Some, IfOk, refl};
+ghost use Rattle.std.specs.Prelude.{◌≡◌, ◌≢◌, ◌<◌, ◌==◌, ◌++◌, ◌∷◌, [], ℕ, List, Some, IfOk, IfSome, IfNone, MatchOption, refl};
 ghost use Rattle.std.specs.Cmp as Cmp;
 ghost use Rattle.std.specs.Cmp.Lexicographic.{nat_list_eq_equiv, nat_list_cmp_total, texts_po, texts_ties};
 ghost use Rattle.std.specs.Cmp.Rules.{comparing, hashing};
 ghost use Rattle.std.specs.Hash as fed;
+ghost use Rattle.std.specs.List.{slice_split};
 ghost use Rattle.std.specs.Str.{bytes_eq};
+ghost use Rattle.std.specs.String.{string_bytes};
 ghost use Rattle.std.proofs.Common.{rules};
 ghost use Rattle.tk_io.specs.Order.{text_cmp};
 
@@ -57,6 +59,16 @@ impl<'s> Text<'s> {
         })
     }
 
+    /// A shared text of these characters, which are not copied.
+    pub fn from_string(text: String) -> Result<Text<'s>, NoMemory>
+        ensures { IfOk result (λ t. t ≡ string_bytes text) }
+    {
+        let shared = RcStr::from_string(text)?;
+        Ok(Text {
+            kept: Kept::Shared(shared),
+        })
+    }
+
     /// The characters.
     pub fn as_str(&self) -> &str
         ensures { result.now ≡ self.now }
@@ -80,6 +92,94 @@ impl<'s> Text<'s> {
                 Ok(Text {
                     kept: Kept::Shared(shared),
                 })
+            }
+        }
+    }
+}
+
+/// What stands behind the character at the text's beginning, or none where the text does not begin with it.
+pub fn behind<'a>(text: &'a str, first: char) -> Option<&'a str>
+    requires { first < 128 }
+    ensures { MatchOption result ((rest : List ℕ) → text.entry.now ≢ first ∷ rest) (λ rest. text.entry.now ≡ first ∷ rest.now) }
+{
+    text.strip_prefix(first)
+}
+
+// What stands before the character at the text's end.
+fn before<'a>(text: &'a str, last: char) -> Option<&'a str>
+    requires { last < 128 }
+    ensures { MatchOption result ((front : List ℕ) → text.entry.now ≢ front ++ last ∷ []) (λ front. text.entry.now ≡ front.now ++ last ∷ []) }
+{
+    text.strip_suffix(last)
+}
+
+// What stands between the character at the text's beginning and the one at its end.
+fn between<'a>(text: &'a str, first: char, last: char) -> Option<&'a str>
+    requires { (first < 128) × (last < 128) }
+    ensures some { IfSome result (λ inside. text.entry.now ≡ first ∷ (inside.now ++ last ∷ [])) }
+    ensures none { IfNone result ((inside : List ℕ) → text.entry.now ≢ first ∷ (inside ++ last ∷ [])) }
+{
+    match behind(text, first) {
+        Some(rest) => before(rest, last),
+        None => None,
+    }
+}
+
+// The slices of the text between the characters.
+fn slices<'a>(alloc: Global, text: &'a str, at: char) -> Result<Vec<Text<'a>>, NoMemory>
+    requires { at < 128 }
+    ensures { IfOk result (λ pieces. pieces.items ≡ slice_split (λ b. b == at) text.entry.now) }
+{
+    let pieces = text.split(at).map(|piece| Text::of(piece)).collect(alloc)?;
+    Ok(pieces)
+}
+
+// Shared texts of the same characters.
+fn shared<'s>(alloc: Global, texts: &[Text<'_>]) -> Result<Vec<Text<'s>>, NoMemory>
+    ensures { IfOk result (λ owned. owned.items ≡ texts.now) }
+{
+    let mut owned = Vec::new(alloc);
+    for text in texts {
+        owned.push(Text::owned(alloc, text.as_str())?)?;
+    }
+    Ok(owned)
+}
+
+impl<'s> Text<'s> {
+    /// What stands between the character at the text's beginning and the one at its end, or none where it does not stand
+    /// between them. Of a slice it is a slice.
+    pub fn inside(
+        &self,
+        alloc: Global,
+        first: char,
+        last: char,
+    ) -> Result<Option<Text<'s>>, NoMemory>
+        requires { (first < 128) × (last < 128) }
+        ensures some { IfOk result (λ found. IfSome found (λ t. self.now ≡ first ∷ (t ++ last ∷ []))) }
+        ensures none { IfOk result (λ found. IfNone found ((t : List ℕ) → self.now ≢ first ∷ (t ++ last ∷ []))) }
+    {
+        match &self.kept {
+            Kept::Slice(text) => match between(text, first, last) {
+                Some(inside) => Ok(Some(Text::of(inside))),
+                None => Ok(None),
+            },
+            Kept::Shared(text) => match between(text.as_str(), first, last) {
+                Some(inside) => Ok(Some(Text::owned(alloc, inside)?)),
+                None => Ok(None),
+            },
+        }
+    }
+
+    /// The pieces between the characters, which are one more than those. Of a slice they are slices.
+    pub fn split(&self, alloc: Global, at: char) -> Result<Vec<Text<'s>>, NoMemory>
+        requires { at < 128 }
+        ensures { IfOk result (λ pieces. pieces.items ≡ slice_split (λ b. b == at) self.now) }
+    {
+        match &self.kept {
+            Kept::Slice(text) => slices(alloc, text, at),
+            Kept::Shared(text) => {
+                let pieces = slices(alloc, text.as_str(), at)?;
+                shared(alloc, pieces.as_slice())
             }
         }
     }

@@ -1,5 +1,5 @@
 // A finite map under owned texts, the pattern of every map whose values contracts see whole.
-ghost use Rattle.std.specs.Prelude.{◌≡◌, List, ℕ, T, Some, None, OnOk, OnErr, cond, length};
+ghost use Rattle.std.specs.Prelude.{◌≡◌, ◌==◌, List, ℕ, T, Some, None, OnOk, OnErr, cond, length};
 ghost use Rattle.std.specs.BTreeMap.{is_at};
 ghost use Rattle.std.specs.FinMap as map;
 ghost use Rattle.std.specs.FinMap.{is_sorted};
@@ -80,6 +80,13 @@ impl<V> TextMap<V> {
         ensures { result ≡ map.len self.now }
     {
         self.entries.as_slice().len()
+    }
+
+    /// Whether there are none.
+    pub fn is_empty(&self) -> bool
+        ensures { result ≡ (map.len self.now == 0) }
+    {
+        self.len() == 0
     }
 
     /// The value under the key, or none where the key is not there.

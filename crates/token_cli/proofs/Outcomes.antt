@@ -5,7 +5,8 @@ use Rattle.std.specs.List.{slice_get}
 use Rattle.std.proofs.lemmas.Option.{none-some, same_Some}
 use Rattle.tk_io.specs.Reading.{TakesExactly}
 use Rattle.edit_script.specs.Script.{EventData, IsScript}
-use Rattle.edit_script.specs.Files.{FilesData, commit_count, up_to}
+use Rattle.tk_io.specs.FilesData.{FilesData}
+use Rattle.edit_script.specs.Files.{commit_count, up_to}
 use Rattle.edit_script.proofs.Readings.{one_reading}
 use Rattle.edit_script.proofs.Standing.{one_files}
 use Rattle.build_plain.specs.Out.{Builds}

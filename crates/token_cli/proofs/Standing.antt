@@ -6,7 +6,8 @@ use Rattle.std.specs.FinMap as map
 use Rattle.std.specs.List.{slice_get, flat_map}
 use Rattle.std.specs.Io.KnownBytes.{Appends}
 use Rattle.edit_script.specs.Script.{EventData, put, del, commit}
-use Rattle.edit_script.specs.Files.{FilesData, AreFilesAfter, AreFilesAt, commit_count, up_to}
+use Rattle.tk_io.specs.FilesData.{FilesData}
+use Rattle.edit_script.specs.Files.{AreFilesAfter, AreFilesAt, commit_count, up_to}
 use Rattle.edit_script.specs.Delta.{Held, Delta, IsDelta, AreDeltas}
 use Rattle.edit_script.specs.Stream.{line_text, commits_text, record_of}
 use Rattle.edit_script.specs.declared.line.Line.TheVariants.{StreamHead, Commit}

@@ -4,7 +4,8 @@ use Rattle.std.proofs.lemmas.Option.{same_Some}
 use Rattle.std.specs.FinMap as map
 use Rattle.std.specs.List.{slice_get}
 use Rattle.edit_script.specs.Script.{EventData}
-use Rattle.edit_script.specs.Files.{FilesData, up_to}
+use Rattle.tk_io.specs.FilesData.{FilesData}
+use Rattle.edit_script.specs.Files.{up_to}
 use Rattle.edit_script.specs.Delta.{Held, Delta, AreDeltas}
 use Rattle.edit_script.proofs.Deltas.{one_delta}
 use Rattle.edit_script.proofs.Standing.{one_files}

@@ -6,7 +6,8 @@ use Rattle.std.specs.List.{slice_get}
 use Rattle.std.specs.Io.KnownBytes.{Appends, IsAtEnd}
 use Rattle.tk_io.specs.Writing.{AppendsFront, AppendsPart}
 use Rattle.edit_script.specs.Script.{EventData, IsScript, IsScriptStop}
-use Rattle.edit_script.specs.Files.{FilesData, AreFilesAt, commit_count, whole}
+use Rattle.tk_io.specs.FilesData.{FilesData}
+use Rattle.edit_script.specs.Files.{AreFilesAt, commit_count, whole}
 use Rattle.edit_script.specs.Delta.{Held, Delta, AreDeltas, held_at}
 use Rattle.edit_script.specs.Stream.{commits_text, line_text, stream_of}
 use Rattle.edit_script.specs.declared.line.Line.TheVariants.{StreamHead}

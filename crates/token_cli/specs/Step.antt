@@ -6,7 +6,7 @@ use Rattle.std.specs.Io.KnownBytes.{Appends}
 use Rattle.tk_io.specs.Causes.{Rose}
 use Rattle.tk_io.specs.Writing.{AppendsPart}
 use Rattle.edit_script.specs.Script.{EventData, put, del, commit}
-use Rattle.edit_script.specs.Files.{FilesData}
+use Rattle.tk_io.specs.FilesData.{FilesData}
 use Rattle.edit_script.specs.Delta.{Held, Delta, IsDelta}
 use Rattle.edit_script.specs.Shown.{Lined}
 use Rattle.edit_script.specs.Stream.{line_text, record_of}

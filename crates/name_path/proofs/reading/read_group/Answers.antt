@@ -6,9 +6,9 @@ use Rattle.name_path.proofs.reading.read_group.Goals as goal
 
 pub returns-clause-bad : goal.returns-clause-bad
 returns-clause-bad c = λ h path s.
-    let none = subst (λ o. IfNone o ((other : List (List ℕ)) → c.as_str.result.now ≢ curly_text other)) c.in_default.is c.in_ok-path.ensures.none in
-    let read : c.args.text.now ≡ pointer_text c.in_ok-steps.steps = sym c.as_str-2.ensures ∙ c.in_ok-steps.ensures.steps in
+    let none = subst (λ o. IfNone o ((other : List (List ℕ)) → c.args.text.now ≢ curly_text other)) c.in_default.is c.in_ok-path.ensures.none in
+    let read : c.args.text.now ≡ pointer_text c.in_ok-steps.steps = c.in_ok-steps.ensures.steps in
     elim s.1 [
       | inl e ↦ c.names_alone-2.ensures.bad h (subst AreNames (one_pointer path c.in_ok-steps.steps (sym e ∙ read) ∙ sym (c.in_ok-path-2.ensures ∙ c.as_slice.ensures)) s.0)
-      | inr e ↦ none path (c.as_str.ensures ∙ e.1)
+      | inr e ↦ none path e.1
     ]
