@@ -4,7 +4,7 @@ use Rattle.std.specs.List.{slice_split}
 use Rattle.std.specs.Str.{bytes_eq}
 use Rattle.std.proofs.lemmas.List.Elements.{All-nil, All-cons, All-head, All-tail}
 use Rattle.name_path.specs.Names.{IsName, AreNames, IsTokenPath, root_name}
-use Rattle.name_path.specs.Pieces.{ArePlain, IsCut}
+use Rattle.name_path.specs.inner.Pieces.{ArePlain, IsCut}
 use Rattle.name_path.specs.Reference.{pointer_text, path_text, curly_text, value_step, SpellsPath, SpellsPlace}
 use Rattle.name_path.specs.declared.place.Place.{Place}
 use Rattle.name_path.proofs.Joins.{pieces_of}

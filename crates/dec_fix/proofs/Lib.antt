@@ -12,3 +12,4 @@ pub mod Grammar
 pub mod Exactness
 pub mod Exact
 pub mod Range
+pub mod ReadingBack

@@ -4,7 +4,7 @@ use Rattle.std.proofs.lemmas.Bool.{cases_eq, eq-eqb}
 use Rattle.std.proofs.lemmas.Bool.Decides.{nat_tests}
 use Rattle.std.proofs.lemmas.List.Elements.{All-append, All-cons, All-nil, All-head, All-tail}
 use Rattle.name_path.specs.Reference.{escaped}
-use Rattle.name_path.specs.Pieces.{EachLacks}
+use Rattle.name_path.specs.inner.Pieces.{EachLacks}
 
 -- a byte of a step
 abbrev esc : ℕ → List ℕ

@@ -6,7 +6,7 @@ use Rattle.std.proofs.lemmas.Bool.Decides.{nat_tests}
 use Rattle.std.proofs.lemmas.List.Elements.{All-cons, All-nil, All-head, All-tail}
 use Rattle.std.proofs.lemmas.List.Splits.{slice_split_none, slice_split_at, slice_split-cons_yes, slice_split-cons_no}
 use Rattle.name_path.specs.Reference.{escaped, pointer_text, path_text, curly_text}
-use Rattle.name_path.specs.Pieces.{EachLacks, ArePlain}
+use Rattle.name_path.specs.inner.Pieces.{EachLacks, ArePlain}
 use Rattle.name_path.proofs.Escaping.{distinct, one_steps, all_escaped_lack}
 
 neq : (a b : ℕ) → (a ≡ b → ⊥) → (a == b) ≡ false

@@ -3,7 +3,7 @@ use Rattle.std.proofs.Common.{◌≡◌, ◌≢◌, ℕ, List, [], ◌∷◌, �
 use Rattle.std.proofs.lemmas.List.Elements.{All-append, All-cons, All-nil, All-head, All-tail}
 use Rattle.name_path.specs.Names.{IsName, root_name, AreNames, IsTokenPath}
 use Rattle.name_path.specs.Reference.{pointer_text, curly_text, place_text, value_step, SpellsPath, SpellsPlace, SpellsGroup}
-use Rattle.name_path.specs.Pieces.{EachLacks, ArePlain, LacksStep, IsCut}
+use Rattle.name_path.specs.inner.Pieces.{EachLacks, ArePlain, LacksStep, IsCut}
 use Rattle.name_path.specs.declared.place.Place.{Place}
 use Rattle.name_path.proofs.Escaping.{distinct}
 use Rattle.name_path.proofs.Joins.{one_pointer, one_curly, apart_texts}

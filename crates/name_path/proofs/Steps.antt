@@ -5,7 +5,7 @@ use Rattle.std.proofs.lemmas.List.{take-append-drop, take_more, take_all, length
 use Rattle.std.proofs.lemmas.List.Elements.{All-get_or, All-cons, All-nil, All-tail}
 use Rattle.std.proofs.lemmas.List.Splits.{join_with_byte-slice_split}
 use Rattle.name_path.specs.Reference.{escaped, pointer_text, curly_text, path_text}
-use Rattle.name_path.specs.Pieces.{EachLacks, ArePlain}
+use Rattle.name_path.specs.inner.Pieces.{EachLacks, ArePlain}
 use Rattle.name_path.proofs.Escaping.{spelled_left, no_spelling, spells_itself, escaped_append, all_escaped_lack}
 use Rattle.name_path.proofs.Joins.{steps_join, split_join, some_piece, pieces_of, inside_one}
 

@@ -1,4 +1,4 @@
-pub mod Kinds
 pub mod Names
-pub mod Pieces
 pub mod Reference
+pub mod Kinds
+pub mod inner

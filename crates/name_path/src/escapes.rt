@@ -13,7 +13,8 @@ use tk_io::{Bytes, NoMemory, behind};
 fn behind_tilde<'a>(text: &'a str) -> Option<(&'static str, &'a str)>
     ensures some { IfSome result (λ p. 126 ∷ text.entry.now ≡ escaped p.0.now ++ p.1.now) }
     ensures shorter { IfSome result (λ p. length p.1.now < length text.entry.now) }
-    ensures none { IfNone result ((rest : List ℕ) → (text.entry.now ≢ 48 ∷ rest) × (text.entry.now ≢ 49 ∷ rest)) }
+    ensures none { IfNone result ((rest : List ℕ)
+        → (text.entry.now ≢ 48 ∷ rest) × (text.entry.now ≢ 49 ∷ rest)) }
 {
     if let Some(rest) = behind(text, '0') {
         return Some(("~", rest));

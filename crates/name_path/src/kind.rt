@@ -66,7 +66,8 @@ impl Kind {
 
     /// The kind that is spelled so, or none where no kind is.
     pub fn named(text: &str) -> Option<Kind>
-        ensures { MatchOption result ((kind : Kind) → kind_name kind ≢ text.now) (λ kind. kind_name kind ≡ text.now) }
+        ensures { MatchOption result ((kind : Kind) → kind_name kind ≢ text.now)
+            (λ kind. kind_name kind ≡ text.now) }
     {
         for kind in &KINDS {
             if kind.name() == text {

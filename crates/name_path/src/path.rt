@@ -75,11 +75,7 @@ impl<'s> Path<'s> {
     pub fn copy(&self) -> Result<Path<'s>, NoMemory>
         ensures { IfOk result (λ p. p ≡ self.now) }
     {
-        let mut path = Path::new(*self.names.allocator());
-        for name in self.names.as_slice() {
-            path.push(name.copy()?)?;
-        }
-        Ok(path)
+        copied(*self.names.allocator(), self.names.as_slice())
     }
 
     /// Whether it is names alone, as the path of a group is.
@@ -104,6 +100,19 @@ impl<'s> Path<'s> {
         }
         is_name(last.as_str())
     }
+}
+
+/// A path of the same names, for which memory is asked at most once.
+pub(crate) fn copied<'s>(alloc: Global, names: &[Text<'s>]) -> Result<Path<'s>, NoMemory>
+    ensures { IfOk result (λ path. path ≡ names.now) }
+{
+    let mut path = Path {
+        names: SmallVec::with_capacity(alloc, names.len())?,
+    };
+    for name in names {
+        path.push(name.copy()?)?;
+    }
+    Ok(path)
 }
 
 fn are_names(names: &[Text<'_>]) -> bool

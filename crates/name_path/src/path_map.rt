@@ -114,7 +114,9 @@ impl<'s, V> PathMap<'s, V> {
 
     /// All entries in path order.
     pub fn entries(&self, alloc: Global) -> Result<Vec<(&Path<'s>, &V)>, NoMemory>
-        ensures { IfOk result (λ es. map_list {B = List (List ℕ) × V} (λ e. (e.0.now, e.1.now)) es.items ≡ map.entries self.now) }
+        ensures { IfOk result
+            (λ es. map_list {B = List (List ℕ) × V}
+            (λ e. (e.0.now, e.1.now)) es.items ≡ map.entries self.now) }
     {
         let mut list = Vec::new(alloc);
         for (path, value) in self.as_slice() {
@@ -125,7 +127,8 @@ impl<'s, V> PathMap<'s, V> {
 
     /// The i-th entry in path order, counted from 0; none where i is not below the length.
     pub fn at(&self, i: usize) -> Option<(&Path<'s>, &V)>
-        ensures { option_map {U = List (List ℕ) × V} (λ e. (e.0.now, e.1.now)) result ≡ slice_get (map.entries self.now) i }
+        ensures { option_map {U = List (List ℕ) × V}
+            (λ e. (e.0.now, e.1.now)) result ≡ slice_get (map.entries self.now) i }
     {
         match entry_at(self.entries.as_slice(), i) {
             Some((path, value)) => Some((path, value)),
@@ -140,7 +143,9 @@ impl<'s, V: Drop> PathMap<'s, V> {
     pub fn put(&mut self, path: &Path<'s>, value: V) -> Result<(), NoMemory>
         ensures ok { OnOk result (self.new ≡ map.insert self.old path.now value) }
         // What stands at each path afterwards.
-        ensures at { OnOk result ((q : List (List ℕ)) → map.get self.new q ≡ cond (is_at (names_cmp path.now) q) (Some value) (map.get self.old q)) }
+        ensures at { OnOk result ((q : List (List ℕ))
+            → map.get self.new q
+            ≡ cond (is_at (names_cmp path.now) q) (Some value) (map.get self.old q)) }
         ensures err { OnErr result (self.new ≡ self.old) }
     {
         match place_of(self.entries.as_slice(), path) {

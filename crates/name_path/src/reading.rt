@@ -2,12 +2,14 @@
 ghost use Rattle.std.specs.Prelude.{◌≡◌, ◌≢◌, ◌++◌, ◌∷◌, [], ℕ, ◌==◌, ◌<◌, List, All, IfOk, IfSome, IfNone, IsErrOf, MatchOption, map};
 ghost use Rattle.name_path.specs.Names.{AreNames};
 ghost use Rattle.name_path.specs.Reference.{escaped, pointer_text, curly_text, SpellsPath, SpellsPlace, SpellsGroup};
-ghost use Rattle.name_path.specs.Pieces.{ArePlain, EachLacks, IsCut};
+ghost use Rattle.name_path.specs.inner.Pieces.{ArePlain, EachLacks, IsCut};
 ghost use Rattle.name_path.specs.declared.place.Place.{Place};
 ghost use Rattle.name_path.specs.declared.reading.RefStop.TheVariants.{NoMemory as OutOfMemory};
 
 use crate::escapes::unescaped;
+use crate::path::copied;
 use crate::pieces::around;
+use crate::trail::copied as steps_copied;
 use crate::{Path, Place, Trail};
 use std::alloc::Global;
 use tk_io::{NoMemory, Text};
@@ -29,35 +31,30 @@ impl From<NoMemory> for RefStop {
     }
 }
 
-/// A path of the same names.
-fn path_like<'s>(alloc: Global, names: &[Text<'s>]) -> Result<Path<'s>, NoMemory>
-    ensures { IfOk result (λ path. path ≡ names.now) }
-{
-    let mut path = Path::new(alloc);
-    for name in names {
-        path.push(name.copy()?)?;
-    }
-    Ok(path)
-}
-
 /// The texts between the points inside the braces, whether they are names or not; none where there are no braces.
 fn curly_names<'s>(alloc: Global, text: &Text<'s>) -> Result<Option<Path<'s>>, NoMemory>
-    ensures some { IfOk result (λ found. IfSome found (λ path. (path ≢ []) × (text.now ≡ curly_text path))) }
-    ensures one { IfOk result (λ found. IfSome found (λ path. (other : List (List ℕ)) → ArePlain other → text.now ≡ curly_text other → other ≡ path)) }
-    ensures none { IfOk result (λ found. IfNone found ((path : List (List ℕ)) → text.now ≢ curly_text path)) }
+    ensures some { IfOk result
+        (λ found. IfSome found (λ path. (path ≢ []) × (text.now ≡ curly_text path))) }
+    ensures one { IfOk result
+        (λ found. IfSome found
+        (λ path. (other : List (List ℕ)) → ArePlain other → text.now ≡ curly_text other
+        → other ≡ path)) }
+    ensures none { IfOk result
+        (λ found. IfNone found ((path : List (List ℕ)) → text.now ≢ curly_text path)) }
 {
     let Some(inside) = text.inside(alloc, '{', '}')? else {
         return Ok(None);
     };
     let names = inside.split(alloc, '.')?;
-    let path = path_like(alloc, names.as_slice())?;
+    let path = copied(alloc, names.as_slice())?;
     Ok(Some(path))
 }
 
 /// Reads a curly alias, as `{a.b}`. It is `BadRef` exactly where the text spells no path of a token in braces.
 pub fn read_curly<'s>(alloc: Global, text: &Text<'s>) -> Result<Path<'s>, RefStop>
     ensures path { IfOk result (λ path. SpellsPath text.now path) }
-    ensures bad { IsErrOf result RefStop.BadRef → (path : List (List ℕ)) → ¬ SpellsPath text.now path }
+    ensures bad { IsErrOf result RefStop.BadRef → (path : List (List ℕ))
+        → ¬ SpellsPath text.now path }
 {
     let Some(path) = curly_names(alloc, text)? else {
         return Err(RefStop::BadRef);
@@ -87,7 +84,8 @@ fn step_of<'s>(alloc: Global, segment: &Text<'s>) -> Result<Text<'s>, RefStop>
 fn decoded<'s>(alloc: Global, segments: &[Text<'s>]) -> Result<Trail<'s>, RefStop>
     requires { EachLacks 47 segments.now }
     ensures steps { IfOk result (λ steps. segments.now ≡ map escaped steps) }
-    ensures bad { IsErrOf result RefStop.BadRef → (steps : List (List ℕ)) → segments.now ≢ map escaped steps }
+    ensures bad { IsErrOf result RefStop.BadRef → (steps : List (List ℕ))
+        → segments.now ≢ map escaped steps }
 {
     let mut steps = Trail::new(alloc);
     for segment in segments {
@@ -99,7 +97,8 @@ fn decoded<'s>(alloc: Global, segments: &[Text<'s>]) -> Result<Trail<'s>, RefSto
 /// The steps of a pointer after its `#`.
 fn steps_of<'s>(alloc: Global, text: &Text<'s>) -> Result<Trail<'s>, RefStop>
     ensures steps { IfOk result (λ steps. text.now ≡ pointer_text steps) }
-    ensures bad { IsErrOf result RefStop.BadRef → (steps : List (List ℕ)) → text.now ≢ pointer_text steps }
+    ensures bad { IsErrOf result RefStop.BadRef → (steps : List (List ℕ))
+        → text.now ≢ pointer_text steps }
 {
     let pieces = text.split(alloc, '/')?;
     let Some((first, segments)) = pieces.as_slice().split_first() else {
@@ -123,16 +122,6 @@ fn cut<'a, 's>(steps: &'a [Text<'s>]) -> (&'a [Text<'s>], &'a [Text<'s>])
     (steps, &steps[..0])
 }
 
-fn trail_like<'s>(alloc: Global, steps: &[Text<'s>]) -> Result<Trail<'s>, NoMemory>
-    ensures { IfOk result (λ trail. trail ≡ steps.now) }
-{
-    let mut trail = Trail::new(alloc);
-    for step in steps {
-        trail.push(step.copy()?)?;
-    }
-    Ok(trail)
-}
-
 /// Reads a pointer to a place, as `#/a/b/$value/0`; `#/a/b` is the token's whole value (RFC 6901 behind `#`, without percent
 /// encoding). It is `BadRef` exactly where the text spells no place. Any text is a step behind `$value`.
 pub fn read_pointer<'s>(alloc: Global, text: &Text<'s>) -> Result<Place<'s>, RefStop>
@@ -141,11 +130,11 @@ pub fn read_pointer<'s>(alloc: Global, text: &Text<'s>) -> Result<Place<'s>, Ref
 {
     let steps: Trail<'s> = steps_of(alloc, text)?;
     let (names, rest) = cut(steps.as_slice());
-    let token = path_like(alloc, names)?;
+    let token = copied(alloc, names)?;
     if !token.is_token_path() {
         return Err(RefStop::BadRef);
     }
-    let trail = trail_like(alloc, rest)?;
+    let trail = steps_copied(alloc, rest)?;
     Ok(Place { token, trail })
 }
 
@@ -153,13 +142,14 @@ pub fn read_pointer<'s>(alloc: Global, text: &Text<'s>) -> Result<Place<'s>, Ref
 /// spells no path of a group.
 pub fn read_group<'s>(alloc: Global, text: &Text<'s>) -> Result<Path<'s>, RefStop>
     ensures path { IfOk result (λ path. SpellsGroup text.now path) }
-    ensures bad { IsErrOf result RefStop.BadRef → (path : List (List ℕ)) → ¬ SpellsGroup text.now path }
+    ensures bad { IsErrOf result RefStop.BadRef → (path : List (List ℕ))
+        → ¬ SpellsGroup text.now path }
 {
     if let Some(path) = curly_names(alloc, text)? {
         return names_alone(path);
     }
     let steps: Trail<'s> = steps_of(alloc, text)?;
-    let path = path_like(alloc, steps.as_slice())?;
+    let path = copied(alloc, steps.as_slice())?;
     names_alone(path)
 }
 

@@ -68,12 +68,21 @@ impl<'s> Trail<'s> {
     pub fn copy(&self) -> Result<Trail<'s>, NoMemory>
         ensures { IfOk result (λ t. t ≡ self.now) }
     {
-        let mut trail = Trail::new(*self.steps.allocator());
-        for step in self.steps.as_slice() {
-            trail.push(step.copy()?)?;
-        }
-        Ok(trail)
+        copied(*self.steps.allocator(), self.steps.as_slice())
     }
+}
+
+/// A trail of the same steps, for which memory is asked at most once.
+pub(crate) fn copied<'s>(alloc: Global, steps: &[Text<'s>]) -> Result<Trail<'s>, NoMemory>
+    ensures { IfOk result (λ trail. trail ≡ steps.now) }
+{
+    let mut trail = Trail {
+        steps: Vec::with_capacity(alloc, steps.len())?,
+    };
+    for step in steps {
+        trail.push(step.copy()?)?;
+    }
+    Ok(trail)
 }
 
 impl<'s> PartialEq for Trail<'s> {

@@ -27,7 +27,8 @@ impl<'a> Model for MemSource<'a> {
 impl<'a> MemSource<'a> {
     /// A source of these bytes. The calls whose numbers stand in `fails` fail.
     pub fn new(bytes: &'a [u8], fails: &'a [u64]) -> MemSource<'a>
-        ensures { result ≡ record { left = bytes.entry.now; fails = fails.entry.now; calls = 0; faults = 0 } }
+        ensures { result
+            ≡ record { left = bytes.entry.now; fails = fails.entry.now; calls = 0; faults = 0 } }
     {
         MemSource {
             bytes,
@@ -94,7 +95,14 @@ impl<'a> MemSink<'a> {
     /// A sink with nothing written. The calls whose numbers stand in `fails` fail.
     pub fn new(fails: &'a [u64], most: usize, room: &'a mut [u8]) -> MemSink<'a>
         requires { 1 ≤ most }
-        ensures { result ≡ record { written = []; room = length room.old; most = most; fails = fails.entry.now; calls = 0; faults = 0 } }
+        ensures { result ≡ record {
+          written = [];
+          room = length room.old;
+          most = most;
+          fails = fails.entry.now;
+          calls = 0;
+          faults = 0;
+        } }
     {
         MemSink {
             fails,
@@ -123,13 +131,17 @@ impl<'a> Sink for MemSink<'a> {
     fn write(&mut self, piece: &[u8]) -> Result<usize, Failed>
         ensures bound { IfOk result (λ n. n ≤ length piece.now) }
         ensures some { IfOk result (λ n. 0 < length piece.now → 0 < n) }
-        ensures bytes { WriteAppends (Some self.old.written) (Some self.new.written) result piece.now }
+        ensures bytes { WriteAppends (Some self.old.written) (Some self.new.written)
+            result piece.now }
         ensures cause { HasCause self.old.faults self.new.faults result }
         ensures once { OnErr result (self.new.faults ≡ following self.old.faults) }
         ensures number { self.new.calls ≡ following self.old.calls }
-        ensures same { (self.new.fails ≡ self.old.fails) × (self.new.most ≡ self.old.most) × (self.new.room ≡ self.old.room) }
-        ensures failed { IsErr result ↔ MustFail self.old.fails (following self.old.calls) (length piece.now) (self.old.room - length self.old.written) }
-        ensures takes { IfOk result (λ n. n ≡ min (min (length piece.now) self.old.most) (self.old.room - length self.old.written)) }
+        ensures same { (self.new.fails ≡ self.old.fails) × (self.new.most ≡ self.old.most)
+            × (self.new.room ≡ self.old.room) }
+        ensures failed { IsErr result ↔ MustFail self.old.fails (following self.old.calls)
+            (length piece.now) (self.old.room - length self.old.written) }
+        ensures takes { IfOk result (λ n. n ≡ min (min (length piece.now) self.old.most)
+            (self.old.room - length self.old.written)) }
     {
         self.calls = self.calls.saturating_add(1);
         let free = self.room.len() - self.len;

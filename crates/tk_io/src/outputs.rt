@@ -86,7 +86,9 @@ impl Outputs {
     pub fn insert(&mut self, path: &str, body: Bytes) -> Result<(), NoMemory>
         ensures ok { OnOk result (self.new ≡ map.insert self.old path.now body) }
         // What stands at each path afterwards.
-        ensures at { OnOk result ((q : List ℕ) → map.get self.new q ≡ cond (is_at (text_cmp path.now) q) (Some body) (map.get self.old q)) }
+        ensures at { OnOk result ((q : List ℕ)
+            → map.get self.new q
+            ≡ cond (is_at (text_cmp path.now) q) (Some body) (map.get self.old q)) }
         ensures err { OnErr result (self.new ≡ self.old) }
     {
         self.bodies.put(path, body)

@@ -52,11 +52,14 @@ const CHUNK: usize = 65536;
 pub fn read_all<S: Source>(alloc: Global, src: &mut S, limit: u64) -> Result<Bytes, ReadStop>
     requires { limit < 2 ^ 32 }
     // What is read is all that the source had left.
-    ensures whole { IfOk result (λ bytes. Consumes (S.left src.old) (S.left src.new) bytes × IsAtEnd (S.left src.new)) }
+    ensures whole { IfOk result
+        (λ bytes. Consumes (S.left src.old) (S.left src.new) bytes × IsAtEnd (S.left src.new)) }
     ensures short { IfOk result (λ bytes. length bytes ≤ limit) }
     // One byte more than the limit was taken exactly where it is too long, and never more.
-    ensures long { IsErrOf result ReadStop.TooLong → TakesExactly (limit + 1) (S.left src.old) (S.left src.new) }
-    ensures taken { (IsErrOf result ReadStop.TooLong → ⊥) → TakesAtMost limit (S.left src.old) (S.left src.new) }
+    ensures long { IsErrOf result ReadStop.TooLong
+        → TakesExactly (limit + 1) (S.left src.old) (S.left src.new) }
+    ensures taken { (IsErrOf result ReadStop.TooLong → ⊥)
+        → TakesAtMost limit (S.left src.old) (S.left src.new) }
     ensures fault { IsErrOf result ReadStop.ReadFault → Rose (S.faults src.old) (S.faults src.new) }
     ensures later { S.faults src.old ≤ S.faults src.new }
 {

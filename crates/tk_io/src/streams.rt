@@ -43,7 +43,8 @@ impl<R: Read> Source for StdSource<R> {
     /// Reads from the reader; each error of it is a fault.
     fn read(&mut self, buf: &mut [u8]) -> Result<usize, Failed>
         ensures bound { IfOk result (λ n. n ≤ length buf.new) }
-        ensures bytes { ReadConsumes (R.remaining self.old.0) (R.remaining self.new.0) result buf.new }
+        ensures bytes { ReadConsumes (R.remaining self.old.0) (R.remaining self.new.0)
+            result buf.new }
         ensures cause { HasCause self.old.1 self.new.1 result }
         ensures once { OnErr result (self.new.1 ≡ following self.old.1) }
     {
@@ -93,7 +94,8 @@ impl<W: Write> Sink for StdSink<W> {
     fn write(&mut self, piece: &[u8]) -> Result<usize, Failed>
         ensures bound { IfOk result (λ n. n ≤ length piece.now) }
         ensures some { IfOk result (λ n. 0 < length piece.now → 0 < n) }
-        ensures bytes { WriteAppends (W.contents self.old.0) (W.contents self.new.0) result piece.now }
+        ensures bytes { WriteAppends (W.contents self.old.0) (W.contents self.new.0)
+            result piece.now }
         ensures cause { HasCause self.old.1 self.new.1 result }
         ensures once { OnErr result (self.new.1 ≡ following self.old.1) }
     {

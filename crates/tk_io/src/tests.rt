@@ -1,7 +1,7 @@
 // Each call once on its happy path, and reading and writing where calls fail or take little.
 use crate::{
-    Bytes, CleanSource, MemSink, MemSource, NullSink, Outputs, ReadStop, Sequence, StdSink,
-    StdSource, Text, TextMap, is_in, read_all, write_all,
+    Bytes, CleanSource, MemSink, MemSource, NoMemory, NullSink, Outputs, ReadStop, Sequence,
+    StdSink, StdSource, Text, TextMap, behind, is_in, read_all, write_all,
 };
 use std::alloc::Global;
 use std::process::Abort;
@@ -107,13 +107,20 @@ fn texts_bytes_and_lists_hold_what_was_put(rt: HostRuntime) -> Result<(), Fail> 
     let mut bytes = Bytes::new(alloc);
     bytes.append(b"ab")?;
     assert_eq!(rt; bytes.as_slice(), b"ab".as_slice());
-    assert_eq!(rt; bytes.fresh().len(), 0);
+    assert!(rt; bytes.fresh().is_empty());
+    bytes.append(b"cd")?;
+    bytes.all_or_nothing(2, Ok(()))?;
+    bytes.truncate(3);
+    assert_eq!(rt; bytes.as_slice(), b"abc".as_slice());
+    assert_eq!(rt; bytes.all_or_nothing(1, Err(NoMemory)), Err(NoMemory));
+    assert_eq!(rt; bytes.as_slice(), b"a".as_slice());
     let owned = Text::owned(alloc, "ab")?;
     assert_eq!(rt; owned.copy()?.as_str(), "ab");
     assert!(rt;
         owned == Text::of("ab") && Text::of("a") < owned && Text::default() < Text::of("a")
     );
     let mut list: Sequence<u8> = Sequence::new(alloc);
+    assert!(rt; list.is_empty());
     list.push(7)?;
     assert_eq!(rt; list.len(), 1);
     assert_eq!(rt; list.at(0), Some(&7));
@@ -122,9 +129,45 @@ fn texts_bytes_and_lists_hold_what_was_put(rt: HostRuntime) -> Result<(), Fail> 
     Ok(())
 }
 
+// The pieces between the commas inside brackets, with `|` behind each.
+fn pieces(alloc: Global, text: &Text<'_>) -> Result<Bytes, NoMemory> {
+    let mut out = Bytes::new(alloc);
+    let Some(inside) = text.inside(alloc, '[', ']')? else {
+        return Ok(out);
+    };
+    for piece in inside.split(alloc, ',')? {
+        out.append(piece.as_str().as_bytes())?;
+        out.append(b"|")?;
+    }
+    Ok(out)
+}
+
+#[test]
+fn texts_are_cut_into_pieces(rt: HostRuntime) -> Result<(), Fail> {
+    let alloc = rt.alloc();
+    for (text, cut) in [
+        ("[a,b]", "a|b|"),
+        ("[]", "|"),
+        ("[ä,,]", "ä|||"),
+        ("[a", ""),
+        ("a]", ""),
+        ("[", ""),
+    ] {
+        let found = pieces(alloc, &Text::of(text))?;
+        assert_eq!(rt; found.as_slice(), cut.as_bytes());
+        let string = String::from_str(alloc, text)?;
+        let again = pieces(alloc, &Text::from_string(string)?)?;
+        assert_eq!(rt; again.as_slice(), cut.as_bytes());
+    }
+    assert_eq!(rt; behind("#a", '#'), Some("a"));
+    assert_eq!(rt; behind("a", '#'), None);
+    Ok(())
+}
+
 #[test]
 fn outputs_keep_the_last_body_in_byte_order(rt: HostRuntime) -> Result<(), Fail> {
     let mut outputs = Outputs::new(rt.alloc());
+    assert!(rt; outputs.is_empty());
     for (path, body) in [("p", "a"), ("p", "b"), ("o/x", "c")] {
         let mut bytes = Bytes::new(rt.alloc());
         bytes.append(body.as_bytes())?;
@@ -143,6 +186,7 @@ fn outputs_keep_the_last_body_in_byte_order(rt: HostRuntime) -> Result<(), Fail>
 #[test]
 fn maps_keep_and_lose_values(rt: HostRuntime) -> Result<(), Fail> {
     let mut map: TextMap<u8> = TextMap::new(rt.alloc());
+    assert!(rt; map.is_empty());
     map.put("a", 1)?;
     map.put("a", 2)?;
     assert_eq!(rt; map.get("a").copied(), Some(2));

@@ -100,7 +100,8 @@ impl<'s> Text<'s> {
 /// What stands behind the character at the text's beginning, or none where the text does not begin with it.
 pub fn behind<'a>(text: &'a str, first: char) -> Option<&'a str>
     requires { first < 128 }
-    ensures { MatchOption result ((rest : List ℕ) → text.entry.now ≢ first ∷ rest) (λ rest. text.entry.now ≡ first ∷ rest.now) }
+    ensures { MatchOption result ((rest : List ℕ) → text.entry.now ≢ first ∷ rest)
+        (λ rest. text.entry.now ≡ first ∷ rest.now) }
 {
     text.strip_prefix(first)
 }
@@ -108,7 +109,8 @@ pub fn behind<'a>(text: &'a str, first: char) -> Option<&'a str>
 // What stands before the character at the text's end.
 fn before<'a>(text: &'a str, last: char) -> Option<&'a str>
     requires { last < 128 }
-    ensures { MatchOption result ((front : List ℕ) → text.entry.now ≢ front ++ last ∷ []) (λ front. text.entry.now ≡ front.now ++ last ∷ []) }
+    ensures { MatchOption result ((front : List ℕ) → text.entry.now ≢ front ++ last ∷ [])
+        (λ front. text.entry.now ≡ front.now ++ last ∷ []) }
 {
     text.strip_suffix(last)
 }
@@ -117,7 +119,8 @@ fn before<'a>(text: &'a str, last: char) -> Option<&'a str>
 fn between<'a>(text: &'a str, first: char, last: char) -> Option<&'a str>
     requires { (first < 128) × (last < 128) }
     ensures some { IfSome result (λ inside. text.entry.now ≡ first ∷ (inside.now ++ last ∷ [])) }
-    ensures none { IfNone result ((inside : List ℕ) → text.entry.now ≢ first ∷ (inside ++ last ∷ [])) }
+    ensures none { IfNone result ((inside : List ℕ)
+        → text.entry.now ≢ first ∷ (inside ++ last ∷ [])) }
 {
     match behind(text, first) {
         Some(rest) => before(rest, last),
@@ -155,8 +158,10 @@ impl<'s> Text<'s> {
         last: char,
     ) -> Result<Option<Text<'s>>, NoMemory>
         requires { (first < 128) × (last < 128) }
-        ensures some { IfOk result (λ found. IfSome found (λ t. self.now ≡ first ∷ (t ++ last ∷ []))) }
-        ensures none { IfOk result (λ found. IfNone found ((t : List ℕ) → self.now ≢ first ∷ (t ++ last ∷ []))) }
+        ensures some { IfOk result
+            (λ found. IfSome found (λ t. self.now ≡ first ∷ (t ++ last ∷ []))) }
+        ensures none { IfOk result
+            (λ found. IfNone found ((t : List ℕ) → self.now ≢ first ∷ (t ++ last ∷ []))) }
     {
         match &self.kept {
             Kept::Slice(text) => match between(text, first, last) {

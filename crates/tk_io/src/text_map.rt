@@ -102,7 +102,8 @@ impl<V> TextMap<V> {
 
     /// The i-th entry in byte order of keys, counted from 0; none where i is not below the length.
     pub fn at(&self, i: usize) -> Option<(&str, &V)>
-        ensures { option_map {U = List ℕ × V} (λ e. (e.0.now, e.1.now)) result ≡ slice_get (map.entries self.now) i }
+        ensures { option_map {U = List ℕ × V}
+            (λ e. (e.0.now, e.1.now)) result ≡ slice_get (map.entries self.now) i }
     {
         match entry_at(self.entries.as_slice(), i) {
             Some((key, value)) => Some((key.as_str(), value)),
@@ -124,7 +125,9 @@ impl<V: Drop> TextMap<V> {
     pub fn put(&mut self, key: &str, value: V) -> Result<(), NoMemory>
         ensures ok { OnOk result (self.new ≡ map.insert self.old key.now value) }
         // What stands at each key afterwards.
-        ensures at { OnOk result ((q : List ℕ) → map.get self.new q ≡ cond (is_at (text_cmp key.now) q) (Some value) (map.get self.old q)) }
+        ensures at { OnOk result ((q : List ℕ)
+            → map.get self.new q
+            ≡ cond (is_at (text_cmp key.now) q) (Some value) (map.get self.old q)) }
         ensures err { OnErr result (self.new ≡ self.old) }
     {
         match place_of(self.entries.as_slice(), key) {
@@ -144,7 +147,8 @@ impl<V: Drop> TextMap<V> {
     pub fn del(&mut self, key: &str)
         ensures gone { self.new ≡ map.remove self.old key.now }
         // What stands at each key afterwards.
-        ensures at { (q : List ℕ) → map.get self.new q ≡ cond (is_at (text_cmp key.now) q) None (map.get self.old q) }
+        ensures at { (q : List ℕ)
+            → map.get self.new q ≡ cond (is_at (text_cmp key.now) q) None (map.get self.old q) }
     {
         match place_of(self.entries.as_slice(), key) {
             Ok(i) => {

@@ -12,7 +12,7 @@ use Rattle.json_span.specs.PlainView.{Value}
 use Rattle.dec_fix.specs.Decimal.{Decimal, IsExact}
 use Rattle.dec_fix.specs.Arithmetic.{IsPart, order_with, whole}
 use Rattle.dec_fix.specs.Reading.{number_of}
-use Rattle.dec_fix.proofs.Exactness.{ok_exact}
+use Rattle.dec_fix.proofs.ReadingBack.{read_exact}
 use Rattle.name_path.specs.declared.kind.Kind.{Kind}
 use Rattle.name_path.specs.declared.kind.Kind.TheVariants as kind
 use Rattle.type_rules.specs.declared.fault.ValueRule.{ValueRule}
@@ -41,7 +41,7 @@ use Rattle.type_rules.proofs.WordFacts.{all_meanings, and_left, and_right}
 
 pub numbers_keep : (v : Value) (d : Decimal) → number_in v ≡ Ok d → IsExact d
 unfolding number_in
-numbers_keep v d e = made (or_broken ValueShape (spelling_in v)) (λ s. or_broken NumberWide (number_of s)) d e (λ s h k. ok_exact {E = ℕ} s (Ok d) (sym (from_some NumberWide (number_of s) d k)))
+numbers_keep v d e = made (or_broken ValueShape (spelling_in v)) (λ s. or_broken NumberWide (number_of s)) d e (λ s h k. read_exact s d (from_some NumberWide (number_of s) d k))
 
 by_test : (rule : ValueRule) (b : Bool) (d n : Decimal) → ◌≡◌ {A = Checked Decimal} (cond b (Ok d) (broken rule)) (Ok n) → (d ≡ n) × (b ≡ true)
 by_test rule true d n e = (ok_is d n e, refl)

@@ -9,11 +9,10 @@ use Rattle.std.specs.declared.cmp.Ordering.{Ordering}
 use Rattle.std.specs.declared.cmp.Ordering.TheVariants.{Less, Equal, Greater}
 use Rattle.json_span.specs.Plain.{plain_number, plain_string, plain_array, plain_object, plains_of, plain_members_of, plains_in}
 use Rattle.json_span.specs.PlainView.{Value, Entry}
-use Rattle.dec_fix.specs.Decimal.{Decimal, IsExact, IsDec}
+use Rattle.dec_fix.specs.Decimal.{Decimal, IsExact}
 use Rattle.dec_fix.specs.Arithmetic.{IsPart, order_with}
 use Rattle.dec_fix.specs.Writing.{spelling}
-use Rattle.dec_fix.proofs.Exact.{spelling_spells}
-use Rattle.dec_fix.proofs.Exactness.{number_of-spelled}
+use Rattle.dec_fix.proofs.ReadingBack.{written_read}
 use Rattle.type_rules.specs.declared.fault.ValueRule.{ValueRule}
 use Rattle.type_rules.specs.declared.fault.ValueRule.TheVariants.{NumberWide, DimensionUnit, DurationUnit, BezierRange, WeightRange, ColorSpace, ColorRange, ColorAlpha}
 use Rattle.type_rules.specs.declared.range.Range.{Range}
@@ -47,12 +46,9 @@ array vs = plain_array (plains_of vs)
 abbrev pub number : Decimal → Value
 number d = plain_number (spelling d)
 
-is_dec : (d : Decimal) → IsExact d → IsDec d
-is_dec d h = record { size = omega (arith, h.size); places = omega (arith, h.places); short = h.short }
-
 pub number_some : (d : Decimal) → IsExact d → number_in (number d) ≡ Ok d
 unfolding number_in
-number_some d h = ap (or_broken NumberWide) (number_of-spelled (spelling d) d h (spelling_spells d (is_dec d h)))
+number_some d h = ap (or_broken NumberWide) (written_read d h)
 
 pub word_some : {A : Type 0} (rule : ValueRule) (table : List (List ℕ × A)) (word : List ℕ) (x : A) → meaning table word ≡ Some x → word_in rule table (plain_string word) ≡ Ok x
 unfolding word_in text_in

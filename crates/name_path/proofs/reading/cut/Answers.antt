@@ -2,7 +2,7 @@ use Rattle.std.proofs.Common.{inl, inr, refl, sym, ◌∙◌, subst}
 use Rattle.std.proofs.lemmas.List.{take_all}
 use Rattle.std.proofs.lemmas.Slice.Eq.{bytes_eq-Decides}
 use Rattle.name_path.specs.Reference.{value_step}
-use Rattle.name_path.specs.Pieces.{LacksStep}
+use Rattle.name_path.specs.inner.Pieces.{LacksStep}
 use Rattle.name_path.proofs.Steps.{around_at}
 use Rattle.name_path.proofs.reading.cut.Goals as goal
 

@@ -1,7 +1,7 @@
 use Rattle.std.proofs.Common.{◌≡◌, ℕ, List, subst, IfSome, true, false}
 use Rattle.name_path.specs.Names.{IsTokenPath}
 use Rattle.name_path.specs.Reference.{curly_text}
-use Rattle.name_path.specs.Pieces.{ArePlain}
+use Rattle.name_path.specs.inner.Pieces.{ArePlain}
 use Rattle.name_path.proofs.Spellings.{token_plain}
 use Rattle.name_path.proofs.reading.read_curly.Goals as goal
 

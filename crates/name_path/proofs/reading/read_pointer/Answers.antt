@@ -1,6 +1,6 @@
 use Rattle.std.proofs.Common.{◌≡◌, ℕ, List, sym, ◌∙◌, subst, true, false}
 use Rattle.name_path.specs.Names.{IsTokenPath}
-use Rattle.name_path.specs.Pieces.{IsCut}
+use Rattle.name_path.specs.inner.Pieces.{IsCut}
 use Rattle.name_path.proofs.Spellings.{no_place}
 use Rattle.name_path.proofs.reading.read_pointer.Goals as goal
 

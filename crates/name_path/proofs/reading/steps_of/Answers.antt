@@ -2,7 +2,7 @@ use Rattle.std.proofs.Common.{◌≡◌, ℕ, List, ◌∷◌, [], sym, ◌∙�
 use Rattle.std.proofs.lemmas.Result.{IfOk-weaker}
 use Rattle.std.proofs.lemmas.List.Elements.{All-tail}
 use Rattle.std.proofs.lemmas.Slice.Eq.{bytes_eq-Decides}
-use Rattle.name_path.specs.Pieces.{EachLacks}
+use Rattle.name_path.specs.inner.Pieces.{EachLacks}
 use Rattle.name_path.proofs.Joins.{pieces_lack, tail_lacks}
 use Rattle.name_path.proofs.Steps.{steps_found, no_steps, no_mark}
 use Rattle.name_path.proofs.reading.steps_of.Goals as goal

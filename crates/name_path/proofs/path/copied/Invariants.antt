@@ -1,5 +1,5 @@
 use Rattle.std.proofs.Common.{◌≡◌, take}
-use Rattle.name_path.proofs.reading.path_like.Given as goal
+use Rattle.name_path.proofs.path.copied.Given as goal
 
 abbrev pub invariant-loop-name : goal.invariant-loop-name
 invariant-loop-name l = l.path ≡ take l.name-index l.names
