@@ -17,7 +17,7 @@ use tk_io::{NoMemory, Sequence, Text};
 /// before `a-b.c`.
 #[derive(Drop)]
 pub struct Path<'s> {
-    names: SmallVec<Text<'s>, 4>,
+    names: SmallVec<Text<'s>, 3>,
 }
 
 /// Some paths, in an order of their own.
