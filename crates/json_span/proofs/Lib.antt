@@ -16,6 +16,7 @@ pub mod Scalars
 pub mod Begins
 pub mod Lists
 pub mod Naming
+pub mod NameOrder
 pub mod MemberLists
 pub mod Spans
 pub mod Gives

@@ -9,6 +9,7 @@ ghost use Rattle.json_span.specs.Flaw.{equal_names, is_seen};
 ghost use Rattle.json_span.specs.Scan.{Halts};
 ghost use Rattle.json_span.specs.Names.{IsNameAt, IsName, AreNames, names_flaw, names_of};
 ghost use Rattle.json_span.specs.Building.{flaw_view};
+ghost use Rattle.json_span.specs.inner.NameOrder.{AreSorted, again_in, least};
 
 use crate::bytes::{Class, has};
 use crate::flaw::Flaw;
@@ -16,8 +17,7 @@ use crate::scan::plain_end;
 use crate::string::characters_end;
 use crate::text::{is_string_of, string_text};
 use std::alloc::Global;
-use std::collections::BTreeSet;
-use tk_io::NoMemory;
+use tk_io::{NoMemory, Text};
 
 /// The offsets of a name's string, and whether no escape stands in it.
 #[derive(Clone, Copy, Debug)]
@@ -41,6 +41,13 @@ impl NameSpan {
     {
         Flaw::Dup(self.start as usize, self.end as usize)
     }
+}
+
+/// A name with its place among those of the object.
+#[derive(Drop)]
+pub(crate) struct PlacedName<'s> {
+    name: Text<'s>,
+    place: usize,
 }
 
 /// Up to how many names are compared in pairs.
@@ -115,19 +122,61 @@ fn flaw_in_pairs(alloc: Global, text: &str, names: &[NameSpan]) -> Result<Option
     Ok(None)
 }
 
-// The first name that repeats another, with a set of those before it.
-fn flaw_by_set(alloc: Global, text: &str, names: &[NameSpan]) -> Result<Option<Flaw>, NoMemory>
+// The names in their order, each with its place among those of the object; equal names stay in the order of the text.
+fn sort_names<'s>(
+    alloc: Global,
+    text: &'s str,
+    names: &[NameSpan],
+) -> Result<Vec<PlacedName<'s>>, NoMemory>
+    requires { (es : List Entry) × AreNames text.now names.now es }
+    ensures { IfOk result (λ v. (es : List Entry) → AreNames text.entry.now names.now es → AreSorted es v.items) }
+{
+    let mut sorted = Vec::new(alloc);
+    for place in 0..names.len() {
+        let name = string_text(alloc, text, names[place].offset())?;
+        sorted.push(PlacedName { name, place })?;
+    }
+    sorted.sort_by(|left, right| left.name.cmp(&right.name))?;
+    Ok(sorted)
+}
+
+// The lesser of two places.
+fn lesser(first: Option<usize>, place: usize) -> Option<usize>
+    ensures { result ≡ least first (Some place) }
+{
+    match first {
+        Some(other) => if other <= place {
+            Some(other)
+        } else {
+            Some(place)
+        },
+        None => Some(place),
+    }
+}
+
+// The least place of a name that equals the one before it.
+fn first_again(sorted: &[PlacedName<'_>]) -> Option<usize>
+    ensures { result ≡ again_in sorted.now }
+{
+    let mut first = None;
+    for i in 1..sorted.len() {
+        if sorted[i - 1].name == sorted[i].name {
+            first = lesser(first, sorted[i].place);
+        }
+    }
+    first
+}
+
+// The first name that repeats another, by names in order.
+fn flaw_in_order(alloc: Global, text: &str, names: &[NameSpan]) -> Result<Option<Flaw>, NoMemory>
     requires { (es : List Entry) × AreNames text.now names.now es }
     ensures { IfOk result (λ f. (es : List Entry) → AreNames text.now names.now es → option_map flaw_view f ≡ names_flaw [] es) }
 {
-    let mut seen = BTreeSet::new(alloc);
-    for i in 0..names.len() {
-        let name = string_text(alloc, text, names[i].offset())?;
-        if !seen.insert(name)? {
-            return Ok(Some(names[i].repeated()));
-        }
+    let sorted = sort_names(alloc, text, names)?;
+    match first_again(&sorted) {
+        Some(i) => Ok(Some(names[i].repeated())),
+        None => Ok(None),
     }
-    Ok(None)
 }
 
 // The first name that repeats another.
@@ -138,7 +187,7 @@ fn flaw_of_names(alloc: Global, text: &str, names: &[NameSpan]) -> Result<Option
     if names.len() <= MOST_PAIRED {
         return flaw_in_pairs(alloc, text, names);
     }
-    flaw_by_set(alloc, text, names)
+    flaw_in_order(alloc, text, names)
 }
 
 /// Takes off the names from a place on, those of an object, and tells the first one that repeats another.

@@ -1,0 +1,2 @@
+-- What private clauses alone rest on.
+pub mod NameOrder

@@ -1,0 +1,37 @@
+-- The names of an object in their order, and the least place of a name that equals the one before it.
+use Rattle.std.specs.Prelude.{ℕ, ◌+◌, List, [], ◌∷◌, Bool, Option, Some, None, cond, nat_le}
+use Rattle.std.specs.List.Sorted.{IsSortedBy, IsStableBy}
+use Rattle.std.specs.Ordering.{is_lt}
+use Rattle.std.specs.Str.{bytes_eq}
+use Rattle.tk_io.specs.Order.{text_cmp}
+use Rattle.json_span.specs.Tree.{Entry}
+use Rattle.json_span.specs.declared.names.PlacedName.{PlacedName}
+
+abbrev pub named_at : Entry → ℕ → PlacedName
+named_at e i = record { name = e.name; place = i }
+
+-- the names of members with their places, from this one on
+abbrev pub placed_from : ℕ → List Entry → List PlacedName
+placed_from i [] = []
+placed_from i (e ∷ es) = named_at e i ∷ placed_from (i + 1) es
+
+abbrev pub is_below : PlacedName → PlacedName → Bool
+is_below x y = is_lt (text_cmp x.name y.name)
+
+-- the names of the members in their order, and equal ones as they stand
+abbrev pub AreSorted : List Entry → List PlacedName → Type 0
+AreSorted es sorted = IsSortedBy is_below sorted × IsStableBy is_below (placed_from 0 es) sorted
+
+abbrev pub least : Option ℕ → Option ℕ → Option ℕ
+least None b = b
+least (Some p) None = Some p
+least (Some p) (Some q) = cond (nat_le p q) (Some p) (Some q)
+
+-- the least place of a name that equals the one before it
+abbrev pub again_behind : PlacedName → List PlacedName → Option ℕ
+again_behind x [] = None
+again_behind x (y ∷ ys) = least (cond (bytes_eq x.name y.name) (Some y.place) None) (again_behind y ys)
+
+abbrev pub again_in : List PlacedName → Option ℕ
+again_in [] = None
+again_in (x ∷ ys) = again_behind x ys
