@@ -27,7 +27,7 @@ module _ {N : Type 0} (grammar : N → Rule N) where
   one_more no_more b = more b no_more
   one_more (more a c) b = more a (one_more c b)
 
-  after_all : {r : Rule N} {t u : List ℕ} → Reads grammar (many r) t u → (w : List ℕ) → Derives grammar r (u ++ w) → Derives grammar (many r) (t ++ w)
+  pub after_all : {r : Rule N} {t u : List ℕ} → Reads grammar (many r) t u → (w : List ℕ) → Derives grammar r (u ++ w) → Derives grammar (many r) (t ++ w)
   after_all a w b = one_more (widen a w) b
 
   -- the reading r of t ++ u either needs more than t, or ends in t

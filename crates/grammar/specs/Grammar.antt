@@ -53,3 +53,12 @@ EachPasses (seq r s) = EachPasses r × EachPasses s
 EachPasses (alt r s) = EachPasses r × EachPasses s
 EachPasses (many r) = EachPasses r
 EachPasses (named n) = Unit {0}
+
+-- Each range of bytes in the rule begins with a byte that passes the test, and is not empty.
+abbrev pub each_begins : {N : Type 0} → (ℕ → Bool) → Rule N → Bool
+each_begins test empty = true
+each_begins test (byte low high) = within low high low && test low
+each_begins test (seq r s) = each_begins test r && each_begins test s
+each_begins test (alt r s) = each_begins test r && each_begins test s
+each_begins test (many r) = each_begins test r
+each_begins test (named n) = true

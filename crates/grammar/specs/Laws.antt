@@ -1,6 +1,7 @@
 -- What holds of every grammar: fronts are the prefixes of what is derived, and one byte ahead decides a steered reading.
 use Rattle.std.specs.Prelude.{◌≡◌, ℕ, List, ◌++◌, Bool, true, false, ◌↔◌, ◌⊎◌}
-use Rattle.grammar.specs.Grammar.{Rule, named, Reads, Derives, IsFront, EachPasses}
+use Rattle.std.specs.List.{list_all}
+use Rattle.grammar.specs.Grammar.{Rule, named, Reads, Derives, IsFront, EachPasses, each_begins}
 use Rattle.grammar.specs.Predict.{begins, more_in, Steers, Stuck}
 use Rattle.grammar.specs.Ranges.{Table, ahead_of, is_steered, is_honest_at, are_guarded}
 use Rattle.grammar.specs.Stop.{Stops, Refuses}
@@ -14,6 +15,16 @@ pub record IsProductive {N : Type 0} (grammar : N → Rule N) : Type 0 where
 abbrev pub FrontsArePrefixes : Type 0 → Type 0
 FrontsArePrefixes N = (grammar : N → Rule N) → IsProductive grammar → (r : Rule N) → EachPasses r →
     (t : List ℕ) → IsFront grammar r t ↔ ((w : List ℕ) × Derives grammar r (t ++ w))
+
+-- each rule that has a name derives some text of bytes that pass the test, and each range of bytes in it begins with such a byte
+pub record IsProductiveBy {N : Type 0} (test : ℕ → Bool) (grammar : N → Rule N) : Type 0 where
+  pub spelled : (n : N) → (w : List ℕ) × ((list_all test w ≡ true) × Derives grammar (named n) w)
+  pub begins : (n : N) → each_begins test (grammar n) ≡ true
+
+-- by bytes that pass the test alone, a front goes on to a derived text
+abbrev pub FrontsGoOnBy : Type 0 → Type 0
+FrontsGoOnBy N = (test : ℕ → Bool) (grammar : N → Rule N) → IsProductiveBy test grammar → (r : Rule N) → each_begins test r ≡ true →
+    (t : List ℕ) → IsFront grammar r t → (w : List ℕ) × ((list_all test w ≡ true) × Derives grammar r (t ++ w))
 
 -- what the table says of each named rule is so, and each is steered by one byte ahead
 abbrev pub IsTabled : {N : Type 0} → (N → Rule N) → Table N → Type 0

@@ -4,11 +4,16 @@
 //! and each law below is a function with an empty body that holds for every such type.
 #![tactic(auto)]
 
-ghost use Rattle.grammar.specs.Laws.{FrontsArePrefixes, SteeredReadsOnce, StopsAreExact, ReadingsEnd};
+ghost use Rattle.grammar.specs.Laws.{FrontsArePrefixes, FrontsGoOnBy, SteeredReadsOnce, StopsAreExact, ReadingsEnd};
 
 /// A text is a front of what a rule derives exactly where some text goes on from it to a derived one.
 pub fn fronts_are_prefixes<Name>()
     ensures { FrontsArePrefixes Name }
+{}
+
+/// A front goes on to a derived text by bytes that pass a test alone, where each rule can be spelled by such bytes.
+pub fn fronts_go_on<Name>()
+    ensures { FrontsGoOnBy Name }
 {}
 
 /// A rule that one byte ahead steers reads a text in one way.

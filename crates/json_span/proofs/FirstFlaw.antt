@@ -1,12 +1,11 @@
 -- The first flaw of a value is the one that starts first.
-use Rattle.std.proofs.Common.{◌≡◌, ℕ, zero, suc, ◌+◌, ◌<◌, ◌≤◌, ◌||◌, List, [], ◌∷◌, Bool, true, false, cond, Option, Some, None, refl, sym, ap, ◌∙◌, subst, arith, ◌⊎◌, inl, inr}
+use Rattle.std.proofs.Common.{◌≡◌, ℕ, zero, suc, ◌<◌, ◌≤◌, ◌||◌, List, [], ◌∷◌, Bool, true, false, cond, Option, Some, None, refl, subst, arith, ◌⊎◌, inl, inr}
 use Rattle.std.specs.Str.{bytes_eq}
 use Rattle.std.proofs.lemmas.Slice.Eq.{bytes_eq-Decides}
 use Rattle.json_span.specs.Tree.{Tree, a_null, a_boolean, a_number, a_string, an_array, an_object, Placed, placed, Elements, no_elements, element, Members, no_members, member, Entry, start_of, end_of}
-use Rattle.json_span.specs.Reading.{Shows}
-use Rattle.json_span.specs.Flaw.{Flaw, equal_names, too_deep, or_else, is_seen, flaw_in, flaw_at, flaw_in_elements, flaw_in_members, most_open, first_flaw}
+use Rattle.json_span.specs.Flaw.{Flaw, equal_names, or_else, is_seen, flaw_in, flaw_at, flaw_in_elements, flaw_in_members, most_open, first_flaw}
 use Rattle.json_span.specs.Flaws.{IsElementOf, this_one, later_one, IsMemberOf, this_member, later_member, IsSecond, behind_first, behind_other, IsWithin, whole, in_array, in_object, is_list, IsFlaw, second_name, opens_too_deep, flaw_start, FirstIsLeast, NoneIsNone}
-use Rattle.json_span.proofs.InOrder.{InOrder, PartsInOrder, ElementsInOrder, MembersInOrder, shown_in_order}
+use Rattle.json_span.proofs.InOrder.{InOrder, ElementsInOrder, MembersInOrder, shown_in_order}
 
 -- the same of lists, one after another; the names stand before
 data InElements (room : ℕ) : Elements → Flaw → Type 0 where

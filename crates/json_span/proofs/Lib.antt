@@ -21,6 +21,7 @@ pub mod MemberLists
 pub mod Spans
 pub mod Gives
 pub mod Rfc
+pub mod FrontsOn
 pub mod Refusal
 pub mod Unique
 pub mod OneAnswer

@@ -1,12 +1,16 @@
 -- A text has at most one answer.
-use Rattle.std.proofs.Common.{◌≡◌, ℕ, ◌<◌, List, ap, ◌∙◌, arith, Option, Some, None}
+use Rattle.std.proofs.Common.{◌≡◌, ℕ, ◌<◌, List, ap, ◌∙◌, subst, arith, Option, Some, None, Result, Ok, Err, IfOk, IfErr}
 use Rattle.grammar.specs.Grammar.{Derives}
 use Rattle.grammar.specs.Stop.{IsStop}
 use Rattle.json_span.specs.Grammar.{grammar, json_text}
 use Rattle.json_span.specs.Tree.{Placed}
 use Rattle.json_span.specs.Reading.{Shows}
 use Rattle.json_span.specs.Flaw.{Flaw, first_flaw}
-use Rattle.json_span.specs.Answer.{Answer, shows, flawed, stops, IsAnswer}
+use Rattle.json_span.specs.Answer.{Answer, shows, flawed, stops, IsAnswer, IsRefusal, Answers}
+use Rattle.json_span.specs.View.{node_view}
+use Rattle.json_span.specs.declared.node.Node.{Node}
+use Rattle.json_span.specs.declared.reader.JsonFault.{JsonFault}
+use Rattle.json_span.specs.declared.reader.JsonFault.TheVariants.{Syntax, Dup, Deep, NoMemory}
 use Rattle.json_span.proofs.Rfc.{to_rfc, from_rfc}
 use Rattle.json_span.proofs.Exists.{shown}
 use Rattle.json_span.proofs.Unique.{shows_one, shows_derives}
@@ -39,3 +43,14 @@ one_answer text (flawed f) (stops at) (m, s, e) r = absurd (r.no_reading (shows_
 one_answer text (stops at) (shows n) r (s, e) = absurd (r.no_reading (shows_text text n s))
 one_answer text (stops at) (flawed f) r (m, s, e) = absurd (r.no_reading (shows_text text m s))
 one_answer text (stops a) (stops b) r s = ap stops (stop_one text a b r.stop s.stop)
+
+answer_is : {a b : Answer} → Some a ≡ Some b → a ≡ b
+answer_is e = cc
+
+-- what `read` answered, found or refused, is the text's answer
+pub is_answer : (text : List ℕ) (r : Result Node JsonFault) → IfOk r (λ n. IsAnswer text (shows (node_view n))) → IfErr r (λ e. IsRefusal text e) → Answers text r
+is_answer text (Ok n) found refused a e = subst (IsAnswer text) (answer_is e) found
+is_answer text (Err (Syntax at)) found refused a e = subst (IsAnswer text) (answer_is e) refused
+is_answer text (Err (Dup start end)) found refused a e = subst (IsAnswer text) (answer_is e) refused
+is_answer text (Err (Deep start end)) found refused a e = subst (IsAnswer text) (answer_is e) refused
+is_answer text (Err NoMemory) found refused a e = cc

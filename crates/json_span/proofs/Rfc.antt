@@ -39,13 +39,13 @@ to x p = same rules grammar x p
 from : {r : Rule Name} {t u : List ℕ} → Reads grammar r t u → is_plain r ≡ true → Reads rules r t u
 from x p = same grammar rules x p
 
-string_to : {t u : List ℕ} → Reads rules (named string) t u → Reads grammar (named string) t u
+pub string_to : {t u : List ℕ} → Reads rules (named string) t u → Reads grammar (named string) t u
 string_to (by_name x) = by_name (to x refl)
 
 string_from : {t u : List ℕ} → Reads grammar (named string) t u → Reads rules (named string) t u
 string_from (by_name x) = by_name (from x refl)
 
-number_to : {t u : List ℕ} → Reads rules (named number) t u → Reads grammar (named number) t u
+pub number_to : {t u : List ℕ} → Reads rules (named number) t u → Reads grammar (named number) t u
 number_to (by_name x) = by_name (to x refl)
 
 number_from : {t u : List ℕ} → Reads grammar (named number) t u → Reads rules (named number) t u
@@ -67,7 +67,7 @@ member_to : {t m u : List ℕ} → Reads rules (before_of curly) t m → Reads g
 member_to (both q (both a (both x b))) v = both (string_to q) (both (both (ws_to a) (both (one_to x) (ws_to b))) v)
 
 mutual
-  value_to : {t u : List ℕ} → Reads rules (named value) t u → Reads grammar (named value) t u
+  pub value_to : {t u : List ℕ} → Reads rules (named value) t u → Reads grammar (named value) t u
   value_to (by_name (left x)) = by_name (left (to x refl))
   value_to (by_name (right (left x))) = by_name (right (left (to x refl)))
   value_to (by_name (right (right (left x)))) = by_name (right (right (left (to x refl))))

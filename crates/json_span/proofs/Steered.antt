@@ -18,13 +18,20 @@ honest_json = honest table rules tests
 pub steered_json : IsSteered ahead json
 steered_json = steered_from table json refl
 
-zero_text : Derives rules (named number) (48 ∷ [])
+-- the number 0 as a number and as a value, and the empty string
+pub zero_text : Derives rules (named number) (48 ∷ [])
 zero_text = by_name (both (right no_byte) (both (left (one_byte refl)) (both (right no_byte) (right no_byte))))
 
+pub zero_value : Derives rules (named value) (48 ∷ [])
+zero_value = by_name (right (right (right (right (right (left zero_text))))))
+
+pub empty_string : Derives rules (named string) (34 ∷ 34 ∷ [])
+empty_string = by_name (both (one_byte refl) (both no_more (one_byte refl)))
+
 pub spelled : (n : Name) → (w : List ℕ) × Derives rules (named n) w
-spelled value = (48 ∷ [], by_name (right (right (right (right (right (left zero_text)))))))
+spelled value = (48 ∷ [], zero_value)
 spelled number = (48 ∷ [], zero_text)
-spelled string = (34 ∷ 34 ∷ [], by_name (both (one_byte refl) (both no_more (one_byte refl))))
+spelled string = (34 ∷ 34 ∷ [], empty_string)
 
 pub passes : (n : Name) → EachPasses (rules n)
 passes value = passes_from (rules value) refl

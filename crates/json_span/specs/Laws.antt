@@ -1,5 +1,6 @@
 -- Laws over the definitions alone.
 use Rattle.std.specs.Prelude.{◌≡◌, ℕ, List, ◌++◌, ◌↔◌, slice_range}
+use Rattle.std.specs.Str.{IsAscii, IsUtf8}
 use Rattle.grammar.specs.Grammar.{Derives, IsFront}
 use Rattle.json_span.specs.Grammar.{grammar, json_text}
 use Rattle.json_span.specs.Tree.{Placed, start_of, end_of}
@@ -16,6 +17,16 @@ TextsShow = (text : List ℕ) → Derives grammar json_text text ↔ ((n : Place
 -- a text is a front of a JSON text exactly where some text goes on from it to a JSON text
 abbrev pub FrontsArePrefixes : Type 0
 FrontsArePrefixes = (text : List ℕ) → IsFront grammar json_text text ↔ ((rest : List ℕ) × Derives grammar json_text (text ++ rest))
+
+-- a front goes on by ASCII alone, to a JSON text that is UTF-8 where the front is
+pub record GoesOn (text : List ℕ) : Type 0 where
+  pub rest : List ℕ
+  pub ascii : IsAscii rest
+  pub derives : Derives grammar json_text (text ++ rest)
+  pub whole : IsUtf8 text → IsUtf8 (text ++ rest)
+
+abbrev pub FrontsGoOn : Type 0
+FrontsGoOn = (text : List ℕ) → IsFront grammar json_text text → GoesOn text
 
 -- a text shows at most one value
 abbrev pub ShowsOne : Type 0

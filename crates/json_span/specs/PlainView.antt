@@ -1,5 +1,6 @@
 -- The data that a plain value of the code stands for. A number is kept as its spelling.
-use Rattle.std.specs.Prelude.{ℕ, List, map}
+use Rattle.std.specs.Prelude.{◌≡◌, ℕ, List, [], ◌∷◌, ◌++◌, map, Option, option_map}
+use Rattle.std.specs.Borrow.{Bor}
 use Rattle.json_span.specs.Plain as data_
 use Rattle.json_span.specs.Plain.{plain_null, plain_boolean, plain_number, plain_string, plain_array, plain_object, PlainEntry, plains_of, plain_members_of}
 use Rattle.json_span.specs.declared.plain.Plain.{Plain}
@@ -49,3 +50,17 @@ plain_items_view i = map plain_view i.list.items
 -- the members of an object
 abbrev pub plain_fields_view : PlainFields → List Entry
 plain_fields_view f = map plain_field_view (out-PlainFields f).list.items
+
+-- one that is lent, where there is one
+abbrev pub lent_plain : Option (Bor Plain) → Option Value
+lent_plain = option_map (λ v. plain_view v.now)
+
+abbrev pub lent_field : Option (Bor PlainField) → Option Entry
+lent_field = option_map (λ f. plain_field_view f.now)
+
+-- one more at the end
+abbrev pub IsItemAdded : PlainItems → Plain → PlainItems → Type 0
+IsItemAdded old item new = plain_items_view new ≡ plain_items_view old ++ plain_view item ∷ []
+
+abbrev pub IsFieldAdded : PlainFields → PlainField → PlainFields → Type 0
+IsFieldAdded old field new = plain_fields_view new ≡ plain_fields_view old ++ plain_field_view field ∷ []

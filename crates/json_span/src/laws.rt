@@ -1,17 +1,19 @@
 //! Laws over the definitions alone, for the layers above.
 
-ghost use Rattle.json_span.specs.Laws.{TextsShow, FrontsArePrefixes, ShowsOne, OneAnswer, EachHasAnswer, ShowsSay, SaysBefore, SaysShow, SaysOne, SlicesSay};
+ghost use Rattle.json_span.specs.Laws.{TextsShow, FrontsArePrefixes, FrontsGoOn, ShowsOne, OneAnswer, EachHasAnswer, ShowsSay, SaysBefore, SaysShow, SaysOne, SlicesSay};
 ghost use Rattle.json_span.specs.Flaws.{FirstIsLeast, NoneIsNone};
 ghost use Rattle.json_span.specs.Parts.{SlicesShow};
 ghost use Rattle.json_span.specs.SpellingLaws.{InsidesFollow, InsidesJoin, JoinedReadBack, PlainStays, StringsReadBack};
 ghost use Rattle.json_span.specs.Composing.{ArraysAreJoined, ArraysMayBeSpaced, ArraysSayBefore, FrontsSay, ObjectsAreJoined, ObjectsMayBeSpaced, ObjectsSayBefore};
 
 /// The texts that show a value are those of RFC 8259, each shows one, and each text has one answer, neither more nor less.
+/// What begins a JSON text goes on to one by ASCII alone.
 /// The slice of a part, read by itself, shows the part with its start taken off its offsets. The flaw that is told of a text is the one that starts
 /// first among all second names and all brackets that open a 65th level, and none is told exactly where there is none.
 pub fn json_laws()
     ensures texts { TextsShow }
     ensures fronts { FrontsArePrefixes }
+    ensures front { FrontsGoOn }
     ensures one { ShowsOne }
     ensures answer { OneAnswer }
     ensures answered { EachHasAnswer }

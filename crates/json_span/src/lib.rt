@@ -12,6 +12,8 @@ mod laws;
 mod names;
 mod node;
 mod node_ref;
+#[cfg(test)]
+mod objects;
 mod plain;
 mod reader;
 mod scan;

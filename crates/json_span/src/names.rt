@@ -1,15 +1,15 @@
 //! The names of an object, and the first one that repeats another.
 
-ghost use Rattle.std.specs.Prelude.{◌≡◌, ◌≤◌, ◌<◌, ◌^◌, List, [], length, take, drop, slice_get, Some, option_map, IfOk, IfErr, OnOk};
+ghost use Rattle.std.specs.Prelude.{◌≡◌, ◌≤◌, ◌<◌, ◌^◌, List, [], length, take, drop, slice_get, Some, IfOk, IfErr, OnOk};
 ghost use Rattle.std.specs.Str.{bytes_eq};
 ghost use Rattle.grammar.specs.Grammar.{named};
 ghost use Rattle.json_span.specs.Grammar.{string};
 ghost use Rattle.json_span.specs.Tree.{Entry};
 ghost use Rattle.json_span.specs.Flaw.{equal_names, is_seen};
 ghost use Rattle.json_span.specs.Scan.{Halts};
-ghost use Rattle.json_span.specs.Names.{IsNameAt, IsName, AreNames, names_flaw, names_of};
+ghost use Rattle.json_span.specs.Names.{IsNameAt, IsName, AreNames, names_of};
 ghost use Rattle.json_span.specs.Building.{flaw_view};
-ghost use Rattle.json_span.specs.inner.NameOrder.{AreSorted, again_in, least};
+ghost use Rattle.json_span.specs.inner.NameOrder.{SortsNames, TellsSecond, again_in, least};
 
 use crate::bytes::{Class, has};
 use crate::flaw::Flaw;
@@ -112,7 +112,7 @@ fn is_before(alloc: Global, text: &str, names: &[NameSpan], i: usize) -> Result<
 // The first name that repeats another, each compared with all before it.
 fn flaw_in_pairs(alloc: Global, text: &str, names: &[NameSpan]) -> Result<Option<Flaw>, NoMemory>
     requires { (es : List Entry) × AreNames text.now names.now es }
-    ensures { IfOk result (λ f. (es : List Entry) → AreNames text.now names.now es → option_map flaw_view f ≡ names_flaw [] es) }
+    ensures { IfOk result (TellsSecond text.now names.now) }
 {
     for i in 0..names.len() {
         if is_before(alloc, text, names, i)? {
@@ -129,7 +129,7 @@ fn sort_names<'s>(
     names: &[NameSpan],
 ) -> Result<Vec<PlacedName<'s>>, NoMemory>
     requires { (es : List Entry) × AreNames text.now names.now es }
-    ensures { IfOk result (λ v. (es : List Entry) → AreNames text.entry.now names.now es → AreSorted es v.items) }
+    ensures { IfOk result (λ v. SortsNames text.entry.now names.now v.items) }
 {
     let mut sorted = Vec::new(alloc);
     for place in 0..names.len() {
@@ -170,7 +170,7 @@ fn first_again(sorted: &[PlacedName<'_>]) -> Option<usize>
 // The first name that repeats another, by names in order.
 fn flaw_in_order(alloc: Global, text: &str, names: &[NameSpan]) -> Result<Option<Flaw>, NoMemory>
     requires { (es : List Entry) × AreNames text.now names.now es }
-    ensures { IfOk result (λ f. (es : List Entry) → AreNames text.now names.now es → option_map flaw_view f ≡ names_flaw [] es) }
+    ensures { IfOk result (TellsSecond text.now names.now) }
 {
     let sorted = sort_names(alloc, text, names)?;
     match first_again(&sorted) {
@@ -182,7 +182,7 @@ fn flaw_in_order(alloc: Global, text: &str, names: &[NameSpan]) -> Result<Option
 // The first name that repeats another.
 fn flaw_of_names(alloc: Global, text: &str, names: &[NameSpan]) -> Result<Option<Flaw>, NoMemory>
     requires { (es : List Entry) × AreNames text.now names.now es }
-    ensures { IfOk result (λ f. (es : List Entry) → AreNames text.now names.now es → option_map flaw_view f ≡ names_flaw [] es) }
+    ensures { IfOk result (TellsSecond text.now names.now) }
 {
     if names.len() <= MOST_PAIRED {
         return flaw_in_pairs(alloc, text, names);
@@ -199,7 +199,7 @@ pub(crate) fn close_names(
 ) -> Result<Option<Flaw>, NoMemory>
     requires within { base ≤ length names.old.items }
     requires are { (es : List Entry) × AreNames text.now (drop base names.old.items) es }
-    ensures flaw { IfOk result (λ f. (es : List Entry) → AreNames text.now (drop base names.old.items) es → option_map flaw_view f ≡ names_flaw [] es) }
+    ensures flaw { IfOk result (TellsSecond text.now (drop base names.old.items)) }
     ensures left { OnOk result (names.new.items ≡ take base names.old.items) }
 {
     let flaw = flaw_of_names(alloc, text, &names[base..])?;

@@ -1,7 +1,8 @@
 //! JSON values without the places where they stand.
 
-ghost use Rattle.std.specs.Prelude.{◌≡◌, [], ◌∷◌, ◌++◌, length, slice_get, option_map, OnOk, OnErr};
+ghost use Rattle.std.specs.Prelude.{◌≡◌, ◌==◌, length, map, slice_get, option_map, [], OnOk, OnErr};
 ghost use Rattle.json_span.specs.PlainView.{plain_view, plain_field_view, plain_items_view, plain_fields_view};
+ghost use Rattle.json_span.specs.PlainView.{lent_plain, lent_field, IsItemAdded, IsFieldAdded};
 
 use std::alloc::Global;
 use tk_io::{NoMemory, Text};
@@ -64,16 +65,29 @@ impl<'s> PlainItems<'s> {
         self.list.as_slice().len()
     }
 
+    pub fn is_empty(&self) -> bool
+        ensures { result ≡ (length (plain_items_view self.now) == 0) }
+    {
+        self.list.as_slice().is_empty()
+    }
+
+    /// The elements.
+    pub fn as_slice(&self) -> &[Plain<'s>]
+        ensures { map plain_view result.now ≡ plain_items_view self.now }
+    {
+        self.list.as_slice()
+    }
+
     /// The i-th element, counted from 0; none where i is not below the length.
     pub fn at(&self, i: usize) -> Option<&Plain<'s>>
-        ensures { option_map (λ v. plain_view v.now) result ≡ slice_get (plain_items_view self.now) i }
+        ensures { lent_plain result ≡ slice_get (plain_items_view self.now) i }
     {
         item_at(self.list.as_slice(), i)
     }
 
     /// Adds an element at the end. Where memory runs out it is dropped, and the list stays.
     pub fn push(&mut self, item: Plain<'s>) -> Result<(), NoMemory>
-        ensures ok { OnOk result (plain_items_view self.new ≡ plain_items_view self.old ++ plain_view item.entry ∷ []) }
+        ensures ok { OnOk result (IsItemAdded self.old item.entry self.new) }
         ensures err { OnErr result (plain_items_view self.new ≡ plain_items_view self.old) }
     {
         self.list.push(item)?;
@@ -98,16 +112,29 @@ impl<'s> PlainFields<'s> {
         self.list.as_slice().len()
     }
 
+    pub fn is_empty(&self) -> bool
+        ensures { result ≡ (length (plain_fields_view self.now) == 0) }
+    {
+        self.list.as_slice().is_empty()
+    }
+
+    /// The members.
+    pub fn as_slice(&self) -> &[PlainField<'s>]
+        ensures { map plain_field_view result.now ≡ plain_fields_view self.now }
+    {
+        self.list.as_slice()
+    }
+
     /// The i-th member, counted from 0; none where i is not below the length.
     pub fn at(&self, i: usize) -> Option<&PlainField<'s>>
-        ensures { option_map (λ f. plain_field_view f.now) result ≡ slice_get (plain_fields_view self.now) i }
+        ensures { lent_field result ≡ slice_get (plain_fields_view self.now) i }
     {
         item_at(self.list.as_slice(), i)
     }
 
     /// Adds a member at the end. Where memory runs out it is dropped, and the list stays.
     pub fn push(&mut self, item: PlainField<'s>) -> Result<(), NoMemory>
-        ensures ok { OnOk result (plain_fields_view self.new ≡ plain_fields_view self.old ++ plain_field_view item.entry ∷ []) }
+        ensures ok { OnOk result (IsFieldAdded self.old item.entry self.new) }
         ensures err { OnErr result (plain_fields_view self.new ≡ plain_fields_view self.old) }
     {
         self.list.push(item)?;

@@ -1,10 +1,8 @@
 //! Reading a JSON text.
 
 ghost use Rattle.std.specs.Prelude.{◌≡◌, ◌+◌, ◌<◌, ◌^◌, length, IfOk, IfErr};
-ghost use Rattle.json_span.specs.Tree.{Placed};
-ghost use Rattle.json_span.specs.Reading.{Shows};
 ghost use Rattle.json_span.specs.View.{node_view};
-ghost use Rattle.json_span.specs.Answer.{IsAnswer, IsRefusal, fault_of, shows};
+ghost use Rattle.json_span.specs.Answer.{Answers, IsAnswer, IsRefusal, ShowsOnly, fault_of, shows};
 ghost use Rattle.json_span.specs.Building.{IsTableOf};
 
 use crate::build::{Built, build_value};
@@ -113,10 +111,12 @@ pub fn read<'s, L: Ledger>(
     parses: &mut Steps<L>,
 ) -> Result<Node<'s>, JsonFault>
     ensures step { parses.new ≡ parses.old + 1 }
+    // Whatever is answered is the one answer of the text; want of memory is none.
+    ensures answer { Answers text.entry.now result }
     // The node is the value that the text shows, without a flaw.
     ensures found { IfOk result (λ n. IsAnswer text.entry.now (shows (node_view n))) }
     // No other node is.
-    ensures only { IfOk result (λ n. (m : Placed) → Shows text.entry.now m → m ≡ node_view n) }
+    ensures only { IfOk result (λ n. ShowsOnly text.entry.now (node_view n)) }
     ensures refused { IfErr result (λ e. IsRefusal text.entry.now e) }
 {
     parses.tick();

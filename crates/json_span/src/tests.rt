@@ -2,6 +2,7 @@
 
 ghost use Rattle.std.specs.Prelude.{◌≡◌, ◌<◌};
 
+use crate::objects::MANY;
 use crate::spanned::{FIFTH, FIRST, FOURTH, SECOND, SIXTH, THIRD};
 use crate::texts::{DEEP, DUP, READ, SYNTAX};
 use crate::{
@@ -63,6 +64,17 @@ fn equal_names(rt: HostRuntime) {
 }
 
 #[test]
+fn equal_names_of_many(rt: HostRuntime) {
+    for (text, second) in &MANY {
+        assert_eq!(rt;
+            fault(rt.alloc(), text.as_bytes()),
+            second.map(|(start, end)| JsonFault::Dup(start, end)),
+            "{text}"
+        );
+    }
+}
+
+#[test]
 fn levels(rt: HostRuntime) {
     for (text, start, end) in &DEEP {
         assert_eq!(rt;
@@ -101,6 +113,12 @@ fn many_members(rt: HostRuntime) -> Result<(), Fail> {
     }
     text.extend_from_slice(b"\"\":0}")?;
     assert_eq!(rt; fault(rt.alloc(), &text), None);
+    // A name again, by an escape.
+    text.pop();
+    text.extend_from_slice(b",\"99999\\u0034\":0}")?;
+    let end = text.len().saturating_sub(3);
+    let start = end.saturating_sub(13);
+    assert_eq!(rt; fault(rt.alloc(), &text), Some(JsonFault::Dup(start, end)));
     Ok(())
 }
 
@@ -295,14 +313,18 @@ fn written_strings(rt: HostRuntime) {
 #[test]
 fn plain_lists(rt: HostRuntime) {
     let mut plains = PlainItems::new(rt.alloc());
+    assert!(rt; plains.is_empty());
     assert!(rt; plains.push(Plain::Num("1")).is_ok());
+    assert_eq!(rt; (plains.is_empty(), plains.as_slice().len()), (false, 1));
     assert!(rt; plains.at(0).is_some() && plains.at(1).is_none());
     let mut members = PlainFields::new(rt.alloc());
     let member = PlainField {
         name: Text::of("b"),
         value: Plain::Null,
     };
+    assert!(rt; members.is_empty());
     assert!(rt; members.push(member).is_ok());
+    assert_eq!(rt; (members.is_empty(), members.as_slice().len()), (false, 1));
     assert_eq!(rt; members.at(0).map(|member| member.name.as_str()), Some("b"));
     assert_eq!(rt; (plains.len(), members.len()), (1, 1));
 }

@@ -1,10 +1,14 @@
 -- The names of an object in their order, and the least place of a name that equals the one before it.
-use Rattle.std.specs.Prelude.{ℕ, ◌+◌, List, [], ◌∷◌, Bool, Option, Some, None, cond, nat_le}
+use Rattle.std.specs.Prelude.{◌≡◌, ℕ, ◌+◌, List, [], ◌∷◌, Bool, Option, Some, None, option_map, cond, nat_le}
 use Rattle.std.specs.List.Sorted.{IsSortedBy, IsStableBy}
 use Rattle.std.specs.Ordering.{is_lt}
 use Rattle.std.specs.Str.{bytes_eq}
 use Rattle.tk_io.specs.Order.{text_cmp}
 use Rattle.json_span.specs.Tree.{Entry}
+use Rattle.json_span.specs.Names.{AreNames, names_flaw}
+use Rattle.json_span.specs.Building.{flaw_view}
+use Rattle.json_span.specs.declared.flaw.Flaw as declared
+use Rattle.json_span.specs.declared.names.NameSpan.{NameSpan}
 use Rattle.json_span.specs.declared.names.PlacedName.{PlacedName}
 
 abbrev pub named_at : Entry → ℕ → PlacedName
@@ -35,3 +39,10 @@ again_behind x (y ∷ ys) = least (cond (bytes_eq x.name y.name) (Some y.place) 
 abbrev pub again_in : List PlacedName → Option ℕ
 again_in [] = None
 again_in (x ∷ ys) = again_behind x ys
+
+-- The names of an object as a builder keeps them: in their order, and with the flaw that is told of them.
+abbrev pub SortsNames : List ℕ → List NameSpan → List PlacedName → Type 0
+SortsNames text names sorted = (es : List Entry) → AreNames text names es → AreSorted es sorted
+
+abbrev pub TellsSecond : List ℕ → List NameSpan → Option declared.Flaw → Type 0
+TellsSecond text names f = (es : List Entry) → AreNames text names es → option_map flaw_view f ≡ names_flaw [] es

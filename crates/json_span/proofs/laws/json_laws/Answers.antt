@@ -1,6 +1,7 @@
 use Rattle.grammar.proofs.Fronts.{is_front}
 use Rattle.json_span.specs.Grammar.{grammar}
 use Rattle.json_span.proofs.Rfc.{rfc_goes_on}
+use Rattle.json_span.proofs.FrontsOn.{front_goes_on}
 use Rattle.json_span.proofs.Unique.{shows_one}
 use Rattle.json_span.proofs.Answered.{answered}
 use Rattle.json_span.proofs.Slices.{slices_show}
@@ -12,6 +13,7 @@ pub returns : goal.returns
 returns c = record {
   texts = λ t. (λ d. text_shows t d, λ (n, s). shows_text t n s);
   fronts = λ t. (λ f. rfc_goes_on t f, λ (w, d). is_front grammar t w d);
+  front = front_goes_on;
   one = shows_one;
   answer = one_answer;
   answered = answered;
