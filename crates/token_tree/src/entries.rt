@@ -1,11 +1,10 @@
 //! Lists of members in the order of their names.
 
-ghost use Rattle.std.specs.Prelude.{◌≡◌, T, [], ◌++◌, IfOk, IfErr, OnOk, OnErr, option_map};
-ghost use Rattle.std.specs.FinMap as map;
-ghost use Rattle.std.specs.FinMap.{is_sorted, put};
+ghost use Rattle.std.specs.Prelude.{◌≡◌, T, IfOk, IfErr, OnOk, OnErr};
+ghost use Rattle.std.specs.FinMap.{is_sorted};
 ghost use Rattle.tk_io.specs.Order.{text_cmp};
-ghost use Rattle.token_tree.specs.Shown.{child_view, member_view};
-ghost use Rattle.token_tree.specs.Listed.{entries_of, IsPlaceOf, IsGapFor, NamesApart, with_front};
+ghost use Rattle.token_tree.specs.Listed.{entries_of, IsPlaceOf, IsGapFor, NamesApart};
+ghost use Rattle.token_tree.specs.inner.Outcomes.{AreOneMap, IsPushed, IsPut};
 
 use crate::tree::Member;
 use std::alloc::Global;
@@ -48,7 +47,7 @@ fn place_from_end<'s>(list: &[Member<'s>], name: &Text<'s>) -> Result<usize, usi
 /// Puts the member in its place, or replaces the one of its name. Where memory runs out the list stays.
 pub(crate) fn put_member<'s>(list: &mut Vec<Member<'s>>, member: Member<'s>) -> Result<(), NoMemory>
     requires { T (is_sorted text_cmp (entries_of list.old.items)) }
-    ensures ok { OnOk result (entries_of list.new.items ≡ put text_cmp member.entry.name (child_view member.entry.child) (entries_of list.old.items)) }
+    ensures ok { OnOk result (IsPut member.entry list.old.items list.new.items) }
     ensures err { OnErr result (list.new.items ≡ list.old.items) }
 {
     match place_from_end(list.as_slice(), &member.name) {
@@ -62,7 +61,7 @@ pub(crate) fn put_member<'s>(list: &mut Vec<Member<'s>>, member: Member<'s>) -> 
 pub(crate) fn sort_members<'s>(list: &mut Vec<Member<'s>>) -> Result<(), NoMemory>
     requires { NamesApart list.old.items }
     ensures sorted { OnOk result (T (is_sorted text_cmp (entries_of list.new.items))) }
-    ensures same { OnOk result (map.from_sorted {R = text_cmp} (entries_of list.new.items) ≡ map.from_entries (entries_of list.old.items)) }
+    ensures same { OnOk result (AreOneMap list.new.items list.old.items) }
 {
     list.sort_by(|left, right| left.name.cmp(&right.name))?;
     Ok(())
@@ -73,7 +72,7 @@ pub(crate) fn push_some<'s>(
     list: &mut Vec<Member<'s>>,
     member: Option<Member<'s>>,
 ) -> Result<(), NoMemory>
-    ensures { OnOk result (entries_of list.new.items ≡ entries_of list.old.items ++ with_front (option_map member_view member.entry) []) }
+    ensures { OnOk result (IsPushed member.entry list.old.items list.new.items) }
 {
     let Some(member) = member else {
         return Ok(());

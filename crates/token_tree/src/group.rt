@@ -1,14 +1,12 @@
 //! Reading groups.
 
-ghost use Rattle.std.specs.Prelude.{◌≡◌, [], OnOk, IfOk, IfErr, option_map};
-ghost use Rattle.std.specs.FinMap as map;
+ghost use Rattle.std.specs.Prelude.{◌≡◌, [], OnOk, IfOk, IfErr};
 ghost use Rattle.json_span.specs.Tree.{an_object, members_of};
 ghost use Rattle.json_span.specs.View.{ref_view, field_view, fields_view};
 ghost use Rattle.token_tree.specs.Answer.{IsFirst, EachStands, NamesDiffer, IsChildOf, IsGroupOf};
 ghost use Rattle.token_tree.specs.Promise.{StandsIn};
-ghost use Rattle.token_tree.specs.Shape.{group_breaks, child_breaks, root_breaks, reserved_breaks, group_member_breaks, extends_of, put_children, child_of, group_of};
-ghost use Rattle.token_tree.specs.Shown.{extends_view, child_view, member_view, members_view, group_view};
-ghost use Rattle.token_tree.specs.Listed.{child_in};
+ghost use Rattle.token_tree.specs.Shape.{group_breaks, child_breaks, root_breaks, reserved_breaks};
+ghost use Rattle.token_tree.specs.inner.Outcomes.{AreChildrenOf, IsChildIn, IsExtendsOf, member_breaks};
 
 use crate::entries::push_some;
 use crate::fault::{Rule, ShapeFault};
@@ -24,7 +22,7 @@ fn extends_of<'s>(
     file: &'s str,
     fields: &Fields<'_, 's>,
 ) -> Result<Option<Extends<'s>>, NoMemory>
-    ensures { IfOk result (λ e. option_map extends_view e ≡ extends_of file.entry.now (fields_view fields.now)) }
+    ensures { IfOk result (IsExtendsOf file.entry.now (fields_view fields.now)) }
 {
     let Some(node) = fields.get("$extends") else {
         return Ok(None);
@@ -121,7 +119,7 @@ fn read_members<'s>(
     requires stands { EachStands text.now (fields_view fields.now) }
     requires differ { NamesDiffer (fields_view fields.now) }
     ensures sound { OnOk result (group_breaks (members_of (fields_view fields.now)) ≡ []) }
-    ensures ok { IfOk result (λ ms. members_view ms ≡ put_children file.entry.now text.entry.now (members_of (fields_view fields.now)) map.empty) }
+    ensures ok { IfOk result (AreChildrenOf file.entry.now text.entry.now (fields_view fields.now)) }
     ensures broken { IfErr result (IsFirst (group_breaks (members_of (fields_view fields.now)))) }
 {
     let mut list = Vec::with_capacity(alloc, how_many(fields))?;
@@ -142,9 +140,9 @@ fn read_member<'s>(
     field: Field<'_, 's>,
 ) -> Result<Option<Member<'s>>, ShapeFault>
     requires { StandsIn text.now (field_view field).value }
-    ensures sound { OnOk result (group_member_breaks (field_view field.entry) (child_breaks (field_view field.entry).value) ≡ []) }
-    ensures ok { IfOk result (λ m. option_map member_view m ≡ child_in file.entry.now text.entry.now (field_view field.entry)) }
-    ensures broken { IfErr result (IsFirst (group_member_breaks (field_view field.entry) (child_breaks (field_view field.entry).value))) }
+    ensures sound { OnOk result (member_breaks (field_view field.entry) ≡ []) }
+    ensures ok { IfOk result (IsChildIn file.entry.now text.entry.now (field_view field.entry)) }
+    ensures broken { IfErr result (IsFirst (member_breaks (field_view field.entry))) }
 {
     let name = field.name(alloc)?;
     if name.as_str() == "$root" {

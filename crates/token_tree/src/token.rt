@@ -1,11 +1,12 @@
 //! Reading the definition of a token.
 
-ghost use Rattle.std.specs.Prelude.{◌≡◌, [], true, Some, OnOk, IfOk, IfErr, option_map, codes};
-ghost use Rattle.json_span.specs.Tree.{Placed, tree_of, under};
+ghost use Rattle.std.specs.Prelude.{◌≡◌, [], true, OnOk, IfOk, IfErr};
+ghost use Rattle.json_span.specs.Tree.{tree_of};
 ghost use Rattle.json_span.specs.View.{node_view, ref_view, field_view, fields_view};
 ghost use Rattle.token_tree.specs.Answer.{IsFirst, AreMembers};
 ghost use Rattle.token_tree.specs.Promise.{StandsIn};
-ghost use Rattle.token_tree.specs.Shape.{token_breaks, token_member_breaks, has_token_form, are_token, is_object, kind_of, description_of, deprecated_of, extensions_of, slice_of, value_of, def_of};
+ghost use Rattle.token_tree.specs.Shape.{token_breaks, token_member_breaks, has_token_form, are_token, is_object, kind_of, description_of, deprecated_of, extensions_of, slice_of, value_of};
+ghost use Rattle.token_tree.specs.inner.Outcomes.{ExtensionsStand, def_at, slice_view};
 
 use crate::definition::TokenDef;
 use crate::fault::{Rule, ShapeFault};
@@ -85,9 +86,9 @@ fn slice_of<'s>(text: &'s str, node: NodeRef<'_, '_>) -> &'s str
 }
 
 fn extensions_of<'s>(text: &'s str, fields: &Fields<'_, '_>) -> Option<&'s str>
-    requires stands { (n : Placed) → under (codes "$extensions") (fields_view fields.now) ≡ Some n → StandsIn text.now n }
+    requires stands { ExtensionsStand text.now (fields_view fields.now) }
     requires sound { token_breaks (fields_view fields.now) ≡ [] }
-    ensures { option_map (λ s. s.now) result ≡ extensions_of text.entry.now (fields_view fields.now) }
+    ensures { slice_view result ≡ extensions_of text.entry.now (fields_view fields.now) }
 {
     let node = fields.get("$extensions")?;
     Some(slice_of(text, node))
@@ -119,7 +120,7 @@ pub(crate) fn read_token<'s>(
     requires members { AreMembers (ref_view node) (fields_view fields.now) }
     requires token { are_token (fields_view fields.now) ≡ true }
     ensures sound { OnOk result (token_breaks (fields_view fields.now) ≡ []) }
-    ensures ok { IfOk result (λ def. def.value ≡ def_of file.entry.now text.entry.now (ref_view node.entry)) }
+    ensures ok { IfOk result (λ def. def.value ≡ def_at file.entry.now text.entry.now node.entry) }
     ensures broken { IfErr result (IsFirst (token_breaks (fields_view fields.now))) }
 {
     check_token(alloc, fields)?;

@@ -2,9 +2,10 @@
 
 ghost use Rattle.std.specs.Prelude.{◌≡◌, ◌==◌, IfOk, OnOk, OnErr, map as map_list};
 ghost use Rattle.std.specs.FinMap as map;
+ghost use Rattle.std.specs.FinMap.{insert};
 ghost use Rattle.std.specs.List.{slice_get};
 ghost use Rattle.std.specs.Option.{option_map};
-ghost use Rattle.token_tree.specs.Listed.{NamesApart};
+ghost use Rattle.token_tree.specs.Listed.{NamesApart, entries_of};
 ghost use Rattle.token_tree.specs.Naming.{StandsAt, entry_view};
 ghost use Rattle.token_tree.specs.Shown.{extends_view, child_view, member_view, group_view};
 
@@ -108,7 +109,7 @@ impl<'s> Members<'s> {
     /// The members of a list, no two of which have one name.
     pub(crate) fn from_list(alloc: Global, list: Vec<Member<'s>>) -> Result<Members<'s>, NoMemory>
         requires { NamesApart list.items }
-        ensures { IfOk result (λ ms. ms ≡ map.from_entries (map_list member_view list.entry.items)) }
+        ensures { IfOk result (λ ms. ms ≡ map.from_entries (entries_of list.entry.items)) }
     {
         if list.is_empty() {
             return Ok(Members::new(alloc));
@@ -186,7 +187,7 @@ impl<'s> Members<'s> {
     /// Adds the member under a copy of the name, or replaces the member of the name. Where memory runs out the child is
     /// dropped and the members stay. Other copies of the members stay as well.
     pub fn put(&mut self, name: &Text<'s>, child: Child<'s>) -> Result<(), NoMemory>
-        ensures ok { OnOk result (self.new ≡ map.insert self.old name.now (child_view child.entry)) }
+        ensures ok { OnOk result (self.new ≡ insert self.old name.now (child_view child.entry)) }
         // What stands at each name afterwards.
         ensures at { OnOk result (StandsAt self.old self.new name.now (child_view child.entry)) }
         ensures err { OnErr result (self.new ≡ self.old) }

@@ -1,0 +1,58 @@
+-- What the private calls answer.
+use Rattle.std.specs.Prelude.{◌≡◌, ◌++◌, ℕ, List, [], Option, Some, codes, option_map}
+use Rattle.std.specs.Borrow.{Bor}
+use Rattle.std.specs.FinMap as map
+use Rattle.std.specs.FinMap.Entries.{put}
+use Rattle.json_span.specs.Tree.{Placed, Entry, members_of, under}
+use Rattle.json_span.specs.View.{ref_view}
+use Rattle.json_span.specs.declared.node_ref.NodeRef.{NodeRef}
+use Rattle.tk_io.specs.Order.{text_cmp}
+use Rattle.token_tree.specs.Tree.{Definition, Named}
+use Rattle.token_tree.specs.Shape.{Break, child_breaks, group_member_breaks, extends_of, put_children, def_of}
+use Rattle.token_tree.specs.Shown.{extends_view, child_view, member_view}
+use Rattle.token_tree.specs.Listed.{entries_of, child_in, with_front}
+use Rattle.token_tree.specs.Promise.{StandsIn}
+use Rattle.token_tree.specs.declared.tree.Extends.{Extends}
+use Rattle.token_tree.specs.declared.tree.Member.{Member}
+
+-- Lists of members.
+
+abbrev pub IsPut : Member → List Member → List Member → Type 0
+IsPut m old new = entries_of new ≡ put text_cmp m.name (child_view m.child) (entries_of old)
+
+-- two lists are one map, the first of them in the order of names
+abbrev pub AreOneMap : List Member → List Member → Type 0
+AreOneMap sorted list = map.from_sorted {R = text_cmp} (entries_of sorted) ≡ map.from_entries (entries_of list)
+
+-- the member is appended, where there is one
+abbrev pub IsPushed : Option Member → List Member → List Member → Type 0
+IsPushed m old new = entries_of new ≡ entries_of old ++ with_front (option_map member_view m) []
+
+-- Groups.
+
+abbrev pub IsExtendsOf : List ℕ → List Entry → Option Extends → Type 0
+IsExtendsOf file es e = option_map extends_view e ≡ extends_of file es
+
+abbrev pub AreChildrenOf : List ℕ → List ℕ → List Entry → Named → Type 0
+AreChildrenOf file text es members = members ≡ put_children file text (members_of es) map.empty
+
+-- the breaks of a group's member
+abbrev pub member_breaks : Entry → List Break
+member_breaks e = group_member_breaks e (child_breaks e.value)
+
+-- what is read of a member, where it is a child
+abbrev pub IsChildIn : List ℕ → List ℕ → Entry → Option Member → Type 0
+IsChildIn file text e m = option_map member_view m ≡ child_in file text e
+
+-- Tokens.
+
+-- the value under `$extensions` stands in the text, where there is one
+abbrev pub ExtensionsStand : List ℕ → List Entry → Type 0
+ExtensionsStand text es = (n : Placed) → under (codes "$extensions") es ≡ Some n → StandsIn text n
+
+-- a part of a text, looked at
+abbrev pub slice_view : Option (Bor (List ℕ)) → Option (List ℕ)
+slice_view o = option_map (λ s. s.now) o
+
+abbrev pub def_at : List ℕ → List ℕ → NodeRef → Definition
+def_at file text node = def_of file text (ref_view node)
