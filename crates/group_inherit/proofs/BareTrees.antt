@@ -1,5 +1,5 @@
 -- A tree in which no group extends another is its own expansion, and breaks no rule but those of its size.
-use Rattle.std.proofs.Common.{◌≡◌, ℕ, ◌+◌, ◌<◌, ◌≤◌, min, max, T, List, [], ◌∷◌, ◌++◌, Option, Some, None, option_map, option_and_then, option_to_list, unwrap_or, inl, inr, refl, sym, ap, ap₂, subst, ◌∙◌, map, sum, arith, append-nil, append_assoc}
+use Rattle.std.proofs.Common.{◌≡◌, ℕ, ◌+◌, ◌≤◌, min, max, T, List, [], ◌∷◌, ◌++◌, Option, Some, option_map, option_and_then, option_to_list, unwrap_or, inl, inr, refl, sym, ap, ap₂, subst, ◌∙◌, map, sum, arith, append-nil, append_assoc}
 use Rattle.std.proofs.lemmas.List.Sums.{sum_by-cons}
 use Rattle.std.specs.Cmp.Lexicographic.{nat_list_cmp_total}
 use Rattle.std.specs.FinMap as map_of
@@ -10,25 +10,19 @@ use Rattle.ring.proofs.Ends.{Ends, ends, no_ring}
 use Rattle.tk_io.specs.Order.{text_cmp}
 use Rattle.tk_io.proofs.TextMaps.{text_cmp-IsAntisymmetric}
 use Rattle.token_tree.specs.Tree.{Properties, Child, a_token, a_group, Group, group, Children, no_children, child, children_of, group_with}
-use Rattle.group_inherit.specs.Bare.{entries_in, IsBare, AreBare, IsBareChild, members_of, members_among, members_in, levels_of, levels_among, levels_in}
+use Rattle.group_inherit.specs.Ordered.{entries_in}
+use Rattle.group_inherit.specs.inner.Bare.{IsBare, AreBare, IsBareChild, members_of, members_among, members_in, levels_of, levels_among, levels_in}
 use Rattle.group_inherit.specs.Merging.{named, empty_group}
-use Rattle.group_inherit.specs.Expansion.{without_extension, with_groups, behind_groups, over_inherited, expand}
+use Rattle.group_inherit.specs.Expansion.{without_extension, Expands}
+use Rattle.group_inherit.specs.inner.Expanding.{with_groups, behind_groups, over_first, expand}
 use Rattle.group_inherit.specs.Extension.{GroupPath, group_of, group_at, at_path, groups_from, groups_among, groups_in, extension_of, names_of_groups, needs_of, needs, Lost, lost_at, lost_among, lost_targets, how_many, count_of, tokens_height, greatest_raised, height_of}
-use Rattle.group_inherit.specs.Numbering.{GroupAt, LacksName, AreNamed, AreNamedAmong, AreNamedIn}
-use Rattle.group_inherit.specs.Answer.{Expands, IsCounted, IsLow, IsSound}
+use Rattle.group_inherit.specs.inner.Numbering.{GroupAt, LacksName, AreNamed, AreNamedAmong, AreNamedIn}
+use Rattle.group_inherit.specs.Answer.{IsCounted, IsSound}
+use Rattle.group_inherit.proofs.Expansions.{comes_expands}
 use Rattle.group_inherit.proofs.Finding.{goes_on}
 use Rattle.group_inherit.proofs.Naming.{sorted_lacks, sorted_rest, get_here, get_later}
+use Rattle.group_inherit.proofs.OrderedTrees.{again}
 use Rattle.group_inherit.proofs.Overs.{get_named}
-
--- Children and their entries.
-
-pub again : (cs : Children) → children_of (entries_in cs) ≡ cs
-again no_children = refl
-again (child name c cs) = ap (child name c) (again cs)
-
-pub entries_again : (es : List (List ℕ × Child)) → entries_in (children_of es) ≡ es
-entries_again [] = refl
-entries_again (e ∷ es) = ap (λ l. e ∷ l) (entries_again es)
 
 get_of : (cs : Children) (q : List ℕ) → map_of.get (named cs) q ≡ find text_cmp q (entries_in cs)
 get_of cs q = ap (λ (ds : Children). map_of.get (named ds) q) (sym (again cs)) ∙ get_named (entries_in cs) q
@@ -166,12 +160,12 @@ behind_same (child name (a_group g) cs) = behind_same cs
 expand_same : (ps : Properties) (cs : Children) → IsBare (group ps cs) → expand (group ps cs) (map (λ (g : Group). g) (groups_of cs)) ≡ group ps cs
 expand_same ps cs b =
     let without : without_extension ps ≡ ps = λ i. record { kind = ps.kind; deprecated = ps.deprecated; extends = sym b.0 i } in
-    ap (over_inherited (group_with (without_extension ps) (with_groups cs (map (λ (g : Group). g) (groups_of cs))))) (behind_same cs)
+    ap (over_first (group_with (without_extension ps) (with_groups cs (map (λ (g : Group). g) (groups_of cs))))) (behind_same cs)
     ∙ (ap₂ group_with without (with_same cs)
     ∙ (ap (λ es. group ps (children_of es)) (kept cs b.1) ∙ ap (group ps) (again cs)))
 
 pub bare_expands : (tree : Group) → IsBare tree → Expands tree [] tree
-bare_expands tree b = come tree expand (λ g. g) expand_same b
+bare_expands tree b = comes_expands tree [] tree (come tree expand (λ g. g) expand_same b)
 
 -- No ring.
 

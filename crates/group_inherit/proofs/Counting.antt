@@ -17,8 +17,8 @@ use Rattle.tk_io.specs.Order.{text_cmp}
 use Rattle.token_tree.specs.Tree.{Child, a_token, a_group, Group, group, Children, no_children, child, children_of}
 use Rattle.group_inherit.specs.declared.fault.TreeFault.TheVariants.{TooManyTokens, TooHigh}
 use Rattle.group_inherit.specs.Extension.{GroupPath, needs_of, target_path, name_of_group, names_of_groups, group_names, children_in, how_many, count_of, token_height, tokens_height, greatest, greatest_raised, height_of}
-use Rattle.group_inherit.specs.Numbering.{GroupAt, group_in, path_in, AreRows}
-use Rattle.group_inherit.specs.Sizes.{HeightsIn, IsCountedIn, IsLowIn, IsHeight, IsCountFault, IsHeightFault}
+use Rattle.group_inherit.specs.inner.Numbering.{GroupAt, group_in, path_in, AreRows}
+use Rattle.group_inherit.specs.inner.Sizes.{HeightsIn, IsCountedIn, IsLowIn, IsHeight, IsCountFault, IsHeightFault}
 
 sum_cons : (x : ℕ) (xs : List ℕ) → sum (x ∷ xs) ≡ x + sum xs
 sum_cons x xs = sum_by-cons (λ (y : ℕ). y) x xs

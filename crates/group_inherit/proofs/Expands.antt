@@ -9,7 +9,7 @@ use Rattle.tk_io.specs.Order.{text_cmp}
 use Rattle.tk_io.proofs.TextMaps.{text_cmp-IsAntisymmetric}
 use Rattle.token_tree.specs.Tree.{Child, Group, Named, children_of}
 use Rattle.group_inherit.specs.Merging.{either}
-use Rattle.group_inherit.specs.Expansion.{in_place, left_over, with_groups, behind_groups}
+use Rattle.group_inherit.specs.inner.Expanding.{in_place, left_over, with_groups, behind_groups}
 use Rattle.group_inherit.specs.Putting.{put_all}
 use Rattle.group_inherit.proofs.Puts.{get_put_all, either_none}
 

@@ -1,5 +1,5 @@
 -- The groups at paths are those of the list of all groups.
-use Rattle.std.proofs.Common.{◌≡◌, ℕ, zero, suc, ◌<◌, Bool, true, false, cond, List, [], ◌∷◌, ◌++◌, Option, Some, None, option_and_then, inl, inr, refl, sym, ap, ◌∙◌, subst, map, length, arith, append_assoc, append-nil, length-append}
+use Rattle.std.proofs.Common.{◌≡◌, ℕ, List, [], ◌∷◌, ◌++◌, Option, Some, None, option_and_then, inl, inr, refl, sym, ap, ◌∙◌, subst, map, length, arith, append_assoc, append-nil, length-append}
 use Rattle.std.proofs.lemmas.Bool.{cases_Bool}
 use Rattle.std.proofs.lemmas.List.{append_cancel_left}
 use Rattle.std.proofs.lemmas.Option.{none-some, same_Some}
@@ -11,14 +11,14 @@ use Rattle.tk_io.specs.Order.{text_cmp}
 use Rattle.token_tree.specs.Tree.{Properties, Child, a_token, a_group, Group, group, Children, no_children, child}
 use Rattle.group_inherit.specs.Merging.{named, child_at}
 use Rattle.group_inherit.specs.Extension.{GroupPath, group_of, group_at, groups_from, groups_among, groups_in}
-use Rattle.group_inherit.specs.Numbering.{GroupAt, LacksName, AreNamed, AreNamedAmong, AreNamedIn}
-use Rattle.group_inherit.proofs.Naming.{same_name, get_here, get_there, get_later, get_none, lacked}
+use Rattle.group_inherit.specs.inner.Numbering.{GroupAt, LacksName, AreNamed, AreNamedAmong, AreNamedIn}
+use Rattle.group_inherit.proofs.Naming.{same_name, get_here, get_there, get_later, get_none}
 
-in_right : {N : Type 0} (xs ys : List N) (x : N) → In x ys → In x (xs ++ ys)
+pub in_right : {N : Type 0} (xs ys : List N) (x : N) → In x ys → In x (xs ++ ys)
 in_right [] ys x i = i
 in_right (y ∷ xs) ys x i = inr (in_right xs ys x i)
 
-one_name : (path : GroupPath) (name : List ℕ) (rest : GroupPath) → (path ++ name ∷ []) ++ rest ≡ path ++ name ∷ rest
+pub one_name : (path : GroupPath) (name : List ℕ) (rest : GroupPath) → (path ++ name ∷ []) ++ rest ≡ path ++ name ∷ rest
 one_name path name rest = append_assoc path (name ∷ []) rest
 
 -- What is listed is found.

@@ -1,11 +1,11 @@
 -- Lists of entries in the order of their keys: where a key stands, and the list with one entry more.
-use Rattle.std.proofs.Common.{◌≡◌, ℕ, zero, suc, ◌+◌, ◌<◌, ◌≤◌, ◌&&◌, Bool, true, false, cond, T, List, [], ◌∷◌, ◌++◌, Option, Some, None, refl, sym, ap, subst, ◌∙◌, take, drop, length, get_or, set, arith, add-one, Result, Ok, Err, OnOk, OnErr, Ordering, Less, Equal, Greater}
+use Rattle.std.proofs.Common.{◌≡◌, ℕ, zero, suc, ◌+◌, ◌<◌, cond, T, List, [], ◌∷◌, Some, None, refl, sym, ap, subst, ◌∙◌, take, drop, length, get_or, set, arith, add-one, Result, Ok, Err, OnOk, OnErr, Ordering, Less, Equal, Greater}
 use Rattle.std.specs.Cmp.{IsTotalOrder}
 use Rattle.std.specs.FinMap as map
 use Rattle.std.specs.FinMap.Entries.{find, put, is_sorted, below_all, is_sorted-put, by_order}
 use Rattle.std.specs.List.{insert}
 use Rattle.std.specs.Ordering.{is_lt, is_eq, ordering_reverse}
-use Rattle.group_inherit.specs.Halves.{Passed, Ahead, IsPlace}
+use Rattle.group_inherit.specs.inner.Halves.{Passed, Ahead, IsPlace}
 use Rattle.group_inherit.proofs.Puts.{first, second, less}
 
 module _ {K : Type 0} {R : K → K → Ordering} (o : IsTotalOrder R) where

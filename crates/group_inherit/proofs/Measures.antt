@@ -4,8 +4,9 @@ use Rattle.std.specs.FinMap as map_of
 use Rattle.std.specs.FinMap.Entries.{is_sorted}
 use Rattle.tk_io.specs.Order.{text_cmp}
 use Rattle.token_tree.specs.Tree.{Properties, Child, a_group, Group, Named, children_of, group_with}
-use Rattle.group_inherit.specs.Bare.{entries_in, IsBare, AreBare, IsBareChild, IsSize, IsChildSize, members_among, members_in, levels_among, levels_in}
-use Rattle.group_inherit.proofs.BareTrees.{entries_again}
+use Rattle.group_inherit.specs.Ordered.{entries_in}
+use Rattle.group_inherit.specs.inner.Bare.{IsBare, AreBare, IsBareChild, IsSize, IsChildSize, members_among, members_in, levels_among, levels_in}
+use Rattle.group_inherit.proofs.OrderedTrees.{entries_again}
 
 abbrev pub Entries : Type 0
 Entries = List (List ℕ × Child)

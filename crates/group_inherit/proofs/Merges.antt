@@ -11,13 +11,13 @@ use Rattle.tk_io.specs.Order.{text_cmp}
 use Rattle.tk_io.proofs.TextMaps.{text_cmp-IsAntisymmetric}
 use Rattle.token_tree.specs.Shown.{child_view, member_view}
 use Rattle.token_tree.specs.declared.tree.Member.{Member}
-use Rattle.token_tree.specs.Tree.{Child, a_token, a_group, Children, no_children, child, Named, children_of}
-use Rattle.group_inherit.specs.Halves.{Ahead}
-use Rattle.group_inherit.specs.Merging.{named, over_members, over_child, stands}
+use Rattle.token_tree.specs.Tree.{Child, a_token, a_group, Named, children_of}
+use Rattle.group_inherit.specs.inner.Halves.{Ahead}
+use Rattle.group_inherit.specs.Merging.{over_members, over_child, stands}
 use Rattle.group_inherit.specs.Putting.{put_all}
 use Rattle.group_inherit.proofs.Halves.{turned, ahead_none, stops}
 use Rattle.group_inherit.proofs.Naming.{sorted_drop}
-use Rattle.group_inherit.proofs.Overs.{same_name, get_named, named_entries, get_over}
+use Rattle.group_inherit.proofs.Overs.{same_name, get_named, get_over}
 use Rattle.group_inherit.proofs.Turns.{first_left}
 use Rattle.group_inherit.proofs.Puts.{first, none_below, get_put_all, either_none}
 
@@ -31,7 +31,7 @@ Entries = List Entry
 abbrev pub left_or : Entries → Entries → Named → List ℕ → Option Child
 left_or xs ys m q = option_or (stands (find text_cmp q xs) (find text_cmp q ys)) (map.get m q)
 
-over_none : (c : Child) → over_child c None ≡ c
+pub over_none : (c : Child) → over_child c None ≡ c
 over_none (a_token d) = refl
 over_none (a_group g) = refl
 
@@ -83,7 +83,7 @@ take_both a b xs ys m new c s r tie over is q =
 pub no_later : (ys : Entries) (m : Named) (q : List ℕ) → left_or [] ys m q ≡ option_or (find text_cmp q ys) (map.get m q)
 no_later ys m q = refl
 
-no_earlier_member : (x : Option Child) → stands x None ≡ x
+pub no_earlier_member : (x : Option Child) → stands x None ≡ x
 no_earlier_member None = refl
 no_earlier_member (Some c) = ap (λ (d : Child). Some d) (over_none c)
 

@@ -1,7 +1,7 @@
 -- Children by their names.
-use Rattle.std.proofs.Common.{◌≡◌, ℕ, zero, suc, drop, Bool, true, false, cond, List, [], ◌∷◌, Option, Some, None, inl, inr, refl, sym, ap, ◌∙◌, subst, Ordering, Less, Equal, Greater, is_eq, T, ◌&&◌}
-use Rattle.std.proofs.lemmas.Bool.{cases_Bool, false≢true}
-use Rattle.std.proofs.lemmas.Option.{none-some, same_Some}
+use Rattle.std.proofs.Common.{◌≡◌, ℕ, zero, suc, drop, Bool, true, false, cond, List, [], ◌∷◌, Some, None, inl, inr, refl, sym, ap, ◌∙◌, subst, Ordering, Less, Equal, Greater, is_eq, T, ◌&&◌}
+use Rattle.std.proofs.lemmas.Bool.{cases_Bool}
+use Rattle.std.proofs.lemmas.Option.{none-some}
 use Rattle.std.specs.Cmp.{tied_itself}
 use Rattle.std.specs.Cmp.Lexicographic.{nat_list_cmp_total}
 use Rattle.std.specs.FinMap as map_of
@@ -11,7 +11,7 @@ use Rattle.tk_io.specs.Order.{text_cmp}
 use Rattle.tk_io.proofs.TextMaps.{text_cmp-IsAntisymmetric}
 use Rattle.token_tree.specs.Tree.{Child, Children, no_children, child, children_of}
 use Rattle.group_inherit.specs.Merging.{named}
-use Rattle.group_inherit.specs.Numbering.{LacksName}
+use Rattle.group_inherit.specs.inner.Numbering.{LacksName}
 
 tied : (r : Ordering) → is_eq r ≡ true → r ≡ Equal
 tied Less e = cc

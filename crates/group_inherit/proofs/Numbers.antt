@@ -2,7 +2,7 @@
 use Rattle.std.proofs.Common.{◌≡◌, ℕ, zero, suc, ◌+◌, ◌<◌, ◌≤◌, List, [], ◌∷◌, ◌++◌, refl, sym, ap, ◌∙◌, subst, append_assoc, drop, arith}
 use Rattle.token_tree.specs.Tree.{Definition, Child, a_token, a_group, Group, group, Children, no_children, child, children_of}
 use Rattle.group_inherit.specs.Extension.{GroupPath, groups_from, groups_among}
-use Rattle.group_inherit.specs.Numbering.{GroupAt, LacksName, AreNamed, AreNamedAmong}
+use Rattle.group_inherit.specs.inner.Numbering.{GroupAt, LacksName, AreNamed, AreNamedAmong}
 
 -- how many groups there are
 

@@ -9,8 +9,8 @@ use Rattle.ring.specs.Routes.{IsRing, HasNoRing}
 use Rattle.token_tree.specs.Tree.{Extension, Group}
 use Rattle.group_inherit.specs.declared.fault.TreeFault.{TreeFault}
 use Rattle.group_inherit.specs.declared.fault.TreeFault.TheVariants.{ExtendsTarget, ExtendsCycle, TooManyTokens, TooHigh, NoMemory}
-use Rattle.group_inherit.specs.Answer.{IsFirstLost, IsRingAt, IsCounted, IsLow, IsTreeBreak, IsSound, IsFlat, Expands}
-use Rattle.group_inherit.specs.Expansion.{expand}
+use Rattle.group_inherit.specs.Answer.{IsFirstLost, IsRingAt, IsCounted, IsLow, IsTreeBreak, IsSound, IsFlat}
+use Rattle.group_inherit.proofs.Expansions.{one_expansion}
 use Rattle.group_inherit.specs.Extension.{GroupPath, Lost, at_path, needs, lost_targets, Counts, Heights, count_of, height_of, ring_extension}
 use Rattle.group_inherit.specs.Flattening.{Flattened, flat_of}
 use Rattle.group_inherit.specs.Span.{Span, span_of}
@@ -25,7 +25,7 @@ one_height tree m n a b = same_value (needs tree) (λ path heights. height_of (a
 
 pub one_flat : (tree : Group) (f g : map.FinMap names_cmp Flattened) → IsFlat tree f → IsFlat tree g → f ≡ g
 one_flat tree f g (d, is_d, makes) (e, is_e, makes_too) =
-    makes ∙ (ap flat_of (same_value (needs tree) (λ path xs. expand (at_path tree path) xs) [] is_d is_e) ∙ sym makes_too)
+    makes ∙ (ap flat_of (one_expansion tree [] is_d is_e) ∙ sym makes_too)
 
 -- what is lost is not found
 

@@ -1,16 +1,14 @@
 -- One tree over another, name by name.
-use Rattle.std.proofs.Common.{◌≡◌, ℕ, true, false, not, ◌&&◌, cond, T, List, [], ◌∷◌, Option, Some, None, is_some, option_map, refl, sym, ap, ap₂, subst, ◌∙◌, Ordering, Equal, Less, Greater}
-use Rattle.std.proofs.Common.{map as map_list}
+use Rattle.std.proofs.Common.{◌≡◌, ℕ, true, false, cond, List, [], ◌∷◌, Some, refl, sym, ap, ◌∙◌, Ordering, Equal, Less, Greater}
 use Rattle.std.specs.FinMap as map
-use Rattle.std.specs.FinMap.Entries.{find, is_sorted, below_all, where_key}
+use Rattle.std.specs.FinMap.Entries.{find}
 use Rattle.std.specs.Cmp.Lexicographic.{nat_list_cmp_total}
-use Rattle.std.specs.Ordering.{eq_by_cmp, is_lt, is_eq}
+use Rattle.std.specs.Ordering.{eq_by_cmp, is_eq}
 use Rattle.tk_io.specs.Order.{text_cmp}
 use Rattle.tk_io.proofs.TextMaps.{text_cmp-IsAntisymmetric}
 use Rattle.token_tree.specs.Tree.{Child, group, Children, no_children, child, Named, children_of}
-use Rattle.group_inherit.specs.Merging.{either, named, over_members, over_child, stands, IsOverByName}
-use Rattle.group_inherit.specs.Putting.{put_all}
-use Rattle.group_inherit.proofs.Puts.{get_put_all, put_kept}
+use Rattle.group_inherit.specs.Merging.{named, over_members, over_child, stands}
+use Rattle.group_inherit.specs.Laws.{IsOverByName}
 
 tied : (r : Ordering) → is_eq r ≡ true → r ≡ Equal
 tied Less e = cc

@@ -13,9 +13,9 @@ use Rattle.tk_io.specs.Order.{names_cmp}
 use Rattle.token_tree.specs.Tree.{Definition, Extension, Child, a_token, a_group, Group, Children, child, children_of}
 use Rattle.group_inherit.specs.declared.fault.TreeFault.{TreeFault}
 use Rattle.group_inherit.specs.declared.fault.TreeFault.TheVariants.{ExtendsTarget, ExtendsCycle, TooManyTokens, TooHigh, NoMemory}
-use Rattle.group_inherit.specs.Answer.{IsLostTarget}
+use Rattle.group_inherit.specs.inner.Faults.{IsLostTarget}
 use Rattle.group_inherit.specs.Extension.{GroupPath, Lost, extension_of, target_path, names_of_groups, group_names, needs_of, lost_unless}
-use Rattle.group_inherit.specs.Numbering.{GroupAt, path_in, Places, ArePlaces, AreKnown, EachKnown, IsRow, EachRow, lost_by, lost_of, lost_nodes}
+use Rattle.group_inherit.specs.inner.Numbering.{GroupAt, path_in, Places, ArePlaces, AreKnown, EachKnown, IsRow, EachRow, lost_by, lost_of, lost_nodes}
 use Rattle.group_inherit.proofs.Numbers.{Entries}
 
 tied : (r : Ordering) → is_eq r ≡ true → r ≡ Equal

@@ -8,8 +8,8 @@ use Rattle.ring.specs.Routes.{In}
 use Rattle.ring.specs.Values.{Comes}
 use Rattle.token_tree.specs.Tree.{Group}
 use Rattle.group_inherit.specs.declared.numbered.Node.{Node}
-use Rattle.group_inherit.specs.Expansion.{expand_at, numbered}
-use Rattle.group_inherit.specs.NodeShown.{groups_view}
+use Rattle.group_inherit.specs.inner.Expanding.{expand_at, numbered}
+use Rattle.group_inherit.specs.inner.View.{groups_view}
 
 one_of : (P : ℕ → Type 0) (xs : List ℕ) (x : ℕ) → AllByRecursion P xs → In x xs → P x
 one_of P [] x all there = absurd there

@@ -11,10 +11,10 @@ use Rattle.ring.proofs.Renamings.{Named, in_map, in_names}
 use Rattle.token_tree.specs.Tree.{Extension, Group}
 use Rattle.group_inherit.specs.declared.fault.TreeFault.{TreeFault}
 use Rattle.group_inherit.specs.declared.fault.TreeFault.TheVariants.{ExtendsTarget, ExtendsCycle, TooManyTokens, TooHigh, NoMemory}
-use Rattle.group_inherit.specs.Answer.{IsReportOf, IsRingFault}
+use Rattle.group_inherit.specs.inner.Faults.{IsReportOf, IsRingFault}
 use Rattle.group_inherit.specs.Merging.{either}
 use Rattle.group_inherit.specs.Extension.{GroupPath, at_path, extension_of, group_names, needs_of, target_path, same_path, where_target, extension_to, head_or, extension_along, ring_extension}
-use Rattle.group_inherit.specs.Numbering.{GroupAt, group_in, path_in, AreRows, extension_after, extension_in}
+use Rattle.group_inherit.specs.inner.Numbering.{GroupAt, group_in, path_in, AreRows, extension_after, extension_in}
 
 same_itself : (p : GroupPath) → same_path p p ≡ true
 same_itself p = (lists_equiv nat_list_eq_equiv).refl p
@@ -91,7 +91,7 @@ module _ (tree : Group) (nodes : List GroupAt) (at_tree : (v : ℕ) → v < leng
   head_named first [] = refl
   head_named first (v ∷ vs) = refl
 
-  along_named : (first : ℕ) (vs : List ℕ) → All (λ w. w < length nodes) vs → extension_after nodes first vs ≡ extension_along tree (path_in nodes first) (map (path_in nodes) vs)
+  along_named : (first : ℕ) (vs : List ℕ) → All (λ w. w < length nodes) vs → extension_after nodes first vs ≡ extension_along (λ path. path) (at_path tree) (path_in nodes first) (map (path_in nodes) vs)
   along_named first [] all = refl
   along_named first (v ∷ vs) all =
       ap (λ (o : Option Extension). either o (extension_after nodes first vs))

@@ -11,8 +11,8 @@ use Rattle.ring.specs.Values.{Comes, comes, AllCome, none, more}
 use Rattle.ring.proofs.Ends.{in_cases}
 use Rattle.ring.proofs.Sums.{follows_at}
 use Rattle.group_inherit.specs.Merging.{empty_group}
-use Rattle.group_inherit.specs.Expansion.{numbered}
-use Rattle.group_inherit.specs.Tables.{values_in}
+use Rattle.group_inherit.specs.inner.Expanding.{numbered}
+use Rattle.group_inherit.specs.inner.Tables.{values_in}
 
 -- the group of a number in a table
 abbrev pub value : List Group → ℕ → GroupData

@@ -14,7 +14,7 @@ use Rattle.ring.proofs.Within.{within}
 use Rattle.token_tree.specs.Tree.{Extension, Child, a_token, a_group, Group, group, Children, no_children, child}
 use Rattle.group_inherit.specs.Merging.{named, empty_group}
 use Rattle.group_inherit.specs.Extension.{GroupPath, group_of, group_at, at_path, groups_from, children_in, extension_of, needs_of, needs, Lost, lost_unless, lost_at, lost_among, lost_targets}
-use Rattle.group_inherit.specs.Numbering.{GroupAt, nowhere, group_in, path_in, LacksName, AreNamed, AreNamedAmong, Places, ArePlaces, IsKnown, AreKnown, EachKnown, IsRow, EachRow, lost_by, lost_of, lost_nodes, AreRows}
+use Rattle.group_inherit.specs.inner.Numbering.{GroupAt, nowhere, group_in, path_in, LacksName, AreNamed, AreNamedAmong, Places, ArePlaces, IsKnown, AreKnown, EachKnown, IsRow, EachRow, lost_by, lost_of, lost_nodes, AreRows}
 use Rattle.group_inherit.proofs.Naming.{get_here, get_later}
 use Rattle.group_inherit.proofs.Finding.{paths, Found, found_from, listed_from, apart_from, named_from, goes_on}
 

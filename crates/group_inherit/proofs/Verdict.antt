@@ -8,14 +8,17 @@ use Rattle.token_tree.specs.Tree.{Extension, Group}
 use Rattle.group_inherit.specs.declared.fault.TreeFault.{TreeFault}
 use Rattle.group_inherit.specs.declared.fault.TreeFault.TheVariants.{ExtendsTarget, ExtendsCycle, TooManyTokens, TooHigh, NoMemory}
 use Rattle.group_inherit.specs.Merging.{empty_group}
-use Rattle.group_inherit.specs.Expansion.{expand, expand_at, numbered}
+use Rattle.group_inherit.specs.inner.Expanding.{expand, expand_at, numbered}
 use Rattle.group_inherit.specs.Extension.{GroupPath, Lost, at_path, needs, lost_targets, count_of, height_of, ring_extension}
-use Rattle.group_inherit.specs.Answer.{IsFirstLost, IsLostTarget, IsRingFault, IsTreeBreak, IsSound, IsCounted, Expands}
-use Rattle.group_inherit.specs.Numbering.{GroupAt, group_in, path_in, IsNumbering, Places, ArePlaces, EachKnown, EachRow, lost_nodes, AreRows}
+use Rattle.group_inherit.specs.Answer.{IsFirstLost, IsTreeBreak, IsSound, IsCounted}
+use Rattle.group_inherit.specs.inner.Faults.{IsLostTarget, IsRingFault}
+use Rattle.group_inherit.specs.inner.Numbering.{GroupAt, group_in, path_in, IsNumbering, Places, ArePlaces, EachKnown, EachRow, lost_nodes, AreRows}
 use Rattle.token_tree.specs.Shown.{group_view}
 use Rattle.group_inherit.specs.declared.numbered.Node.{Node}
-use Rattle.group_inherit.specs.NodeShown.{nodes_view, groups_view}
-use Rattle.group_inherit.specs.Sizes.{IsCountedIn, IsLowIn, IsCountFault, IsHeightFault}
+use Rattle.group_inherit.specs.inner.View.{nodes_view, groups_view}
+use Rattle.group_inherit.specs.inner.Sizes.{IsCountedIn, IsLowIn, IsCountFault, IsHeightFault}
+use Rattle.group_inherit.specs.Expansion.{Expands}
+use Rattle.group_inherit.proofs.Expansions.{comes_expands}
 use Rattle.group_inherit.proofs.Reports.{reported_at}
 use Rattle.group_inherit.proofs.Trees.{some_nodes, at_tree, each_known, lost_are, rows_long, rows_graph, are_rows, tree_ring, tree_no_ring, tree_value}
 
@@ -99,7 +102,7 @@ module _ (nodes : List GroupAt) (n : IsNumbering nodes) (places : Places) (p : A
     pub expands : (groups : List Group) → groups ≡ map (λ m. m.1) nodes → (e : Group) → Comes (needs_in rows) (expand_at groups) 0 e → Expands (group_in nodes 0) [] e
     expands groups same e c =
         let steps : expand_at groups ≡ (λ v xs. expand (group_in nodes v) xs) = λ i. λ v xs. expand ((ap (λ (gs : List Group). numbered gs v) same ∙ group_numbered nodes v) i) xs in
-        value expand e (subst (λ (f : ℕ → List Group → Group). Comes (needs_in rows) f 0 e) steps c)
+        comes_expands (group_in nodes 0) [] e (value expand e (subst (λ (f : ℕ → List Group → Group). Comes (needs_in rows) f 0 e) steps c))
 
 -- the groups alone are those of the numbered groups
 pub same_groups : (nodes : List Node) → groups_view nodes ≡ map (λ m. m.1) (nodes_view nodes)

@@ -1,48 +1,41 @@
--- The expansion of a group that extends another.
-use Rattle.std.specs.Prelude.{ℕ, List, [], ◌∷◌, None, slice_index_or}
-use Rattle.std.specs.FinMap as map
-use Rattle.token_tree.specs.Tree.{Properties, Child, a_token, a_group, Group, group, Children, no_children, child, Named, group_with}
-use Rattle.group_inherit.specs.Merging.{over, empty_group}
+-- The expansion of groups that extend others (Format Module 2025.10, `$extends`).
+use Rattle.std.specs.Prelude.{ℕ, List, [], ◌∷◌, ◌++◌, Option, None, Some}
+use Rattle.token_tree.specs.Tree.{Properties, a_token, a_group, Group, group, Children, no_children, child, group_with}
+use Rattle.group_inherit.specs.Merging.{named, over}
+use Rattle.group_inherit.specs.Extension.{GroupPath, children_in, at_path, target_path}
+use Rattle.token_tree.specs.Tree.{Definition}
+
+abbrev pub properties_in : Group → Properties
+properties_in (group ps cs) = ps
 
 abbrev pub without_extension : Properties → Properties
 without_extension ps = record ps { extends = None }
 
--- what stands in place of a member: the first of these groups, where the member is a group
-abbrev pub in_place : Child → List Group → Child
-in_place (a_token d) xs = a_token d
-in_place (a_group g) [] = a_group g
-in_place (a_group g) (x ∷ xs) = a_group x
-
--- the groups that are left then
-abbrev pub left_over : Child → List Group → List Group
-left_over (a_token d) xs = xs
-left_over (a_group g) [] = []
-left_over (a_group g) (x ∷ xs) = xs
-
--- the members with these groups in place of the child groups, in order
-abbrev pub with_groups : Children → List Group → Named
-with_groups no_children xs = map.empty
-with_groups (child name c cs) xs = map.insert (with_groups cs (left_over c xs)) name (in_place c xs)
-
--- the groups that are left behind those
-abbrev pub behind_groups : Children → List Group → List Group
-behind_groups no_children xs = xs
-behind_groups (child name c cs) xs = behind_groups cs (left_over c xs)
-
 -- what is local over what is inherited, where something is
-abbrev pub over_inherited : Group → List Group → Group
-over_inherited local [] = local
-over_inherited local (x ∷ xs) = over local x
+abbrev pub over_inherited : Group → Option Group → Group
+over_inherited local None = local
+over_inherited local (Some inherited) = over local inherited
 
--- A group's expansion, from the expansions of its child groups in their order and then that of its target, where it has
--- one. Local is the group without `$extends`, with each child group expanded.
-abbrev pub expand : Group → List Group → Group
-expand (group ps cs) xs = over_inherited (group_with (without_extension ps) (with_groups cs xs)) (behind_groups cs xs)
+-- a group without `$extends` that has these members, over what it inherits
+abbrev pub expanded : Group → Children → Option Group → Group
+expanded g members inherited = over_inherited (group_with (without_extension (properties_in g)) (named members)) inherited
 
--- the group of a number, counted from 0
-abbrev pub numbered : List Group → ℕ → Group
-numbered groups v = slice_index_or groups v empty_group
+mutual
+  -- The expansion of the group at a path of a tree: its members, with each child group expanded, over the expansion of its
+  -- target, where it has one.
+  pub data Expands (tree : Group) : GroupPath → Group → Type 0 where
+    expands : {path : GroupPath} {members : Children} {inherited : Option Group} → AreExpanded tree path (children_in (at_path tree path)) members
+        → IsInherited tree (target_path (at_path tree path)) inherited → Expands tree path (expanded (at_path tree path) members inherited)
 
--- the same of numbered groups
-abbrev pub expand_at : List Group → ℕ → List Group → Group
-expand_at groups v xs = expand (numbered groups v) xs
+  -- the members of a group at a path, with the expansion of each child group in its place
+  pub data AreExpanded (tree : Group) : GroupPath → Children → Children → Type 0 where
+    no_member : {path : GroupPath} → AreExpanded tree path no_children no_children
+    own_token : {path : GroupPath} {name : List ℕ} {d : Definition} {cs members : Children} → AreExpanded tree path cs members
+        → AreExpanded tree path (child name (a_token d) cs) (child name (a_token d) members)
+    child_group : {path : GroupPath} {name : List ℕ} {g e : Group} {cs members : Children} → Expands tree (path ++ name ∷ []) e → AreExpanded tree path cs members
+        → AreExpanded tree path (child name (a_group g) cs) (child name (a_group e) members)
+
+  -- the expansion of a target, where there is one
+  pub data IsInherited (tree : Group) : Option GroupPath → Option Group → Type 0 where
+    no_target : IsInherited tree None None
+    its_target : {path : GroupPath} {e : Group} → Expands tree path e → IsInherited tree (Some path) (Some e)

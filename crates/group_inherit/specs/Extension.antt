@@ -1,6 +1,6 @@
 -- The groups of a tree, and what each needs of the others (Format Module 2025.10, `$extends`). A group is named by its path,
 -- the root by the empty one.
-use Rattle.std.specs.Prelude.{◌≡◌, ℕ, suc, ◌+◌, max, Bool, true, false, if◌then◌else◌, List, [], ◌∷◌, ◌++◌, map, sum, Option, Some, None, is_some, unwrap_or, option_map, option_and_then, option_to_list}
+use Rattle.std.specs.Prelude.{ℕ, suc, ◌+◌, max, Bool, true, false, if◌then◌else◌, List, [], ◌∷◌, ◌++◌, map, sum, Option, Some, None, is_some, unwrap_or, option_map, option_and_then, option_to_list}
 use Rattle.std.specs.Cmp.Lexicographic.{pointwise}
 use Rattle.std.specs.Str.{bytes_eq}
 use Rattle.token_tree.specs.Tree.{Extension, Child, a_token, a_group, Group, group, Children, no_children, child}
@@ -107,8 +107,13 @@ how_many (child name c cs) = suc (how_many cs)
 abbrev pub count_of : Group → List ℕ → ℕ
 count_of g counts = how_many (children_in g) + sum counts
 
+-- the counts of groups that have names of any kind, as paths or numbers
+abbrev pub CountsBy : {N : Type 0} → (N → List N) → (N → Group) → N → ℕ → Type 0
+CountsBy needs at = Comes needs (λ v counts. count_of (at v) counts)
+
+-- .. of a tree, by paths
 abbrev pub Counts : Group → GroupPath → ℕ → Type 0
-Counts tree = Comes (needs tree) (λ path counts. count_of (at_path tree path) counts)
+Counts tree = CountsBy (needs tree) (at_path tree)
 
 -- Heights: the greatest of 0, 1 for a token, 1 more than that of each child group, and that of the target.
 
@@ -133,8 +138,13 @@ greatest_raised (name ∷ names) (h ∷ hs) = max (h + 1) (greatest_raised names
 abbrev pub height_of : Group → List ℕ → ℕ
 height_of g heights = max (tokens_height (children_in g)) (greatest_raised (group_names g) heights)
 
+-- the heights of groups that have names of any kind
+abbrev pub HeightsBy : {N : Type 0} → (N → List N) → (N → Group) → N → ℕ → Type 0
+HeightsBy needs at = Comes needs (λ v heights. height_of (at v) heights)
+
+-- .. of a tree, by paths
 abbrev pub Heights : Group → GroupPath → ℕ → Type 0
-Heights tree = Comes (needs tree) (λ path heights. height_of (at_path tree path) heights)
+Heights tree = HeightsBy (needs tree) (at_path tree)
 
 -- Where a ring is reported.
 
@@ -152,12 +162,17 @@ abbrev pub head_or : {A : Type 0} → A → List A → A
 head_or x [] = x
 head_or x (y ∷ ys) = y
 
--- .. of the first of these groups whose target is the group behind it; behind the last stands `first`
-abbrev pub extension_along : Group → GroupPath → List GroupPath → Option Extension
-extension_along tree first [] = None
-extension_along tree first (path ∷ paths) = either (extension_to (head_or first paths) (at_path tree path)) (extension_along tree first paths)
+-- .. of the first of these groups whose target is the group behind it; behind the last stands `first`. Groups have names of
+-- any kind, each of which stands for a path and a group.
+abbrev pub extension_along : {N : Type 0} → (N → GroupPath) → (N → Group) → N → List N → Option Extension
+extension_along path at first [] = None
+extension_along path at first (v ∷ vs) = either (extension_to (path (head_or first vs)) (at v)) (extension_along path at first vs)
 
 -- .. of the first group of a ring whose target is the ring's next group; the first one follows the last
+abbrev pub extension_around : {N : Type 0} → (N → GroupPath) → (N → Group) → List N → Option Extension
+extension_around path at [] = None
+extension_around path at (first ∷ vs) = extension_along path at first (first ∷ vs)
+
+-- .. of a tree, by paths
 abbrev pub ring_extension : Group → List GroupPath → Option Extension
-ring_extension tree [] = None
-ring_extension tree (first ∷ paths) = extension_along tree first (first ∷ paths)
+ring_extension tree = extension_around (λ path. path) (at_path tree)

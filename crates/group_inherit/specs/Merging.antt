@@ -1,5 +1,5 @@
 -- One tree over another: the members of both, merged by their names.
-use Rattle.std.specs.Prelude.{◌≡◌, ℕ, List, [], ◌∷◌, Option, Some, None}
+use Rattle.std.specs.Prelude.{ℕ, List, [], ◌∷◌, Option, Some, None}
 use Rattle.std.specs.FinMap as map
 use Rattle.std.specs.Option.{option_or}
 use Rattle.token_tree.specs.Tree.{Properties, Child, a_token, a_group, Group, group, Children, no_children, child, Named, group_with}
@@ -50,7 +50,7 @@ merged_over before (g ∷ gs) = merged_over (over g before) gs
 abbrev pub merged : List Group → Group
 merged sources = merged_over empty_group sources
 
--- The law of each name.
+-- What stands at a name.
 
 -- the member of a name
 abbrev pub child_at : List ℕ → Group → Option Child
@@ -60,7 +60,3 @@ child_at name (group ps cs) = map.get (named cs) name
 abbrev pub stands : Option Child → Option Child → Option Child
 stands None earlier = earlier
 stands (Some c) earlier = Some (over_child c earlier)
-
--- at each name stands what the two groups have there
-abbrev pub IsOverByName : Type 0
-IsOverByName = (later earlier : Group) (name : List ℕ) → child_at name (over later earlier) ≡ stands (child_at name later) (child_at name earlier)

@@ -3,10 +3,10 @@
 ghost use Rattle.std.specs.Prelude.{◌≡◌, ◌+◌, ◌≤◌, min, max, IfErr, OnOk, IfSome};
 ghost use Rattle.token_tree.specs.Shown.{child_view, group_view};
 ghost use Rattle.group_inherit.specs.Answer.{IsSound, IsTreeBreak};
-ghost use Rattle.group_inherit.specs.Bare.{IsSize, IsChildSize};
+ghost use Rattle.group_inherit.specs.inner.Bare.{IsSize, IsChildSize};
 
 use crate::fault::TreeFault;
-use crate::sizes::{HIGHEST, LIMIT, MOST_TOKENS};
+use crate::sizes::{HIGHEST, LIMIT, MOST_MEMBERS};
 use token_tree::{Child, Group};
 
 /// How large a group is, with all below it. A number is a million where it would be more.
@@ -77,7 +77,7 @@ pub(crate) fn check_size<'s>(tree: &Group<'s>, size: Size) -> Result<(), TreeFau
     ensures sound { OnOk result (IsSound (group_view tree.now)) }
     ensures broken { IfErr result (IsTreeBreak (group_view tree.now)) }
 {
-    if size.members > MOST_TOKENS {
+    if size.members > MOST_MEMBERS {
         return Err(TreeFault::TooManyTokens(size.members));
     }
     if size.levels > HIGHEST {

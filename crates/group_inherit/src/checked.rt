@@ -3,9 +3,9 @@
 ghost use Rattle.std.specs.Prelude.{IfOk, IfErr, OnOk};
 ghost use Rattle.token_tree.specs.Shown.{group_view};
 ghost use Rattle.group_inherit.specs.Answer.{IsSound, IsTreeBreak};
-ghost use Rattle.group_inherit.specs.Checking.{IsChecked};
-ghost use Rattle.group_inherit.specs.NodeShown.{groups_view, nodes_view};
-ghost use Rattle.group_inherit.specs.Numbering.{IsNumbering, group_in};
+ghost use Rattle.group_inherit.specs.inner.Outcomes.{AreReady, IsReady};
+ghost use Rattle.group_inherit.specs.inner.View.{nodes_view};
+ghost use Rattle.group_inherit.specs.inner.Numbering.{IsNumbering, group_in};
 
 use crate::fault::TreeFault;
 use crate::numbered::{Node, numbered_groups};
@@ -35,7 +35,7 @@ struct Needs {
 fn check_groups<'t, 's>(alloc: Global, nodes: &[Node<'t, 's>]) -> Result<Needs, TreeFault<'s>>
     requires { IsNumbering (nodes_view nodes.now) }
     ensures sound { OnOk result (IsSound (group_in (nodes_view nodes.now) 0)) }
-    ensures ready { IfOk result (λ n. IsChecked (group_in (nodes_view nodes.now) 0) (groups_view nodes.now) n.rows.items n.order.items) }
+    ensures ready { IfOk result (AreReady nodes.now) }
     ensures broken { IfErr result (IsTreeBreak (group_in (nodes_view nodes.now) 0)) }
 {
     let numbers = places(alloc, nodes)?;
@@ -55,7 +55,7 @@ pub(crate) fn checked<'t, 's>(
     tree: &'t Group<'s>,
 ) -> Result<ReadyTree<'t, 's>, TreeFault<'s>>
     ensures sound { OnOk result (IsSound (group_view tree.entry.now)) }
-    ensures ready { IfOk result (λ r. IsChecked (group_view tree.entry.now) (groups_view r.nodes.items) r.rows.items r.order.items) }
+    ensures ready { IfOk result (IsReady (group_view tree.entry.now)) }
     ensures broken { IfErr result (IsTreeBreak (group_view tree.entry.now)) }
 {
     let nodes = numbered_groups(alloc, tree)?;

@@ -1,8 +1,8 @@
 //! Copies of what groups say of themselves.
 
-ghost use Rattle.std.specs.Prelude.{◌≡◌, IfOk, option_map};
+ghost use Rattle.std.specs.Prelude.{◌≡◌, IfOk};
 ghost use Rattle.std.specs.Option.{option_copied};
-ghost use Rattle.token_tree.specs.Shown.{extends_view};
+ghost use Rattle.group_inherit.specs.inner.Outcomes.{IsSameTarget};
 
 use tk_io::NoMemory;
 use token_tree::{Extends, Mark};
@@ -21,7 +21,7 @@ pub(crate) fn copy_mark<'s>(mark: Option<&Mark<'s>>) -> Result<Option<Mark<'s>>,
 pub(crate) fn copy_target<'s>(
     extends: Option<&Extends<'s>>,
 ) -> Result<Option<Extends<'s>>, NoMemory>
-    ensures { IfOk result (λ e. option_map extends_view e ≡ option_map extends_view (option_copied extends.entry)) }
+    ensures { IfOk result (IsSameTarget (option_copied extends.entry)) }
 {
     match extends {
         None => Ok(None),

@@ -24,7 +24,7 @@ impl<'s> Model for Entry<'s> {
 
     ghost coded = { coded_flattened };
 
-    ghost use Rattle.group_inherit.specs.Shown.{entry_data};
+    ghost use Rattle.group_inherit.specs.View.{entry_view};
 
-    ghost view = { entry_data };
+    ghost view = { entry_view };
 }

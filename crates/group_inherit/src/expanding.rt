@@ -1,15 +1,10 @@
 //! The expansion of groups, each after all that it needs.
 
-ghost use Rattle.std.specs.Prelude.{◌≡◌, ◌<◌, ◌≤◌, ℕ, [], map as map_list, length, drop, All, IfOk, slice_index_or};
-ghost use Rattle.std.specs.FinMap as map;
-ghost use Rattle.token_tree.specs.Tree.{children_of};
-ghost use Rattle.token_tree.specs.Shown.{child_view, members_view, group_view};
-ghost use Rattle.ring.specs.Routes.{In};
+ghost use Rattle.std.specs.Prelude.{◌≡◌, ◌<◌, ◌≤◌, [], length, All, IfOk};
 ghost use Rattle.ring.specs.Order.{Follows};
 ghost use Rattle.ring.specs.Graph.{needs_in, IsGraph};
-ghost use Rattle.ring.specs.Values.{Comes};
-ghost use Rattle.group_inherit.specs.Expansion.{in_place, left_over, with_groups, behind_groups, expand, numbered, expand_at};
-ghost use Rattle.group_inherit.specs.Tables.{values_in};
+ghost use Rattle.group_inherit.specs.inner.Outcomes.{AreBehind, AreExpansions, AreInPlace};
+ghost use Rattle.group_inherit.specs.inner.Outcomes.{IsExpansion, IsInPlace, IsLeftOver};
 
 use crate::copying::copy_mark;
 use crate::merging::over;
@@ -31,7 +26,7 @@ pub(crate) fn expansions<'t, 's>(
     requires within { All (λ v. v < length nodes.now) order.now }
     requires order { Follows (needs_in rows.now) [] order.now }
     ensures long { IfOk result (λ table. length table.items ≡ length nodes.now) }
-    ensures known { IfOk result (λ table. (v : ℕ) → In v order.now → Comes (needs_in rows.now) (expand_at (map_list (λ n. group_view n.group.now) nodes.now)) v (numbered (map_list group_view table.items) v)) }
+    ensures known { IfOk result (λ table. AreExpansions nodes.now rows.now order.now table.items) }
 {
     let mut table = blank(alloc, nodes.len())?;
     for v in order {
@@ -74,7 +69,7 @@ fn expansion<'s>(
     row: &[usize],
 ) -> Result<Group<'s>, NoMemory>
     requires { All (λ w. w < length table.now) row.now }
-    ensures { IfOk result (λ g. group_view g ≡ expand (group_view group.now) (values_in table.now row.now)) }
+    ensures { IfOk result (IsExpansion group.now table.now row.now) }
 {
     let (members, next) = expand_members(alloc, &group.members, table, row)?;
     let deprecated = copy_mark(group.deprecated.as_ref())?;
@@ -98,8 +93,8 @@ fn expand_members<'s>(
     row: &[usize],
 ) -> Result<(Members<'s>, usize), NoMemory>
     requires { All (λ w. w < length table.now) row.now }
-    ensures members { IfOk result (λ made. members_view made.0 ≡ with_groups (children_of (map.entries (members_view members.now))) (values_in table.now row.now)) }
-    ensures left { IfOk result (λ made. values_in table.now (drop made.1 row.now) ≡ behind_groups (children_of (map.entries (members_view members.now))) (values_in table.now row.now)) }
+    ensures members { IfOk result (λ made. AreInPlace members.now table.now row.now made.0) }
+    ensures left { IfOk result (λ made. AreBehind members.now table.now row.now made.1) }
     ensures at { IfOk result (λ made. made.1 ≤ length row.now) }
 {
     let mut expanded = Members::new(alloc);
@@ -121,8 +116,8 @@ fn expand_child<'s>(
 ) -> Result<(Child<'s>, usize), NoMemory>
     requires row { All (λ w. w < length table.now) row.now }
     requires next { next ≤ length row.now }
-    ensures child { IfOk result (λ made. child_view made.0 ≡ in_place (child_view child.now) (values_in table.now (drop next row.now))) }
-    ensures left { IfOk result (λ made. values_in table.now (drop made.1 row.now) ≡ left_over (child_view child.now) (values_in table.now (drop next row.now))) }
+    ensures child { IfOk result (λ made. IsInPlace child.now table.now row.now next made.0) }
+    ensures left { IfOk result (λ made. IsLeftOver child.now table.now row.now next made.1) }
     ensures at { IfOk result (λ made. made.1 ≤ length row.now) }
 {
     match child {

@@ -1,14 +1,14 @@
 //! Flat trees.
 
-ghost use Rattle.std.specs.Prelude.{◌≡◌, List, ℕ, Some, IfOk, IfErr, OnOk, OnErr, T, ◌==◌, cond};
-ghost use Rattle.std.specs.BTreeMap.{is_at};
+ghost use Rattle.std.specs.Prelude.{◌≡◌, IfOk, IfErr, OnOk, OnErr, T, ◌==◌};
 ghost use Rattle.std.specs.FinMap as map;
-ghost use Rattle.std.specs.FinMap.Entries.{is_sorted, put};
+ghost use Rattle.std.specs.FinMap.Entries.{is_sorted};
 ghost use Rattle.std.specs.List.{slice_get};
 ghost use Rattle.std.specs.Option.{option_copied, option_map};
 ghost use Rattle.tk_io.specs.Order.{names_cmp};
-ghost use Rattle.group_inherit.specs.Flattening.{Flattened};
-ghost use Rattle.group_inherit.specs.Halves.{IsPlace, IsGap};
+ghost use Rattle.group_inherit.specs.View.{token_view, StandsAt};
+ghost use Rattle.group_inherit.specs.inner.Halves.{IsPlace, IsGap};
+ghost use Rattle.group_inherit.specs.inner.Outcomes.{IsPut};
 
 use crate::entry::Entry;
 use name_path::Path;
@@ -81,7 +81,7 @@ fn put_token<'s>(
     entry: Entry<'s>,
 ) -> Result<(), NoMemory>
     requires { T (is_sorted names_cmp tokens.old.items) }
-    ensures ok { OnOk result (tokens.new.items ≡ put names_cmp path.entry entry.entry tokens.old.items) }
+    ensures ok { OnOk result (IsPut path.entry entry.entry tokens.old.items tokens.new.items) }
     ensures err { OnErr result (tokens.new.items ≡ tokens.old.items) }
 {
     match place_from_end(tokens.as_slice(), &path) {
@@ -136,7 +136,7 @@ impl<'s> Flat<'s> {
 
     /// The i-th token in path order with its path, counted from 0; none where i is not below the length.
     pub fn at(&self, i: usize) -> Option<(&Path<'s>, &Entry<'s>)>
-        ensures { option_map {U = List (List ℕ) × Flattened} (λ e. (e.0.now, e.1.now)) result ≡ slice_get (map.entries self.now) i }
+        ensures { option_map token_view result ≡ slice_get (map.entries self.now) i }
     {
         match self.as_slice().get(i) {
             Some(token) => Some((&token.0, &token.1)),
@@ -149,7 +149,7 @@ impl<'s> Flat<'s> {
     pub fn put(&mut self, path: &Path<'s>, entry: Entry<'s>) -> Result<(), NoMemory>
         ensures ok { OnOk result (self.new ≡ map.insert self.old path.now entry.entry) }
         // What stands at each path afterwards.
-        ensures at { OnOk result ((q : List (List ℕ)) → map.get self.new q ≡ cond (is_at (names_cmp path.now) q) (Some entry.entry) (map.get self.old q)) }
+        ensures at { OnOk result (StandsAt self.old self.new path.now entry.entry) }
         ensures err { OnErr result (self.new ≡ self.old) }
     {
         let path = path.copy()?;

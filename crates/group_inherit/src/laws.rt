@@ -1,12 +1,47 @@
 //! Laws over the definitions alone, for the layers above.
 
-ghost use Rattle.group_inherit.specs.Laws.{OneFlat, OneBreak, SoundIsUnbroken};
-ghost use Rattle.group_inherit.specs.Merging.{IsOverByName};
+ghost use Rattle.group_inherit.specs.Laws.{ExpandedAreOrdered, ExpandedByName, FlatAsList, FlatByPath, IsOverByName};
+ghost use Rattle.group_inherit.specs.Laws.{LostAreAll, LostAscend, MergedAreOrdered, OneBreak, OneExpansion, OneFileIsItsShape};
+ghost use Rattle.group_inherit.specs.Laws.{OneFlat, OneSourceIsItself, ShapesAreOrdered, SoundIsUnbroken, SourcesInOrder};
 
 /// In one group over another stands, at each name, what the two groups have there: two groups of the name are merged,
 /// else the later member stands whole, and the earlier one only where there is no later one.
 pub fn over_by_name()
     ensures { IsOverByName }
+{}
+
+/// Sources are merged in their order, each over what those before it come to. One source alone comes to itself, and so
+/// a file alone to its own shape.
+pub fn merged_in_order()
+    ensures order { SourcesInOrder }
+    ensures one { OneSourceIsItself }
+    ensures file { OneFileIsItsShape }
+{}
+
+/// The members of each group ascend in the tree that a file shows, in merged trees, and in what a group expands to.
+pub fn ordered_trees()
+    ensures shapes { ShapesAreOrdered }
+    ensures merged { MergedAreOrdered }
+    ensures expanded { ExpandedAreOrdered }
+{}
+
+/// A group has one expansion: at each name stands its own token, or the expansion of its child group there over what its
+/// target has there, or what its target has there.
+pub fn expanded_by_name()
+    ensures one { OneExpansion }
+    ensures named { ExpandedByName }
+{}
+
+/// The flat tree is that of the tokens of the expanded tree: by path, and as a list whose paths ascend.
+pub fn flat_by_path()
+    ensures at { FlatByPath }
+    ensures list { FlatAsList }
+{}
+
+/// The lost targets are those of all groups whose target is no group of the tree, in the order of the groups' paths.
+pub fn lost_in_order()
+    ensures ascend { LostAscend }
+    ensures all { LostAreAll }
 {}
 
 /// A tree has one flat tree, or breaks one rule of extension first; never both.

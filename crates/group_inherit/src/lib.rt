@@ -24,5 +24,8 @@ pub use entry::Entry;
 pub use fault::{FileSpan, TreeFault};
 pub use flat_tree::Flat;
 pub use flattening::flatten;
-pub use laws::{one_answer, over_by_name};
+pub use laws::{
+    expanded_by_name, flat_by_path, lost_in_order, merged_in_order, one_answer, ordered_trees,
+    over_by_name,
+};
 pub use merging::over;

@@ -1,11 +1,8 @@
 //! One group over another.
 
-ghost use Rattle.std.specs.Prelude.{◌≡◌, Some, IfOk, OnOk, drop, map as map_list};
-ghost use Rattle.std.specs.FinMap as map;
-ghost use Rattle.token_tree.specs.Tree.{children_of};
-ghost use Rattle.token_tree.specs.Shown.{child_view, member_view, members_view, group_view};
-ghost use Rattle.group_inherit.specs.Merging.{over, over_members, over_child};
-ghost use Rattle.group_inherit.specs.Putting.{put_all};
+ghost use Rattle.std.specs.Prelude.{IfOk, OnOk};
+ghost use Rattle.group_inherit.specs.View.{IsOver};
+ghost use Rattle.group_inherit.specs.inner.Outcomes.{AreAdded, AreOver, IsAdded, IsChildOver};
 
 use crate::copying::{copy_mark, copy_target};
 use std::alloc::Global;
@@ -22,7 +19,7 @@ pub fn over<'s>(
     later: &Group<'s>,
     earlier: &Group<'s>,
 ) -> Result<Group<'s>, NoMemory>
-    ensures { IfOk result (λ g. group_view g ≡ over (group_view later.now) (group_view earlier.now)) }
+    ensures { IfOk result (IsOver later.now earlier.now) }
 {
     let members = over_members(alloc, &later.members, &earlier.members)?;
     let deprecated = copy_mark(later.deprecated.as_ref().or(earlier.deprecated.as_ref()))?;
@@ -42,7 +39,7 @@ fn over_members<'s>(
     later: &Members<'s>,
     earlier: &Members<'s>,
 ) -> Result<Members<'s>, NoMemory>
-    ensures { IfOk result (λ ms. members_view ms ≡ over_members (children_of (map.entries (members_view later.now))) (members_view earlier.now)) }
+    ensures { IfOk result (AreOver later.now earlier.now) }
 {
     if later.is_empty() {
         return earlier.copy();
@@ -57,7 +54,7 @@ fn merged<'s>(
     later: &Members<'s>,
     earlier: &Members<'s>,
 ) -> Result<Members<'s>, NoMemory>
-    ensures { IfOk result (λ ms. members_view ms ≡ over_members (children_of (map.entries (members_view later.now))) (members_view earlier.now)) }
+    ensures { IfOk result (AreOver later.now earlier.now) }
 {
     let upper = later.as_slice();
     let lower = earlier.as_slice();
@@ -91,7 +88,7 @@ fn merged<'s>(
 
 // Adds the members of the list from the i-th on.
 fn put_from<'s>(members: &mut Members<'s>, list: &[Member<'s>], i: usize) -> Result<(), NoMemory>
-    ensures { OnOk result (members_view members.new ≡ put_all (drop i (map_list member_view list.now)) (members_view members.old)) }
+    ensures { OnOk result (AreAdded list.now i members.old members.new) }
 {
     for k in i..list.len() {
         put_copy(members, &list[k])?;
@@ -101,7 +98,7 @@ fn put_from<'s>(members: &mut Members<'s>, list: &[Member<'s>], i: usize) -> Res
 
 // Adds the member, whose child is shared.
 fn put_copy<'s>(members: &mut Members<'s>, member: &Member<'s>) -> Result<(), NoMemory>
-    ensures { OnOk result (members_view members.new ≡ map.insert (members_view members.old) member.now.name (child_view member.now.child)) }
+    ensures { OnOk result (IsAdded member.now members.old members.new) }
 {
     let child = member.child.copy()?;
     members.put(&member.name, child)?;
@@ -115,7 +112,7 @@ fn over_child<'s>(
     later: &Child<'s>,
     earlier: &Child<'s>,
 ) -> Result<Child<'s>, NoMemory>
-    ensures { IfOk result (λ c. child_view c ≡ over_child (child_view later.now) (Some (child_view earlier.now))) }
+    ensures { IfOk result (IsChildOver later.now earlier.now) }
 {
     let Child::Group(upper) = later else {
         return later.copy();

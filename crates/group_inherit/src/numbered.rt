@@ -1,10 +1,9 @@
 //! The groups of a tree in one list.
 
-ghost use Rattle.std.specs.Prelude.{◌≡◌, [], ◌++◌, IfOk, OnOk};
+ghost use Rattle.std.specs.Prelude.{IfOk, OnOk};
 ghost use Rattle.token_tree.specs.Shown.{group_view};
-ghost use Rattle.group_inherit.specs.Extension.{groups_from};
-ghost use Rattle.group_inherit.specs.NodeShown.{nodes_view};
-ghost use Rattle.group_inherit.specs.Numbering.{AreNamed};
+ghost use Rattle.group_inherit.specs.inner.Numbering.{AreNamed};
+ghost use Rattle.group_inherit.specs.inner.Outcomes.{AreGroupsAdded, AreGroupsOf};
 
 use name_path::Path;
 use std::alloc::Global;
@@ -23,7 +22,7 @@ pub(crate) fn numbered_groups<'t, 's>(
     alloc: Global,
     tree: &'t Group<'s>,
 ) -> Result<Vec<Node<'t, 's>>, NoMemory>
-    ensures all { IfOk result (λ nodes. nodes_view nodes.items ≡ groups_from [] (group_view tree.entry.now)) }
+    ensures all { IfOk result (λ nodes. AreGroupsOf tree.entry.now nodes.items) }
     ensures named { OnOk result (AreNamed (group_view tree.entry.now)) }
 {
     let mut nodes = Vec::new(alloc);
@@ -38,7 +37,7 @@ fn add_groups<'t, 's>(
     path: &Path<'s>,
     group: &'t Group<'s>,
 ) -> Result<(), NoMemory>
-    ensures all { OnOk result (nodes_view nodes.new.items ≡ nodes_view nodes.old.items ++ groups_from path.now (group_view group.entry.now)) }
+    ensures all { OnOk result (AreGroupsAdded path.now group.entry.now nodes.old nodes.new) }
     ensures named { OnOk result (AreNamed (group_view group.entry.now)) }
 {
     let own = path.copy()?;

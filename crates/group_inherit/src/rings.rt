@@ -1,15 +1,16 @@
 //! Rings of groups that need each other.
 
-ghost use Rattle.std.specs.Prelude.{◌≡◌, ◌<◌, ℕ, Some, IfOk, IfErr, OnOk, All, length, map, option_map, slice_index_or, ◌+◌};
+ghost use Rattle.std.specs.Prelude.{◌≡◌, ◌<◌, ℕ, Some, IfOk, IfErr, OnOk, All, length, map, slice_index_or, ◌+◌};
 ghost use Rattle.ring.specs.Graph.{needs_in, IsGraph};
 ghost use Rattle.ring.specs.Order.{IsOrder};
 ghost use Rattle.ring.specs.Routes.{HasNoRing};
-ghost use Rattle.token_tree.specs.Shown.{extends_view, group_view};
+ghost use Rattle.token_tree.specs.Shown.{group_view};
 ghost use Rattle.token_tree.specs.Tree.{Extension};
-ghost use Rattle.group_inherit.specs.Answer.{IsRingFault, IsReportOf};
+ghost use Rattle.group_inherit.specs.inner.Faults.{IsRingFault, IsReportOf};
 ghost use Rattle.group_inherit.specs.Extension.{extension_to};
-ghost use Rattle.group_inherit.specs.NodeShown.{nodes_view};
-ghost use Rattle.group_inherit.specs.Numbering.{AreRows, path_in, extension_in};
+ghost use Rattle.group_inherit.specs.inner.Outcomes.{extension_view};
+ghost use Rattle.group_inherit.specs.inner.View.{nodes_view};
+ghost use Rattle.group_inherit.specs.inner.Numbering.{AreRows, path_in, extension_in};
 
 use crate::fault::{TreeFault, span_of};
 use crate::numbered::Node;
@@ -21,7 +22,7 @@ use token_tree::{Extends, Group};
 
 // What the group says of its target, where that is at the path.
 fn extension_to<'t, 's>(group: &'t Group<'s>, next: &Path<'s>) -> Option<&'t Extends<'s>>
-    ensures { option_map (λ e. extends_view e.now) result ≡ extension_to next.now (group_view group.entry.now) }
+    ensures { extension_view result ≡ extension_to next.now (group_view group.entry.now) }
 {
     match &group.extends {
         None => None,
@@ -48,7 +49,7 @@ fn next_in(ring: &[usize], i: usize) -> usize
 // What the first of the ring's groups whose target is the ring's next group says of it.
 fn ring_extension<'t, 's>(nodes: &[Node<'t, 's>], ring: &[usize]) -> Option<&'t Extends<'s>>
     requires { All (λ v. v < length nodes.now) ring.now }
-    ensures { option_map (λ e. extends_view e.now) result ≡ extension_in (nodes_view nodes.now) ring.now }
+    ensures { extension_view result ≡ extension_in (nodes_view nodes.now) ring.now }
 {
     for i in 0..ring.len() {
         let next = next_in(ring, i);

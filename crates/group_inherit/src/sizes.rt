@@ -1,14 +1,15 @@
 //! Counts and heights of groups.
 
-ghost use Rattle.std.specs.Prelude.{◌≡◌, ◌<◌, ◌≤◌, ℕ, [], IfOk, IfErr, OnOk, All, length, map, min, slice_index, ◌+◌, if◌then◌else◌};
+ghost use Rattle.std.specs.Prelude.{◌≡◌, ◌<◌, ◌≤◌, [], IfOk, IfErr, OnOk, All, length, min, ◌+◌, if◌then◌else◌};
 ghost use Rattle.ring.specs.Graph.{needs_in, IsGraph};
 ghost use Rattle.ring.specs.Order.{Follows};
 ghost use Rattle.ring.specs.Routes.{In};
 ghost use Rattle.token_tree.specs.Shown.{group_view};
-ghost use Rattle.group_inherit.specs.Extension.{children_in, group_names, how_many, tokens_height, height_of, needs_of};
-ghost use Rattle.group_inherit.specs.NodeShown.{nodes_view};
-ghost use Rattle.group_inherit.specs.Numbering.{AreRows};
-ghost use Rattle.group_inherit.specs.Sizes.{IsCountedIn, IsLowIn, IsHeight, IsCountFault, IsHeightFault};
+ghost use Rattle.group_inherit.specs.Extension.{children_in, group_names, tokens_height, needs_of};
+ghost use Rattle.group_inherit.specs.inner.Outcomes.{AreHeights, capped_height, own_counts};
+ghost use Rattle.group_inherit.specs.inner.View.{nodes_view};
+ghost use Rattle.group_inherit.specs.inner.Numbering.{AreRows};
+ghost use Rattle.group_inherit.specs.inner.Sizes.{IsCountedIn, IsLowIn, IsCountFault, IsHeightFault};
 
 use crate::fault::TreeFault;
 use crate::numbered::Node;
@@ -17,7 +18,7 @@ use std::alloc::Global;
 use tk_io::NoMemory;
 use token_tree::Group;
 
-pub(crate) const MOST_TOKENS: u64 = 16_384;
+pub(crate) const MOST_MEMBERS: u64 = 16_384;
 
 pub(crate) const HIGHEST: u64 = 64;
 
@@ -25,7 +26,7 @@ pub(crate) const LIMIT: u64 = 1_000_000;
 
 // How many members each group has.
 fn own_counts(alloc: Global, nodes: &[Node<'_, '_>]) -> Result<Vec<u64>, NoMemory>
-    ensures { IfOk result (λ own. own.items ≡ map (λ n. how_many (children_in n.1)) (nodes_view nodes.now)) }
+    ensures { IfOk result (λ own. own.items ≡ own_counts (nodes_view nodes.now)) }
 {
     let mut own = Vec::new(alloc);
     for node in nodes {
@@ -52,7 +53,7 @@ pub(crate) fn check_count<'s>(
     let own = own_counts(alloc, nodes)?;
     let counts = capped_totals(alloc, rows, order, own.as_slice())?;
     let count = counts[0];
-    if count > MOST_TOKENS {
+    if count > MOST_MEMBERS {
         return Err(TreeFault::TooManyTokens(count));
     }
     Ok(())
@@ -93,7 +94,7 @@ fn raised(height: u64, is_child: bool) -> u64
 fn height_at(group: &Group<'_>, needs: &[usize], table: &[u64]) -> u64
     requires within { All (λ w. w < length table.now) needs.now }
     requires long { length needs.now ≡ length (needs_of [] (group_view group.now)) }
-    ensures { result ≡ min (height_of (group_view group.now) (map (λ w. slice_index table.now w) needs.now)) 1000000 }
+    ensures { result ≡ capped_height (group_view group.now) table.now needs.now }
 {
     let children = child_groups(group, needs.len());
     let mut height = tokens_height(group, children);
@@ -116,7 +117,7 @@ fn capped_heights(
     requires within { All (λ v. v < length rows.now) order.now }
     requires order { Follows (needs_in rows.now) [] order.now }
     ensures long { IfOk result (λ table. length table.items ≡ length rows.now) }
-    ensures heights { IfOk result (λ table. (v : ℕ) → In v order.now → IsHeight (nodes_view nodes.now) (needs_in rows.now) v (slice_index table.items v)) }
+    ensures heights { IfOk result (λ table. AreHeights nodes.now rows.now order.now table.items) }
 {
     let mut table = vec![in alloc; 0; rows.len()]?;
     for v in order {

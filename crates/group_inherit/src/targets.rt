@@ -1,12 +1,13 @@
 //! What groups need of one another, by numbers.
 
-ghost use Rattle.std.specs.Prelude.{◌≡◌, [], ◌∷◌, ◌++◌, ℕ, Some, IfOk, OnOk, IfErr, length, map};
+ghost use Rattle.std.specs.Prelude.{◌≡◌, [], ◌∷◌, ◌++◌, ℕ, Some, IfOk, OnOk, IfErr, length};
 ghost use Rattle.std.specs.FinMap as map_of;
 ghost use Rattle.token_tree.specs.Shown.{group_view};
-ghost use Rattle.group_inherit.specs.Answer.{IsLostTarget};
-ghost use Rattle.group_inherit.specs.Extension.{children_in, group_names};
-ghost use Rattle.group_inherit.specs.NodeShown.{node_view, nodes_view};
-ghost use Rattle.group_inherit.specs.Numbering.{ArePlaces, AreKnown, EachKnown, IsRow, EachRow, lost_of, lost_nodes};
+ghost use Rattle.group_inherit.specs.inner.Faults.{IsLostTarget};
+ghost use Rattle.group_inherit.specs.Extension.{children_in};
+ghost use Rattle.group_inherit.specs.inner.Outcomes.{AreChildNumbers};
+ghost use Rattle.group_inherit.specs.inner.View.{node_view, nodes_view};
+ghost use Rattle.group_inherit.specs.inner.Numbering.{ArePlaces, AreKnown, EachKnown, IsRow, EachRow, lost_of, lost_nodes};
 
 use crate::fault::{TreeFault, span_of};
 use crate::numbered::Node;
@@ -53,7 +54,7 @@ fn child_numbers<'s>(
     places: &PathMap<'s, usize>,
 ) -> Result<Vec<usize>, NoMemory>
     requires { AreKnown places.now node.now.path (children_in (group_view node.now.group.now)) }
-    ensures { IfOk result (λ row. map (λ v. Some v) row.items ≡ map (λ name. map_of.get places.now (node.now.path ++ name ∷ [])) (group_names (group_view node.now.group.now))) }
+    ensures { IfOk result (λ row. AreChildNumbers places.now (node_view node.now) row.items) }
 {
     let mut row = Vec::new(alloc);
     for member in node.group.members.as_slice() {

@@ -1,13 +1,9 @@
 //! From a group to the flat tree of its tokens.
 
-ghost use Rattle.std.specs.Prelude.{◌≡◌, [], ℕ, List, IfOk, OnOk};
-ghost use Rattle.std.specs.Option.{option_or};
-ghost use Rattle.std.specs.FinMap as map;
-ghost use Rattle.token_tree.specs.Tree.{a_group};
-ghost use Rattle.token_tree.specs.Shown.{child_view, group_view};
-ghost use Rattle.group_inherit.specs.Flattening.{flattened, tokens_in, tokens_at, flat_of, flattened_at, token_under};
-ghost use Rattle.group_inherit.specs.Putting.{put_all};
-ghost use Rattle.group_inherit.specs.Around.{nearest_view};
+ghost use Rattle.std.specs.Prelude.{◌≡◌, IfOk, OnOk};
+ghost use Rattle.token_tree.specs.Shown.{group_view};
+ghost use Rattle.group_inherit.specs.Flattening.{flat_of};
+ghost use Rattle.group_inherit.specs.inner.Outcomes.{ChildPut, GroupPut, TokenPut};
 
 use crate::copying::copy_mark;
 use crate::entry::Entry;
@@ -27,9 +23,7 @@ struct Nearest<'a, 's> {
 
 /// The tokens of an expanded group by their paths. The group has few levels, so recursion follows them.
 pub(crate) fn flat_of<'s>(alloc: Global, group: &Group<'s>) -> Result<Flat<'s>, NoMemory>
-    ensures flat { IfOk result (λ f. f ≡ flat_of (group_view group.now)) }
-    // What stands at each path.
-    ensures at { IfOk result (λ f. (path : List (List ℕ)) → map.get f path ≡ flattened_at path (group_view group.now)) }
+    ensures { IfOk result (λ f. f ≡ flat_of (group_view group.now)) }
 {
     let mut flat = Flat::new(alloc);
     let mut names = Vec::new(alloc);
@@ -52,8 +46,7 @@ fn put_group<'s>(
     flat: &mut Flat<'s>,
 ) -> Result<(), NoMemory>
     ensures names { OnOk result (names.new.items ≡ names.old.items) }
-    ensures flat { OnOk result (flat.new ≡ put_all (tokens_in names.old.items (nearest_view above.now) (group_view group.now)) flat.old) }
-    ensures at { OnOk result ((q : List (List ℕ)) → map.get flat.new q ≡ option_or (token_under names.old.items (nearest_view above.now) (a_group (group_view group.now)) q) (map.get flat.old q)) }
+    ensures flat { OnOk result (GroupPut names.old.items above.now group.now flat.old flat.new) }
 {
     let nearest = Nearest {
         kind: group.kind.or(above.kind),
@@ -77,8 +70,7 @@ fn put_child<'s>(
     flat: &mut Flat<'s>,
 ) -> Result<(), NoMemory>
     ensures names { OnOk result (names.new.items ≡ names.old.items) }
-    ensures flat { OnOk result (flat.new ≡ put_all (tokens_at names.old.items (nearest_view nearest.now) (child_view child.now)) flat.old) }
-    ensures at { OnOk result ((q : List (List ℕ)) → map.get flat.new q ≡ option_or (token_under names.old.items (nearest_view nearest.now) (child_view child.now) q) (map.get flat.old q)) }
+    ensures flat { OnOk result (ChildPut names.old.items nearest.now child.now flat.old flat.new) }
 {
     match child {
         Child::Token(def) => put_token(alloc, names.as_slice(), nearest, def, flat),
@@ -93,7 +85,7 @@ fn put_token<'s>(
     def: &Rc<TokenDef<'s>>,
     flat: &mut Flat<'s>,
 ) -> Result<(), NoMemory>
-    ensures { OnOk result (flat.new ≡ map.insert flat.old names.now (flattened (nearest_view nearest.now) def.now.value)) }
+    ensures { OnOk result (TokenPut names.now nearest.now def.now.value flat.old flat.new) }
 {
     let path = path_of(alloc, names)?;
     let def = def.clone()?;

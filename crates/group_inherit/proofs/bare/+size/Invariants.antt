@@ -3,7 +3,6 @@ use Rattle.std.proofs.Common.{◌+◌, drop}
 use Rattle.std.proofs.Common.{map as map_list}
 use Rattle.token_tree.specs.Shown.{member_view, child_view, group_view}
 use Rattle.group_inherit.proofs.Measures.{Measuring}
-use Rattle.group_inherit.proofs.Turns.{first_left}
 use Rattle.group_inherit.proofs.Weights.{child_weight, group_weight}
 use Rattle.group_inherit.proofs.bare.+size.Given as goal
 

@@ -7,10 +7,10 @@ use Rattle.ring.specs.Order.{IsOrder, Follows}
 use Rattle.ring.specs.Routes.{In, HasNoRing}
 use Rattle.ring.proofs.Renamings.{root_reached}
 use Rattle.token_tree.specs.Shown.{group_view}
-use Rattle.group_inherit.specs.Answer.{IsRingFault}
-use Rattle.group_inherit.specs.Sizes.{IsCountedIn, IsLowIn, IsCountFault, IsHeightFault}
-use Rattle.group_inherit.specs.Numbering.{GroupAt, IsNumbering, ArePlaces, AreRows}
-use Rattle.group_inherit.specs.NodeShown.{node_view, nodes_view, groups_view}
+use Rattle.group_inherit.specs.inner.Faults.{IsRingFault}
+use Rattle.group_inherit.specs.inner.Sizes.{IsCountedIn, IsLowIn, IsCountFault, IsHeightFault}
+use Rattle.group_inherit.specs.inner.Numbering.{GroupAt, IsNumbering, ArePlaces, AreRows}
+use Rattle.group_inherit.specs.inner.View.{node_view, nodes_view, groups_view}
 use Rattle.group_inherit.proofs.Verdict.{same_groups, are_known, lost_break, rows_many, rows_some, rows_in, rows_are, ring_break, count_break, height_break, is_sound, expands}
 use Rattle.group_inherit.proofs.checked.check_groups.Goals as goal
 

@@ -2,8 +2,8 @@ use Rattle.std.proofs.Common.{◌+◌, ◌<◌, ◌∷◌, sym, ap, ◌∙◌, d
 use Rattle.std.proofs.lemmas.List.Elements.{All-get_or}
 use Rattle.token_tree.specs.Tree.{Child, a_group}
 use Rattle.token_tree.specs.Shown.{child_view}
-use Rattle.group_inherit.specs.Expansion.{in_place, left_over}
-use Rattle.group_inherit.specs.Tables.{values_in}
+use Rattle.group_inherit.specs.inner.Expanding.{in_place, left_over}
+use Rattle.group_inherit.specs.inner.Tables.{values_in}
 use Rattle.group_inherit.proofs.Tables.{value, value_read, values_first}
 use Rattle.group_inherit.proofs.expanding.expand_child.Goals as goal
 

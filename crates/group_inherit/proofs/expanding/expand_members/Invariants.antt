@@ -4,11 +4,10 @@ use Rattle.std.proofs.Common.{map as map_list}
 use Rattle.std.specs.FinMap as map
 use Rattle.token_tree.specs.Tree.{children_of}
 use Rattle.token_tree.specs.Shown.{member_view, members_view}
-use Rattle.group_inherit.specs.Expansion.{behind_groups}
+use Rattle.group_inherit.specs.inner.Expanding.{behind_groups}
 use Rattle.group_inherit.specs.Putting.{put_all}
-use Rattle.group_inherit.specs.Tables.{values_in}
+use Rattle.group_inherit.specs.inner.Tables.{values_in}
 use Rattle.group_inherit.proofs.Expands.{replaced}
-use Rattle.group_inherit.proofs.Turns.{first_left}
 use Rattle.group_inherit.proofs.expanding.expand_members.Given as goal
 
 abbrev pub invariant-loop-member : goal.invariant-loop-member

@@ -7,8 +7,8 @@ use Rattle.token_tree.specs.Shown.{group_view}
 use Rattle.ring.specs.Graph.{needs_in}
 use Rattle.ring.proofs.Turns.{row_read}
 use Rattle.group_inherit.specs.Merging.{empty_group}
-use Rattle.group_inherit.specs.Expansion.{expand, expand_at}
-use Rattle.group_inherit.specs.Tables.{values_in}
+use Rattle.group_inherit.specs.inner.Expanding.{expand, expand_at}
+use Rattle.group_inherit.specs.inner.Tables.{values_in}
 use Rattle.group_inherit.proofs.Tables.{knows_more}
 use Rattle.group_inherit.proofs.expanding.expansions.Goals as goal
 

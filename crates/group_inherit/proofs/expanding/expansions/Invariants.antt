@@ -3,7 +3,7 @@ use Rattle.std.proofs.Common.{◌≡◌, length, take}
 use Rattle.std.proofs.Common.{map as map_list}
 use Rattle.token_tree.specs.Shown.{group_view}
 use Rattle.ring.specs.Graph.{needs_in}
-use Rattle.group_inherit.specs.Expansion.{expand_at}
+use Rattle.group_inherit.specs.inner.Expanding.{expand_at}
 use Rattle.group_inherit.proofs.Tables.{Knows}
 use Rattle.group_inherit.proofs.expanding.expansions.Given as goal
 

@@ -1,9 +1,9 @@
-use Rattle.std.proofs.Common.{◌≡◌, ℕ, ◌+◌, ◌-◌, ◌<◌, List, [], Greater, length, get_or, arith, rules, sym, ◌∙◌, subst, take, drop}
+use Rattle.std.proofs.Common.{◌≡◌, ℕ, ◌+◌, ◌-◌, ◌<◌, List, Greater, length, get_or, arith, rules, sym, ◌∙◌, subst, take}
 use Rattle.std.proofs.lemmas.List.{drop_all}
 use Rattle.std.specs.Cmp.Lexicographic.{lists_total, nat_list_cmp_total}
 use Rattle.tk_io.specs.Order.{names_cmp}
 use Rattle.group_inherit.specs.Flattening.{Flattened}
-use Rattle.group_inherit.specs.Halves.{Passed, Ahead}
+use Rattle.group_inherit.specs.inner.Halves.{Passed, Ahead}
 use Rattle.group_inherit.proofs.Halves.{passes_one}
 use Rattle.group_inherit.proofs.flat_tree.place_from_end.Goals as goal
 

@@ -1,7 +1,7 @@
 -- The path is behind what is before the part that is left, and before what is behind it.
 use Rattle.std.proofs.Common.{◌≤◌, ◌-◌, take, drop, length}
 use Rattle.tk_io.specs.Order.{names_cmp}
-use Rattle.group_inherit.specs.Halves.{Passed, Ahead}
+use Rattle.group_inherit.specs.inner.Halves.{Passed, Ahead}
 use Rattle.group_inherit.proofs.flat_tree.place_of.Given as goal
 
 abbrev pub decreases-loop-low : goal.decreases-loop-low

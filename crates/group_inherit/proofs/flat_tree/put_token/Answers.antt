@@ -1,8 +1,8 @@
-use Rattle.std.proofs.Common.{◌≡◌, sym, ap, subst, ◌∙◌}
+use Rattle.std.proofs.Common.{sym, subst, ◌∙◌}
 use Rattle.std.specs.Cmp.Lexicographic.{lists_total, nat_list_cmp_total}
 use Rattle.std.specs.FinMap.{slice_cmp-IsAntisymmetric, nat_cmp-IsAntisymmetric}
 use Rattle.tk_io.specs.Order.{names_cmp}
-use Rattle.group_inherit.specs.Halves.{IsPlace, IsGap}
+use Rattle.group_inherit.specs.inner.Halves.{IsPlace, IsGap}
 use Rattle.group_inherit.proofs.Halves.{put_new, put_same}
 use Rattle.group_inherit.proofs.flat_tree.put_token.Goals as goal
 

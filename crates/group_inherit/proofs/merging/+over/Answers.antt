@@ -1,4 +1,4 @@
-use Rattle.std.proofs.Common.{◌≡◌, ℕ, ◌<◌, true, T, List, [], inl, inr, ◌⊎◌, ◌==◌, drop, option_map, arith, ap, ap₂, sym, subst, ◌∙◌, refl}
+use Rattle.std.proofs.Common.{◌≡◌, ℕ, true, T, List, [], inl, inr, ◌⊎◌, ◌==◌, drop, option_map, arith, ap, ap₂, sym, subst, ◌∙◌}
 use Rattle.std.proofs.Common.{map as map_list}
 use Rattle.std.proofs.lemmas.Bool.Decides.{nat_tests}
 use Rattle.std.proofs.lemmas.Result.{IfOk-weaker}
@@ -8,7 +8,7 @@ use Rattle.tk_io.specs.Order.{text_cmp}
 use Rattle.token_tree.specs.Tree.{Properties, group_with, children_of}
 use Rattle.token_tree.specs.Shown.{extends_view, child_view, member_view, members_view, properties_view}
 use Rattle.token_tree.specs.declared.tree.Member.{Member}
-use Rattle.group_inherit.specs.Merging.{over_properties, over_members, over_child}
+use Rattle.group_inherit.specs.Merging.{over_properties, over_members}
 use Rattle.group_inherit.proofs.Options.{copied_or, map_or}
 use Rattle.group_inherit.proofs.Overs.{named_entries}
 use Rattle.group_inherit.proofs.Merges.{Entries, none_merged, later_turn, earlier_turn, both_turn, all_merged, over_of, over_nothing}

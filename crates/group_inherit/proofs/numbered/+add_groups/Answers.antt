@@ -1,13 +1,13 @@
-use Rattle.std.proofs.Common.{◌≡◌, ℕ, T, ◌+◌, ◌<◌, ◌≤◌, List, [], ◌∷◌, ◌++◌, sym, ap, ◌∙◌, subst, map, drop, arith, append-nil, append_assoc}
+use Rattle.std.proofs.Common.{◌≡◌, ℕ, T, ◌+◌, List, [], ◌∷◌, ◌++◌, sym, ap, ◌∙◌, subst, map, drop, arith, append-nil, append_assoc}
 use Rattle.std.proofs.lemmas.List.{map_push}
 use Rattle.std.specs.FinMap as map_of
 use Rattle.std.specs.FinMap.Entries.{is_sorted}
 use Rattle.tk_io.specs.Order.{text_cmp}
-use Rattle.token_tree.specs.Tree.{a_token, a_group, children_of}
+use Rattle.token_tree.specs.Tree.{a_group, children_of}
 use Rattle.token_tree.specs.Shown.{member_view, child_view, members_view, group_view}
 use Rattle.group_inherit.specs.Extension.{groups_from, groups_among}
-use Rattle.group_inherit.specs.Numbering.{GroupAt}
-use Rattle.group_inherit.specs.NodeShown.{node_view, nodes_view}
+use Rattle.group_inherit.specs.inner.Numbering.{GroupAt}
+use Rattle.group_inherit.specs.inner.View.{node_view, nodes_view}
 use Rattle.group_inherit.specs.declared.numbered.Node.{Node}
 use Rattle.group_inherit.proofs.Naming.{sorted_drop, sorted_lacks}
 use Rattle.group_inherit.proofs.Numbers.{Entries, Progress, past_token, past_group, size_in, size_at}

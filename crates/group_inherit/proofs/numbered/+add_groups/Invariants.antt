@@ -3,7 +3,7 @@ use Rattle.std.specs.FinMap as map_of
 use Rattle.token_tree.specs.Shown.{group_view, members_view}
 use Rattle.token_tree.specs.Tree.{children_of}
 use Rattle.group_inherit.specs.Extension.{groups_among}
-use Rattle.group_inherit.specs.NodeShown.{nodes_view}
+use Rattle.group_inherit.specs.inner.View.{nodes_view}
 use Rattle.group_inherit.proofs.Numbers.{size_of, Progress}
 use Rattle.group_inherit.proofs.numbered.+add_groups.Given as goal
 

@@ -1,11 +1,11 @@
-use Rattle.std.proofs.Common.{◌≡◌, ℕ, ◌<◌, List, length, All, sym, ap, ◌∙◌, subst}
+use Rattle.std.proofs.Common.{◌≡◌, ℕ, ◌<◌, List, length, All, sym, ◌∙◌, subst}
 use Rattle.std.proofs.lemmas.List.{length-map}
 use Rattle.ring.specs.Answer.{IfRing}
 use Rattle.ring.specs.Graph.{needs_in}
 use Rattle.ring.specs.Routes.{IsRing}
-use Rattle.group_inherit.specs.Answer.{IsReportOf}
-use Rattle.group_inherit.specs.Numbering.{extension_in}
-use Rattle.group_inherit.specs.NodeShown.{node_view, nodes_view}
+use Rattle.group_inherit.specs.inner.Faults.{IsReportOf}
+use Rattle.group_inherit.specs.inner.Numbering.{extension_in}
+use Rattle.group_inherit.specs.inner.View.{node_view, nodes_view}
 use Rattle.token_tree.specs.Tree.{Extension}
 use Rattle.std.proofs.Common.{Some}
 use Rattle.group_inherit.proofs.Reports.{extension_of_ring, report_fault}

@@ -1,6 +1,6 @@
 use Rattle.std.proofs.Common.{◌≡◌, get_or, drop}
-use Rattle.group_inherit.specs.NodeShown.{nodes_view}
-use Rattle.group_inherit.specs.Numbering.{extension_in, extension_after}
+use Rattle.group_inherit.specs.inner.View.{nodes_view}
+use Rattle.group_inherit.specs.inner.Numbering.{extension_in, extension_after}
 use Rattle.group_inherit.proofs.rings.ring_extension.Given as goal
 
 -- none so far

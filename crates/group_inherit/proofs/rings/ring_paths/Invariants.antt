@@ -1,6 +1,6 @@
 use Rattle.std.proofs.Common.{◌≡◌, map, take}
-use Rattle.group_inherit.specs.NodeShown.{nodes_view}
-use Rattle.group_inherit.specs.Numbering.{path_in}
+use Rattle.group_inherit.specs.inner.View.{nodes_view}
+use Rattle.group_inherit.specs.inner.Numbering.{path_in}
 use Rattle.group_inherit.proofs.rings.ring_paths.Given as goal
 
 -- the paths so far

@@ -1,12 +1,12 @@
-use Rattle.std.proofs.Common.{◌≡◌, ℕ, ◌<◌, min, List, [], length, get_or, map, arith, refl, sym, ap, ◌∙◌, subst, length-set}
+use Rattle.std.proofs.Common.{◌≡◌, ℕ, ◌<◌, min, List, [], length, get_or, map, arith, refl, sym, ap, ◌∙◌, length-set}
 use Rattle.std.proofs.lemmas.List.{get_or-map, length-map}
 use Rattle.std.proofs.lemmas.List.Elements.{All-get_or}
 use Rattle.ring.specs.Graph.{needs_in}
 use Rattle.token_tree.specs.Tree.{Group}
 use Rattle.token_tree.specs.Shown.{group_view}
 use Rattle.group_inherit.specs.Extension.{needs_of, height_of}
-use Rattle.group_inherit.specs.Numbering.{GroupAt, nowhere, group_in}
-use Rattle.group_inherit.specs.NodeShown.{node_view, nodes_view}
+use Rattle.group_inherit.specs.inner.Numbering.{GroupAt, nowhere, group_in}
+use Rattle.group_inherit.specs.inner.View.{node_view, nodes_view}
 use Rattle.group_inherit.proofs.Counting.{row_read, row_length, heights_more}
 use Rattle.group_inherit.proofs.sizes.capped_heights.Goals as goal
 

@@ -1,8 +1,8 @@
 use Rattle.std.proofs.Common.{◌≡◌, ℕ, length, get_or, take}
 use Rattle.ring.specs.Routes.{In}
 use Rattle.ring.specs.Graph.{needs_in}
-use Rattle.group_inherit.specs.NodeShown.{nodes_view}
-use Rattle.group_inherit.specs.Sizes.{IsHeight}
+use Rattle.group_inherit.specs.inner.View.{nodes_view}
+use Rattle.group_inherit.specs.inner.Sizes.{IsHeight}
 use Rattle.group_inherit.proofs.sizes.capped_heights.Given as goal
 
 -- the heights of the groups so far are known

@@ -1,8 +1,8 @@
-use Rattle.std.proofs.Common.{◌≡◌, ℕ, ◌<◌, length, get_or, arith, sym, subst}
+use Rattle.std.proofs.Common.{◌≡◌, ◌<◌, length, get_or, arith, sym, subst}
 use Rattle.std.proofs.lemmas.List.{get_or_read}
 use Rattle.ring.specs.Graph.{needs_in}
-use Rattle.group_inherit.specs.NodeShown.{nodes_view}
-use Rattle.group_inherit.specs.Sizes.{IsHeight}
+use Rattle.group_inherit.specs.inner.View.{nodes_view}
+use Rattle.group_inherit.specs.inner.Sizes.{IsHeight}
 use Rattle.group_inherit.proofs.Counting.{in_all, height_fault, height_ok}
 use Rattle.group_inherit.proofs.sizes.check_height.Goals as goal
 

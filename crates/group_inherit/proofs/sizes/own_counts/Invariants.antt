@@ -1,6 +1,6 @@
 use Rattle.std.proofs.Common.{◌≡◌, ◌++◌, map, drop}
 use Rattle.group_inherit.specs.Extension.{how_many, children_in}
-use Rattle.group_inherit.specs.NodeShown.{nodes_view}
+use Rattle.group_inherit.specs.inner.View.{nodes_view}
 use Rattle.group_inherit.proofs.sizes.own_counts.Given as goal
 
 -- the numbers so far and those of the groups that are left

@@ -1,6 +1,6 @@
-use Rattle.std.proofs.Common.{◌≡◌, ℕ, ◌+◌, List, [], ◌∷◌, ◌++◌, Option, Some, sym, ap, ◌∙◌, subst, map, drop, append-nil}
+use Rattle.std.proofs.Common.{◌≡◌, ℕ, ◌+◌, List, [], ◌∷◌, ◌++◌, Some, sym, ap, ◌∙◌, subst, map, drop, append-nil}
 use Rattle.std.specs.FinMap as map_of
-use Rattle.token_tree.specs.Tree.{a_token, a_group, children_of}
+use Rattle.token_tree.specs.Tree.{children_of}
 use Rattle.token_tree.specs.Shown.{member_view, child_view, members_view, group_view}
 use Rattle.group_inherit.specs.Extension.{names_of_groups}
 use Rattle.group_inherit.proofs.Numbers.{Entries}

@@ -1,7 +1,7 @@
 use Rattle.std.proofs.Common.{ap, sym, ◌∙◌}
 use Rattle.std.proofs.lemmas.List.{get_or-map}
-use Rattle.group_inherit.specs.Numbering.{GroupAt, nowhere}
-use Rattle.group_inherit.specs.NodeShown.{node_view, nodes_view}
+use Rattle.group_inherit.specs.inner.Numbering.{GroupAt, nowhere}
+use Rattle.group_inherit.specs.inner.View.{node_view, nodes_view}
 use Rattle.group_inherit.proofs.Placing.{no_places, one_place_more}
 use Rattle.group_inherit.proofs.targets.places.Goals as goal
 

@@ -1,5 +1,5 @@
-use Rattle.group_inherit.specs.NodeShown.{nodes_view}
-use Rattle.group_inherit.specs.Numbering.{ArePlaces}
+use Rattle.group_inherit.specs.inner.View.{nodes_view}
+use Rattle.group_inherit.specs.inner.Numbering.{ArePlaces}
 use Rattle.group_inherit.proofs.targets.places.Given as goal
 
 -- the numbers of the groups so far

@@ -1,9 +1,9 @@
-use Rattle.std.proofs.Common.{◌≡◌, ℕ, List, ap, sym, ◌∙◌, option_map, None, Some, refl, slice_get}
+use Rattle.std.proofs.Common.{◌≡◌, ℕ, List, ap, sym, ◌∙◌, option_map, None, Some, slice_get}
 use Rattle.std.specs.FinMap as map_of
 use Rattle.std.specs.Option.{option_copied}
 use Rattle.token_tree.specs.Shown.{extends_view}
 use Rattle.group_inherit.specs.Extension.{Lost}
-use Rattle.group_inherit.specs.NodeShown.{node_view}
+use Rattle.group_inherit.specs.inner.View.{node_view}
 use Rattle.group_inherit.proofs.Placing.{row_without, row_with, row_lost}
 use Rattle.group_inherit.proofs.targets.row.Goals as goal
 

@@ -1,9 +1,9 @@
-use Rattle.std.proofs.Common.{◌≡◌, ◌+◌, List, [], ◌∷◌, ◌++◌, subst, drop, append-nil, Vec, ℕ, Global}
+use Rattle.std.proofs.Common.{◌≡◌, ◌+◌, List, [], ◌∷◌, subst, drop, append-nil, Vec, ℕ, Global}
 use Rattle.std.proofs.lemmas.Result.{err_from_is_err_and}
-use Rattle.group_inherit.specs.Answer.{IsLostTarget}
+use Rattle.group_inherit.specs.inner.Faults.{IsLostTarget}
 use Rattle.group_inherit.specs.Extension.{Lost}
-use Rattle.group_inherit.specs.Numbering.{GroupAt, EachRow, lost_of, lost_nodes}
-use Rattle.group_inherit.specs.NodeShown.{node_view, nodes_view}
+use Rattle.group_inherit.specs.inner.Numbering.{EachRow, lost_of, lost_nodes}
+use Rattle.group_inherit.specs.inner.View.{node_view, nodes_view}
 use Rattle.group_inherit.proofs.Placing.{Rowing, one_row_more, lost_first}
 use Rattle.group_inherit.proofs.Turns.{first_left, none_left}
 use Rattle.group_inherit.proofs.targets.rows.Goals as goal

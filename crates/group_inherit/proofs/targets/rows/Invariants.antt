@@ -1,5 +1,5 @@
 use Rattle.std.proofs.Common.{drop}
-use Rattle.group_inherit.specs.NodeShown.{nodes_view}
+use Rattle.group_inherit.specs.inner.View.{nodes_view}
 use Rattle.group_inherit.proofs.Placing.{Rowing}
 use Rattle.group_inherit.proofs.targets.rows.Given as goal
 

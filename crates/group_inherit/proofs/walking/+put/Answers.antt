@@ -1,22 +1,15 @@
-use Rattle.std.proofs.Common.{◌≡◌, ℕ, ◌+◌, ◌-◌, T, List, [], ◌∷◌, ◌++◌, take, drop, length, length-append, arith, refl, sym, ap, ap₂, subst, ◌∙◌}
+use Rattle.std.proofs.Common.{◌≡◌, ℕ, ◌+◌, ◌-◌, List, [], ◌∷◌, ◌++◌, take, drop, length, length-append, arith, refl, sym, ap, ap₂, ◌∙◌}
 use Rattle.std.proofs.Common.{map as map_list}
-use Rattle.std.proofs.lemmas.Result.{on_ok_weaker}
 use Rattle.std.specs.FinMap as map
-use Rattle.std.specs.FinMap.Entries.{is_sorted}
-use Rattle.std.specs.Option.{option_or, option_copied}
-use Rattle.std.specs.Ordering.{eq_by_cmp}
-use Rattle.std.specs.Cmp.Lexicographic.{lists_total, nat_list_cmp_total}
-use Rattle.tk_io.specs.Order.{text_cmp, names_cmp}
+use Rattle.std.specs.Option.{option_copied}
 use Rattle.token_tree.specs.Tree.{children_of}
-use Rattle.token_tree.specs.Shown.{member_view, child_view, members_view, properties_view}
-use Rattle.group_inherit.specs.Around.{nearest_view}
-use Rattle.group_inherit.specs.Flattening.{Nearest, nearest, flattened, tokens_among, token_under}
+use Rattle.token_tree.specs.Shown.{member_view, members_view, properties_view}
+use Rattle.group_inherit.specs.inner.View.{nearest_view}
+use Rattle.group_inherit.specs.Flattening.{Nearest, nearest, tokens_among}
 use Rattle.group_inherit.specs.Putting.{put_all}
 use Rattle.group_inherit.proofs.Options.{copied_or}
-use Rattle.group_inherit.proofs.Puts.{sorted_drop}
 use Rattle.group_inherit.proofs.Turns.{first_left, none_left, entry_lighter}
 use Rattle.group_inherit.proofs.Flats.{member_put}
-use Rattle.group_inherit.proofs.Finds.{under_among, none_among, group_under, member_found, own_path, chosen_or}
 use Rattle.group_inherit.proofs.walking.+put.Goals as goal
 
 front : {A : Type 0} (xs : List A) (x : A) → take (length xs) (xs ++ x ∷ []) ≡ xs
@@ -27,19 +20,6 @@ front (y ∷ xs) x = ap (λ zs. y ∷ zs) (front xs x)
 popped : {A : Type 0} (xs : List A) (x : A) (before after : List A) (n : ℕ) → before ≡ xs ++ x ∷ [] → n ≡ length before → after ≡ take (n - 1) before → after ≡ xs
 popped xs x before after n e f is =
     is ∙ (ap (take (n - 1)) e ∙ (ap (λ m. take m (xs ++ x ∷ [])) (omega (arith, f, ap length e, length-append xs (x ∷ []))) ∙ front xs x))
-
-pub put_child-returns-in-Token-clause-at : goal.put_child-returns-in-Token-clause-at
-put_child-returns-in-Token-clause-at t c =
-    let path = c.args.names.now.items in
-    let near = nearest_view c.args.nearest.now in
-    let d = c.in-Token.def.value in
-    let old = c.args.flat.now in
-    let token = ap child_view c.in-Token.is in
-    on_ok_weaker c.put_token.result (λ is q.
-    ap (λ m. map.get m q) (is ∙ ap (λ p. map.insert old p (flattened near d)) c.as_slice.ensures.value)
-    ∙ (map.get-insert (lists_total nat_list_cmp_total) old path (flattened near d) q
-    ∙ (chosen_or (eq_by_cmp names_cmp q path) (flattened near d) (map.get old q)
-    ∙ ap (λ o. option_or o (map.get old q)) (sym (own_path path near d q) ∙ ap (λ k. token_under path near k q) (sym token))))) c.put_token.ensures
 
 pub put_group-put_child-requires : goal.put_group-put_child-requires
 put_group-put_child-requires t c =
@@ -54,8 +34,6 @@ put_group-loop-member-preserved t c =
     let i = c.loop-member.member-index in
     let x = c.member-item.result in
     let all = map_list member_view items in
-    let same = c.as_slice-member-items.ensures in
-    let sorted : T (is_sorted text_cmp (drop i all)) = sorted_drop text_cmp i all (subst (λ es. T (is_sorted text_cmp es)) (sym same) (map.entries_sorted (members_view c.args.group.now.members))) in
     let near : Nearest = nearest_view (record { kind = c.or.result; mark = c.or-2.result }) in
     let cut = first_left member_view items i x c.loop-member-test.true c.member-item.is in
     let inner : c.push.new.self.items ≡ c.args.names.now.items ++ x.name ∷ [] = c.in_ok-push.ensures.items ∙ ap₂ (λ p n. p ++ n ∷ []) c.loop-member.invariant.names c.in_ok-copy.ensures in
@@ -63,8 +41,6 @@ put_group-loop-member-preserved t c =
       names = popped c.args.names.now.items x.name c.put_child.new.names.items c.pop.new.self.items c.put_child.new.names.len (c.in_ok-put_child.ensures.names ∙ inner) c.put_child.new.names.ok.0 c.pop.ensures.rest;
       flat = member_put c.args.names.now.items c.push.new.self.items near (drop i all) (drop (i + 1) all) (member_view x) c.loop-member.flat c.put_child.new.flat cut inner c.in_ok-put_child.ensures.flat
           ∙ c.loop-member.invariant.flat;
-      at = λ q. member_found c.args.names.now.items c.push.new.self.items near (drop i all) (drop (i + 1) all) (member_view x) c.loop-member.flat c.put_child.new.flat q sorted cut inner (c.in_ok-put_child.ensures.at q)
-          ∙ c.loop-member.invariant.at q;
     }
 
 pub put_group-returns-clause-flat : goal.put_group-returns-clause-flat
@@ -81,23 +57,3 @@ put_group-returns-clause-flat t c =
     ∙ (c.loop-member.invariant.flat
     ∙ (ap (λ l. put_all (tokens_among path near (children_of l)) c.args.flat.now) same
     ∙ ap (λ n. put_all (tokens_among path n (children_of (map.entries (members_view g.members)))) c.args.flat.now) near_is))
-
-pub put_group-returns-clause-at : goal.put_group-returns-clause-at
-put_group-returns-clause-at t c q =
-    let items = c.as_slice-member-items.result.now in
-    let g = c.args.group.now in
-    let above = c.args.above.now in
-    let path = c.args.names.now.items in
-    let all = map.entries (members_view g.members) in
-    let same = c.as_slice-member-items.ensures in
-    let near : Nearest = nearest_view (record { kind = c.or.result; mark = c.or-2.result }) in
-    let mark = copied_or c.as_ref.result above.mark c.or-2.result g.deprecated (option_copied above.mark) c.or-2.ensures c.as_ref.ensures.value refl in
-    let near_is : near ≡ nearest (properties_view g) (nearest_view above) = λ i. record { kind = c.or.ensures i; mark = mark i } in
-    let old = map.get c.args.flat.now q in
-    let new = map.get c.loop-member.flat q in
-    ap (λ o. option_or o new) (sym (none_among path near q))
-    ∙ (ap (λ l. option_or (under_among path near l q) new) (sym (none_left member_view items c.loop-member.member-index c.loop-member-test.false))
-    ∙ (c.loop-member.invariant.at q
-    ∙ (ap (λ l. option_or (under_among path near l q) old) same
-    ∙ (ap (λ n. option_or (under_among path n all q) old) near_is
-    ∙ ap (λ o. option_or o old) (sym (group_under (properties_view g) all (nearest_view above) path q))))))

@@ -1,14 +1,11 @@
 -- The tokens of the members that are left, put over those so far, are all.
-use Rattle.std.proofs.Common.{◌≡◌, ℕ, ◌+◌, List, drop}
+use Rattle.std.proofs.Common.{◌≡◌, ◌+◌, drop}
 use Rattle.std.proofs.Common.{map as map_list}
-use Rattle.std.specs.FinMap as map
-use Rattle.std.specs.Option.{option_or}
 use Rattle.token_tree.specs.Tree.{children_of}
 use Rattle.token_tree.specs.Shown.{member_view, child_view, group_view}
-use Rattle.group_inherit.specs.Around.{nearest_view}
+use Rattle.group_inherit.specs.inner.View.{nearest_view}
 use Rattle.group_inherit.specs.Flattening.{tokens_among}
 use Rattle.group_inherit.specs.Putting.{put_all}
-use Rattle.group_inherit.proofs.Finds.{under_among}
 use Rattle.group_inherit.proofs.Weights.{child_weight, group_weight}
 use Rattle.group_inherit.proofs.walking.+put.Given as goal
 
@@ -23,6 +20,4 @@ invariant-put_group-loop-member l = record {
   names : l.names.items ≡ l.initial.names.items;
   flat : put_all (tokens_among l.fn.names.items (nearest_view l.nearest) (children_of (drop l.member-index (map_list member_view l.member-items)))) l.flat
       ≡ put_all (tokens_among l.fn.names.items (nearest_view l.nearest) (children_of (map_list member_view l.member-items))) l.initial.flat;
-  at : (q : List (List ℕ)) → option_or (under_among l.fn.names.items (nearest_view l.nearest) (drop l.member-index (map_list member_view l.member-items)) q) (map.get l.flat q)
-      ≡ option_or (under_among l.fn.names.items (nearest_view l.nearest) (map_list member_view l.member-items) q) (map.get l.initial.flat q);
 }

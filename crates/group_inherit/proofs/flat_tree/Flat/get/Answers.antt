@@ -1,10 +1,10 @@
-use Rattle.std.proofs.Common.{◌≡◌, ℕ, List, Some, sym, ap, ◌∙◌}
+use Rattle.std.proofs.Common.{ℕ, List, Some, sym, ap, ◌∙◌}
 use Rattle.std.specs.FinMap as map
 use Rattle.std.specs.FinMap.Entries.{find}
 use Rattle.std.specs.Cmp.Lexicographic.{lists_total, nat_list_cmp_total}
 use Rattle.tk_io.specs.Order.{names_cmp}
 use Rattle.group_inherit.specs.Flattening.{Flattened}
-use Rattle.group_inherit.specs.Halves.{IsPlace}
+use Rattle.group_inherit.specs.inner.Halves.{IsPlace}
 use Rattle.group_inherit.proofs.Halves.{find_here, find_none}
 use Rattle.group_inherit.proofs.flat_tree.Flat.get.Goals as goal
 

@@ -7,8 +7,8 @@ use Rattle.ring.specs.Order.{Follows}
 use Rattle.ring.specs.Routes.{In}
 use Rattle.ring.specs.Values.{Comes}
 use Rattle.token_tree.specs.Tree.{Group}
-use Rattle.group_inherit.specs.Answer.{Expands}
-use Rattle.group_inherit.specs.Expansion.{expand_at}
+use Rattle.group_inherit.specs.Expansion.{Expands}
+use Rattle.group_inherit.specs.inner.Expanding.{expand_at}
 
 -- The rows are the needs of the numbered groups, and the order is one in which each follows what it needs. The root has the
 -- number 0, and its expansion by the numbers is that of the tree's root.

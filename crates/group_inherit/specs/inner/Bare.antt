@@ -1,12 +1,10 @@
 -- Groups in which no group extends another, and how large they are.
-use Rattle.std.specs.Prelude.{◌≡◌, ℕ, suc, ◌+◌, max, min, List, [], ◌∷◌, None, T}
+use Rattle.std.specs.Prelude.{◌≡◌, ℕ, suc, ◌+◌, max, min, None, T}
 use Rattle.std.specs.FinMap.Entries.{is_sorted}
 use Rattle.tk_io.specs.Order.{text_cmp}
 use Rattle.token_tree.specs.Tree.{Child, a_token, a_group, Group, group, Children, no_children, child}
-
-abbrev pub entries_in : Children → List (List ℕ × Child)
-entries_in no_children = []
-entries_in (child name c cs) = (name, c) ∷ entries_in cs
+use Rattle.group_inherit.specs.Answer.{most_told}
+use Rattle.group_inherit.specs.Ordered.{entries_in}
 
 abbrev mutual
   -- no group extends another, and the children of each stand in byte order of names
@@ -50,11 +48,11 @@ abbrev mutual
 -- a bare group, and how large it is, each number at most a million
 pub record IsSize (g : Group) (members levels : ℕ) : Type 0 where
   pub bare : IsBare g
-  pub many : members ≡ min (members_of g) 1000000
-  pub high : levels ≡ min (levels_of g) 1000000
+  pub many : members ≡ min (members_of g) most_told
+  pub high : levels ≡ min (levels_of g) most_told
 
 -- the same of a child
 pub record IsChildSize (c : Child) (members levels : ℕ) : Type 0 where
   pub bare : IsBareChild c
-  pub many : members ≡ min (members_in c) 1000000
-  pub high : levels ≡ min (levels_in c) 1000000
+  pub many : members ≡ min (members_in c) most_told
+  pub high : levels ≡ min (levels_in c) most_told

@@ -6,8 +6,8 @@ use Rattle.std.specs.declared.vec.Vec.{Vec}
 use Rattle.ring.specs.Graph.{needs_in}
 use Rattle.tk_io.specs.Order.{names_cmp}
 use Rattle.token_tree.specs.Tree.{Extension, Child, a_token, a_group, Group, group, Children, no_children, child}
-use Rattle.group_inherit.specs.Merging.{either, empty_group}
-use Rattle.group_inherit.specs.Extension.{GroupPath, groups_from, children_in, Lost, lost_unless, extension_of, needs_of, extension_to, head_or}
+use Rattle.group_inherit.specs.Merging.{empty_group}
+use Rattle.group_inherit.specs.Extension.{GroupPath, groups_from, children_in, Lost, lost_unless, extension_of, needs_of, extension_along, extension_around}
 
 -- a group with its path
 abbrev pub GroupAt : Type 0
@@ -97,11 +97,9 @@ lost_nodes places (n ∷ ns) = lost_of places n ++ lost_nodes places ns
 abbrev pub AreRows : List GroupAt → List (Vec ℕ Global) → Type 0
 AreRows nodes rows = (v : ℕ) → v < length nodes → map (path_in nodes) (needs_in rows v) ≡ needs_of (path_in nodes v) (group_in nodes v)
 
--- what the first of these numbered groups says of its target, where that is the group behind it; behind the last stands `first`
+-- what the first of these numbered groups whose target is the group behind it says of that target
 abbrev pub extension_after : List GroupAt → ℕ → List ℕ → Option Extension
-extension_after nodes first [] = None
-extension_after nodes first (v ∷ vs) = either (extension_to (path_in nodes (head_or first vs)) (group_in nodes v)) (extension_after nodes first vs)
+extension_after nodes = extension_along (path_in nodes) (group_in nodes)
 
 abbrev pub extension_in : List GroupAt → List ℕ → Option Extension
-extension_in nodes [] = None
-extension_in nodes (first ∷ vs) = extension_after nodes first (first ∷ vs)
+extension_in nodes = extension_around (path_in nodes) (group_in nodes)

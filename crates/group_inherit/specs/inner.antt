@@ -1,0 +1,10 @@
+pub mod View
+pub mod Halves
+pub mod Numbering
+pub mod Tables
+pub mod Expanding
+pub mod Checking
+pub mod Bare
+pub mod Sizes
+pub mod Faults
+pub mod Outcomes
