@@ -7,10 +7,11 @@ use Rattle.std.specs.Ordering.{eq_by_cmp, is_lt}
 use Rattle.std.specs.Prelude.{cond, Some}
 use Rattle.tk_io.specs.Order.{text_cmp}
 use Rattle.tk_io.proofs.TextMaps.{text_cmp-IsAntisymmetric}
-use Rattle.token_tree.specs.Tree.{Child, Group, Named, children_of}
-use Rattle.group_inherit.specs.Merging.{either}
+use Rattle.token_tree.specs.Tree.{Child, a_token, a_group, Group, Children, no_children, child, Named, children_of}
+use Rattle.group_inherit.specs.Merging.{either, named}
 use Rattle.group_inherit.specs.inner.Expanding.{in_place, left_over, with_groups, behind_groups}
 use Rattle.group_inherit.specs.Putting.{put_all}
+use Rattle.group_inherit.proofs.Overs.{named_entries}
 use Rattle.group_inherit.proofs.Puts.{get_put_all, either_none}
 
 -- the entries with these groups in place of the child groups, in order
@@ -52,3 +53,25 @@ more_put left rest e xs ys old new cut over is =
 pub more_behind : (left rest : List (List ℕ × Child)) (e : List ℕ × Child) (xs ys : List Group) → left ≡ e ∷ rest → ys ≡ left_over e.1 xs
     → behind_groups (children_of rest) ys ≡ behind_groups (children_of left) xs
 more_behind left rest e xs ys cut over = ap (behind_groups (children_of rest)) over ∙ ap (λ l. behind_groups (children_of l) xs) (sym cut)
+
+-- where no groups are given, all members stay
+
+with_none : (cs : Children) → with_groups cs [] ≡ named cs
+with_none no_children = refl
+with_none (child name (a_token d) cs) = ap (λ m. map.insert m name (a_token d)) (with_none cs)
+with_none (child name (a_group g) cs) = ap (λ m. map.insert m name (a_group g)) (with_none cs)
+
+behind_none : (cs : Children) → behind_groups cs [] ≡ []
+behind_none no_children = refl
+behind_none (child name (a_token d) cs) = behind_none cs
+behind_none (child name (a_group g) cs) = behind_none cs
+
+pub members_stay : (m : Named) (xs : List Group) → xs ≡ [] → m ≡ with_groups (children_of (map.entries m)) xs
+members_stay m xs e =
+    let cs = children_of (map.entries m) in
+    sym (ap (with_groups cs) e ∙ (with_none cs ∙ named_entries m))
+
+pub none_behind : (m : Named) (xs : List Group) → xs ≡ [] → behind_groups (children_of (map.entries m)) xs ≡ []
+none_behind m xs e =
+    let cs = children_of (map.entries m) in
+    ap (behind_groups cs) e ∙ behind_none cs

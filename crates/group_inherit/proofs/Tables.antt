@@ -1,6 +1,7 @@
 -- The table of expansions.
-use Rattle.std.proofs.Common.{◌≡◌, ℕ, zero, suc, ◌+◌, ◌<◌, ◌≤◌, List, [], ◌∷◌, inl, inr, refl, sym, ap, ◌∙◌, subst, map, length, get_or, set, take, drop, arith, drop-cons, add-one}
+use Rattle.std.proofs.Common.{◌≡◌, ℕ, zero, suc, true, ◌==◌, ◌+◌, ◌<◌, ◌≤◌, List, [], ◌∷◌, inl, inr, refl, sym, ap, ◌∙◌, subst, map, length, get_or, set, take, drop, arith, drop-cons, add-one}
 use Rattle.std.proofs.lemmas.Bool.{cases_eq}
+use Rattle.std.proofs.lemmas.Bool.Decides.{nat_tests}
 use Rattle.std.proofs.lemmas.List.{take_more, drop_all, get_or-map}
 use Rattle.token_tree.specs.Tree.{Group as GroupData}
 use Rattle.token_tree.specs.Shown.{group_view}
@@ -28,6 +29,14 @@ values_first table row at h =
 
 pub values_past : (table : List Group) (row : List ℕ) (at : ℕ) → length row ≤ at → values_in table (drop at row) ≡ []
 values_past table row at h = ap (values_in table) (drop_all at row h)
+
+zero_of : (n : ℕ) → (n == 0) ≡ true → n ≡ 0
+zero_of n h = grind (arith, nat_tests)
+
+-- an empty row has none
+pub no_values : (table : List Group) (row : List ℕ) → (length row == 0) ≡ true → values_in table row ≡ []
+no_values table [] e = refl
+no_values table (w ∷ row) e = absurd (omega (arith, zero_of (length (w ∷ row)) e))
 
 value_set_same : (table : List Group) (v : ℕ) (g : Group) → v < length table → value (set table v g) v ≡ group_view g
 value_set_same [] v g h = absurd (omega arith)

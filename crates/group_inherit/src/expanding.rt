@@ -97,6 +97,11 @@ fn expand_members<'s>(
     ensures left { IfOk result (λ made. AreBehind members.now table.now row.now made.1) }
     ensures at { IfOk result (λ made. made.1 ≤ length row.now) }
 {
+    // A group that needs no other shares its members.
+    if row.is_empty() {
+        let shared = members.copy()?;
+        return Ok((shared, 0));
+    }
     let mut expanded = Members::new(alloc);
     let mut next = 0;
     for member in members.as_slice() {

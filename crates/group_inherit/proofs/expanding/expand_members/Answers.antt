@@ -6,7 +6,8 @@ use Rattle.token_tree.specs.Shown.{member_view, members_view}
 use Rattle.group_inherit.specs.inner.Expanding.{behind_groups}
 use Rattle.group_inherit.specs.Putting.{put_all}
 use Rattle.group_inherit.specs.inner.Tables.{values_in}
-use Rattle.group_inherit.proofs.Expands.{replaced, replaced_put, more_put, more_behind}
+use Rattle.group_inherit.proofs.Expands.{replaced, replaced_put, more_put, more_behind, members_stay, none_behind}
+use Rattle.group_inherit.proofs.Tables.{no_values}
 use Rattle.group_inherit.proofs.Turns.{first_left, none_left}
 use Rattle.group_inherit.proofs.expanding.expand_members.Goals as goal
 
@@ -47,3 +48,13 @@ returns-clause-left c =
     ap (λ l. behind_groups (children_of l) xs) (sym (none_left member_view items c.loop-member.member-index c.loop-member-test.false))
     ∙ (c.loop-member.invariant.behind
     ∙ ap (λ l. behind_groups (children_of l) (values_in c.args.table.now c.args.row.now)) same)
+
+pub returns-then-is_empty-clause-members : goal.returns-then-is_empty-clause-members
+returns-then-is_empty-clause-members c =
+    let none = no_values c.args.table.now c.args.row.now (sym c.is_empty.ensures ∙ c.if-is_empty.true) in
+    c.in_ok-shared.ensures ∙ members_stay (members_view c.args.members.now) (values_in c.args.table.now c.args.row.now) none
+
+pub returns-then-is_empty-clause-left : goal.returns-then-is_empty-clause-left
+returns-then-is_empty-clause-left c =
+    let none = no_values c.args.table.now c.args.row.now (sym c.is_empty.ensures ∙ c.if-is_empty.true) in
+    none ∙ sym (none_behind (members_view c.args.members.now) (values_in c.args.table.now c.args.row.now) none)
