@@ -131,7 +131,7 @@ fn sort_names<'s>(
     requires { (es : List Entry) × AreNames text.now names.now es }
     ensures { IfOk result (λ v. SortsNames text.entry.now names.now v.items) }
 {
-    let mut sorted = Vec::new(alloc);
+    let mut sorted = Vec::with_capacity(alloc, names.len())?;
     for place in 0..names.len() {
         let name = string_text(alloc, text, names[place].offset())?;
         sorted.push(PlacedName { name, place })?;
