@@ -54,7 +54,8 @@ impl Dec {
     pub fn times_1000(&self) -> Dec
         requires { IsExact self.now }
         ensures is { result ≡ times self.now 1000 }
-        ensures exact { IsSameNumber result (record { c = self.now.c *ℤ pos 1000; s = self.now.s }) }
+        ensures exact { IsSameNumber result
+            (record { c = self.now.c *ℤ pos 1000; s = self.now.s }) }
     {
         let (c, s) = self.parts();
         Dec::shortened(c < 0, c.unsigned_abs() * 1000, s)
@@ -74,7 +75,8 @@ impl Dec {
     pub fn whole_i32(&self) -> Option<i32>
         ensures is { result ≡ whole_of self.now }
         ensures found { IfSome result (λ n. self.now ≡ whole n) }
-        ensures none { IfNone result ((n : ℤ) → FitsSigned w32 n → ¬ IsSameNumber self.now (whole n)) }
+        ensures none { IfNone result ((n : ℤ) → FitsSigned w32 n
+            → ¬ IsSameNumber self.now (whole n)) }
     {
         let (c, s) = self.parts();
         if s != 0 {

@@ -12,8 +12,10 @@ impl Dec {
     pub fn to_byte(&self) -> u8
         requires { IsPart self.now }
         ensures is { result ≡ byte_of self.now }
-        ensures reached { 2 * result * 10 ^ self.now.s ≤ 510 * unsigned_abs self.now.c + 10 ^ self.now.s }
-        ensures greatest { 510 * unsigned_abs self.now.c + 10 ^ self.now.s < 2 * (result + 1) * 10 ^ self.now.s }
+        ensures reached { 2 * result * 10 ^ self.now.s
+            ≤ 510 * unsigned_abs self.now.c + 10 ^ self.now.s }
+        ensures greatest { 510 * unsigned_abs self.now.c + 10 ^ self.now.s
+            < 2 * (result + 1) * 10 ^ self.now.s }
     {
         let (c, s) = self.parts();
         let unit = ten_to(s);

@@ -22,7 +22,8 @@ pub fn one_number()
 pub fn read_is_spelled()
     ensures exact { (text : List ℕ) (d : Decimal) → number_of text ≡ Some d → IsExact d }
     ensures spells { (text : List ℕ) (d : Decimal) → number_of text ≡ Some d → Spells text d }
-    ensures all { (text : List ℕ) (d : Decimal) → IsExact d → Spells text d → number_of text ≡ Some d }
+    ensures all { (text : List ℕ) (d : Decimal) → IsExact d → Spells text d
+        → number_of text ≡ Some d }
 {}
 
 /// What is written of a number is a JSON number that is read as that number again, also in front of other bytes.

@@ -32,7 +32,8 @@ impl Dec {
 
 /// The number of these parts, where it is within the bounds.
 fn from_parts(parts: Parts<'_>) -> Result<Dec, NotDec>
-    ensures { result_ok result ≡ within parts.entry.negative (shortest (size_of (split_view parts.entry)) (places_of (split_view parts.entry))) }
+    ensures { result_ok result ≡ within parts.entry.negative
+        (shortest (size_of (split_view parts.entry)) (places_of (split_view parts.entry))) }
 {
     let none = Significand { size: 0, zeros: 0 };
     let kept = with_digits(with_digits(none, parts.whole), parts.fraction);

@@ -41,7 +41,8 @@ fn with_digit(so_far: Significand, digit: u128) -> Significand
     requires digit { digit < 10 }
     ensures limit { result.size ≤ 10 ^ 30 }
     ensures zeros { result.zeros ≤ so_far.zeros + 1 }
-    ensures holds { (n : ℕ) → Holds so_far.size so_far.zeros n → Holds result.size result.zeros (n * 10 + digit) }
+    ensures holds { (n : ℕ) → Holds so_far.size so_far.zeros n
+        → Holds result.size result.zeros (n * 10 + digit) }
 {
     if digit != 0 {
         let size = scaled(so_far.size, so_far.zeros + 1);

@@ -80,7 +80,8 @@ impl Dec {
         ensures err { OnErr result (out.new ≡ out.old) }
         ensures spells { Spells (spelling self.now) self.now }
         ensures decimal { text_decimal (spelling self.now) ≡ Some self.now }
-        ensures read_again { (rest : List ℕ) → ends_number rest ≡ true → number_at (spelling self.now ++ rest) ≡ (self.now, rest) }
+        ensures read_again { (rest : List ℕ) → ends_number rest ≡ true
+            → number_at (spelling self.now ++ rest) ≡ (self.now, rest) }
         ensures bounds { IsDec self.now }
     {
         let mut text = Front::new();
@@ -94,7 +95,8 @@ impl Dec {
         ensures err { OnErr result (out.new ≡ out.old) }
         ensures spells { Spells (point_spelling self.now) self.now }
         ensures decimal { text_decimal (point_spelling self.now) ≡ Some self.now }
-        ensures read_again { (rest : List ℕ) → ends_number rest ≡ true → number_at (point_spelling self.now ++ rest) ≡ (self.now, rest) }
+        ensures read_again { (rest : List ℕ) → ends_number rest ≡ true
+            → number_at (point_spelling self.now ++ rest) ≡ (self.now, rest) }
         ensures bounds { IsDec self.now }
     {
         let mut text = Front::new();
