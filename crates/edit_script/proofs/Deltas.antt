@@ -12,7 +12,7 @@ use Rattle.std.specs.Ordering.{is_lt, eq_by_cmp}
 use Rattle.std.specs.Str.{bytes_eq}
 use Rattle.tk_io.specs.Order.{text_cmp}
 use Rattle.edit_script.specs.Delta.{ChangeData, Delta, Held, IsDelta, AreDeltas, change_of, changed, applied, replayed, held_at}
-use Rattle.edit_script.specs.Merge.{AreChanges}
+use Rattle.edit_script.specs.inner.Merge.{AreChanges}
 use Rattle.edit_script.specs.Stream.{commits_text, commits_pieces, stream_of, stream_pieces, line_text, pieces_of, record_line, record_of}
 use Rattle.edit_script.specs.declared.line.Line.TheVariants.{StreamHead, Commit, Done}
 use Rattle.edit_script.proofs.Rising.{same_key, equal, missing, not_below, first, second}

@@ -12,7 +12,7 @@ use Rattle.std.specs.Ordering.{is_lt, is_eq, eq_by_cmp, ordering_reverse}
 use Rattle.std.specs.Str.{bytes_eq}
 use Rattle.tk_io.specs.Order.{text_cmp}
 use Rattle.edit_script.specs.Delta.{ChangeData, change_of}
-use Rattle.edit_script.specs.Merge.{Entries, AreChanges, IsStep, shown, shown_entry}
+use Rattle.edit_script.specs.inner.Merge.{Entries, AreChanges, IsStep, shown, shown_entry}
 
 pub same_key : IsAntisymmetric text_cmp
 same_key = slice_cmp-IsAntisymmetric nat_cmp-IsAntisymmetric

@@ -1,7 +1,7 @@
 -- The segments of a path, cut off one after another.
 use Rattle.std.proofs.Common.{◌≡◌, ℕ, Bool, true, false, cond, not, ◌&&◌, eqb, List, [], ◌∷◌, ◌++◌, refl, ap, ◌∙◌}
 use Rattle.std.specs.List.{list_all, slice_split, onto_first}
-use Rattle.edit_script.specs.Cut.{lacks, IsCut}
+use Rattle.edit_script.specs.inner.Cut.{lacks, IsCut}
 use Rattle.edit_script.specs.Script.{is_segment}
 use Rattle.edit_script.proofs.Cuts.{both}
 

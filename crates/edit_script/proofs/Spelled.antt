@@ -11,10 +11,10 @@ use Rattle.std.specs.List.{AllByRecursion, flat_map, list_all, slice_split, onto
 use Rattle.std.specs.Str.Parse.{AllDigits}
 use Rattle.std.specs.Borrow.{Bor}
 use Rattle.std.specs.Option.{MatchOption}
-use Rattle.edit_script.specs.Cut.{lacks, IsCut}
+use Rattle.edit_script.specs.inner.Cut.{lacks, IsCut}
 use Rattle.edit_script.specs.Shown.{event_of}
 use Rattle.edit_script.specs.declared.event.Event.{Event}
-use Rattle.edit_script.specs.Line.{first_line, behind_line}
+use Rattle.edit_script.specs.inner.Line.{first_line, behind_line}
 use Rattle.edit_script.specs.Script.{EventData, put, del, commit, EventFits, IsScript, event_text, header, is_dots, is_path, is_path_byte, is_segment}
 use Rattle.edit_script.proofs.Cuts.{both, joined, all_weaker, cut_once, lacks-append, lacks_failing, same_front}
 

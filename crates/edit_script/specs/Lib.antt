@@ -1,9 +1,7 @@
-pub mod Codes
-pub mod Cut
-pub mod Delta
-pub mod Files
-pub mod Line
-pub mod Merge
 pub mod Script
-pub mod Shown
+pub mod Files
+pub mod Delta
 pub mod Stream
+pub mod Shown
+pub mod Codes
+pub mod inner

@@ -1,5 +1,5 @@
 // Changes of outputs, and lists of them.
-ghost use Rattle.std.specs.Prelude.{◌≡◌, [], ◌∷◌, ◌++◌, OnOk, OnErr, length};
+ghost use Rattle.std.specs.Prelude.{◌≡◌, [], ◌∷◌, ◌++◌, OnOk, OnErr, length, ◌==◌, map};
 ghost use Rattle.std.specs.List.{slice_get};
 ghost use Rattle.std.specs.Option.{option_map};
 ghost use Rattle.edit_script.specs.Shown.{lined_of};
@@ -51,6 +51,20 @@ impl<'a> Changes<'a> {
         ensures { result ≡ length self.now }
     {
         self.items.as_slice().len()
+    }
+
+    /// Whether there are none.
+    pub fn is_empty(&self) -> bool
+        ensures { result ≡ (length self.now == 0) }
+    {
+        self.len() == 0
+    }
+
+    /// The changes, in order.
+    pub fn as_slice(&self) -> &[Change<'a>]
+        ensures { map lined_of result.now ≡ self.now }
+    {
+        self.items.as_slice()
     }
 
     /// The i-th change, counted from 0; none where i is not below the length.

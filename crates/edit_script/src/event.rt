@@ -1,5 +1,5 @@
 // Events, and lists of them.
-ghost use Rattle.std.specs.Prelude.{◌≡◌, [], ◌∷◌, ◌++◌, OnOk, OnErr, length};
+ghost use Rattle.std.specs.Prelude.{◌≡◌, [], ◌∷◌, ◌++◌, OnOk, OnErr, length, ◌==◌, map};
 ghost use Rattle.std.specs.List.{slice_get};
 ghost use Rattle.std.specs.Option.{option_map};
 ghost use Rattle.edit_script.specs.Shown.{event_of};
@@ -54,6 +54,20 @@ impl<'s> Events<'s> {
         ensures { result ≡ length self.now }
     {
         self.items.as_slice().len()
+    }
+
+    /// Whether there are none.
+    pub fn is_empty(&self) -> bool
+        ensures { result ≡ (length self.now == 0) }
+    {
+        self.len() == 0
+    }
+
+    /// The events, in order.
+    pub fn as_slice(&self) -> &[Event<'s>]
+        ensures { map event_of result.now ≡ self.now }
+    {
+        self.items.as_slice()
     }
 
     /// The i-th event, counted from 0; none where i is not below the length.

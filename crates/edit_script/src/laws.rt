@@ -3,6 +3,7 @@ ghost use Rattle.std.specs.Prelude.{◌≡◌, ℕ, suc, ◌+◌, ◌≤◌, Lis
 ghost use Rattle.std.specs.FinMap as map;
 ghost use Rattle.std.specs.List.{concat, flat_map, slice_get};
 ghost use Rattle.std.specs.Str.{IsUtf8};
+ghost use Rattle.tk_io.specs.FilesData.{FilesData};
 ghost use Rattle.edit_script.specs.Delta.{Held, ChangeData, Delta, IsDelta, AreDeltas, applied, replayed, held_at};
 ghost use Rattle.edit_script.specs.Files.{AreFilesAfter, AreFilesAt, up_to, commit_count, whole};
 ghost use Rattle.edit_script.specs.Script.{EventData, put, del, commit, IsScript, IsScriptStop};
@@ -12,7 +13,8 @@ ghost use Rattle.edit_script.specs.Stream.{commits_text, line_text, pieces_of, r
 
 /// A script has at most one reading.
 pub fn one_reading()
-    ensures { (bytes : List ℕ) → (es : List EventData) → (fs : List EventData) → IsScript bytes es → IsScript bytes fs → es ≡ fs }
+    ensures { (bytes : List ℕ) → (es : List EventData) → (fs : List EventData) → IsScript bytes es
+        → IsScript bytes fs → es ≡ fs }
 {}
 
 /// A script is text.
@@ -22,68 +24,88 @@ pub fn script_is_text()
 
 /// Bytes that are no script are refused at one place.
 pub fn one_stop()
-    ensures { (bytes : List ℕ) → (m : ℕ) → (n : ℕ) → IsScriptStop bytes m → IsScriptStop bytes n → m ≡ n }
+    ensures { (bytes : List ℕ) → (m : ℕ) → (n : ℕ) → IsScriptStop bytes m → IsScriptStop bytes n
+        → m ≡ n }
 {}
 
 /// The files after no event, and after one event more.
 pub fn one_more_event()
     ensures none { AreFilesAfter [] map.empty }
-    ensures put { (es : List EventData) → (files : FilesData) → (path : List ℕ) → (text : List ℕ) → AreFilesAfter es files → AreFilesAfter (es ++ put path text ∷ []) (map.insert files path text) }
-    ensures del { (es : List EventData) → (files : FilesData) → (path : List ℕ) → AreFilesAfter es files → AreFilesAfter (es ++ del path ∷ []) (map.remove files path) }
-    ensures commit { (es : List EventData) → (files : FilesData) → AreFilesAfter es files → AreFilesAfter (es ++ commit ∷ []) files }
+    ensures put { (es : List EventData) → (files : FilesData) → (path : List ℕ) → (text : List ℕ)
+        → AreFilesAfter es files
+        → AreFilesAfter (es ++ put path text ∷ []) (map.insert files path text) }
+    ensures del { (es : List EventData) → (files : FilesData) → (path : List ℕ)
+        → AreFilesAfter es files → AreFilesAfter (es ++ del path ∷ []) (map.remove files path) }
+    ensures commit { (es : List EventData) → (files : FilesData) → AreFilesAfter es files
+        → AreFilesAfter (es ++ commit ∷ []) files }
 {}
 
 /// The files after events are one map.
 pub fn one_map()
-    ensures { (es : List EventData) → (files : FilesData) → (others : FilesData) → AreFilesAfter es files → AreFilesAfter es others → files ≡ others }
+    ensures { (es : List EventData) → (files : FilesData) → (others : FilesData)
+        → AreFilesAfter es files → AreFilesAfter es others → files ≡ others }
 {}
 
 /// The events up to a commit are those before it, and the commit.
 pub fn up_to_commit()
-    ensures { (before : List EventData) → (after : List EventData) → up_to (suc (commit_count before)) (before ++ commit ∷ after) ≡ before ++ commit ∷ [] }
+    ensures { (before : List EventData) → (after : List EventData)
+        → up_to (suc (commit_count before)) (before ++ commit ∷ after) ≡ before ++ commit ∷ [] }
 {}
 
 /// The events with their commits taken out and one at the end: what stands there, and that it is the only commit.
 pub fn whole_events()
-    ensures files { (es : List EventData) → (files : FilesData) → AreFilesAfter es files → AreFilesAt (whole es) 1 files }
+    ensures files { (es : List EventData) → (files : FilesData) → AreFilesAfter es files
+        → AreFilesAt (whole es) 1 files }
     ensures count { (es : List EventData) → commit_count (whole es) ≡ 1 }
 {}
 
 /// The commits of two lists of events are counted apart.
 pub fn counted_commits()
-    ensures { (xs : List EventData) → (ys : List EventData) → commit_count (xs ++ ys) ≡ commit_count xs + commit_count ys }
+    ensures { (xs : List EventData) → (ys : List EventData)
+        → commit_count (xs ++ ys) ≡ commit_count xs + commit_count ys }
 {}
 
 /// There is one delta from some outputs to others.
 pub fn one_delta()
-    ensures { (old : Held) → (new : Held) → (d : Delta) → (e : Delta) → IsDelta old new d → IsDelta old new e → d ≡ e }
+    ensures { (old : Held) → (new : Held) → (d : Delta) → (e : Delta) → IsDelta old new d
+        → IsDelta old new e → d ≡ e }
 {}
 
 /// A delta makes the new outputs of the old.
 pub fn delta_applies()
-    ensures { (old : Held) → (new : Held) → (d : Delta) → IsDelta old new d → applied (map.entries d) old ≡ new }
+    ensures { (old : Held) → (new : Held) → (d : Delta) → IsDelta old new d
+        → applied (map.entries d) old ≡ new }
 {}
 
 /// The first k deltas make the k-th outputs of what was held before the first of them.
 pub fn deltas_apply()
-    ensures { (before : Held) → (held : List Held) → (ds : List Delta) → (k : ℕ) → AreDeltas before held ds → k ≤ length held → replayed (take k ds) before ≡ held_at before held k }
+    ensures { (before : Held) → (held : List Held) → (ds : List Delta) → (k : ℕ)
+        → AreDeltas before held ds → k ≤ length held
+        → replayed (take k ds) before ≡ held_at before held k }
 {}
 
 /// Each change that `delta` lists carries its record's first line.
 pub fn carried_lines()
-    ensures { (cs : List ChangeData) → (i : ℕ) → (change : Lined) → slice_get (map_list with_line cs) i ≡ Some change → change ≡ with_line change.0 }
+    ensures { (cs : List ChangeData) → (i : ℕ) → (change : Lined)
+        → slice_get (map_list with_line cs) i ≡ Some change → change ≡ with_line change.0 }
 {}
 
 /// One more delta.
 pub fn one_more_delta()
-    ensures { (before : Held) → (held : List Held) → (ds : List Delta) → (new : Held) → (d : Delta) → AreDeltas before held ds → IsDelta (held_at before held (length held)) new d → AreDeltas before (held ++ new ∷ []) (ds ++ d ∷ []) }
+    ensures { (before : Held) → (held : List Held) → (ds : List Delta) → (new : Held) → (d : Delta)
+        → AreDeltas before held ds → IsDelta (held_at before held (length held)) new d
+        → AreDeltas before (held ++ new ∷ []) (ds ++ d ∷ []) }
 {}
 
 /// A stream before its first commit, after one commit more, and at its end.
 pub fn stream_parts()
     ensures none { (k : ℕ) → commits_text k [] ≡ [] }
-    ensures more { (k : ℕ) → (ds : List Delta) → (d : Delta) → commits_text k (ds ++ d ∷ []) ≡ commits_text k ds ++ line_text (CommitLine (k + length ds)) ++ flat_map record_of (map.entries d) }
-    ensures end { (ds : List Delta) → stream_of ds ≡ line_text StreamHead ++ commits_text 1 ds ++ line_text (Done (length ds)) }
+    ensures more { (k : ℕ) → (ds : List Delta) → (d : Delta)
+        → commits_text k (ds ++ d ∷ [])
+        ≡ commits_text k ds ++ line_text (CommitLine (k + length ds))
+        ++ flat_map record_of (map.entries d) }
+    ensures end { (ds : List Delta)
+        → stream_of ds ≡ line_text StreamHead ++ commits_text 1 ds ++ line_text (Done (length ds)) }
 {}
 
 /// The pieces of a record, and of a stream, one after another, are that record and that stream.

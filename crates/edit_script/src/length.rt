@@ -6,7 +6,8 @@ use itoa::Buffer;
 
 /// The length that the text spells: one to eight digits, without a leading zero but for `0` itself.
 pub(crate) fn read_length(text: &str) -> Option<usize>
-    ensures { MatchOption result ((n : ℕ) → n < 10 ^ 8 → text.now ≢ decimal n) (λ n. (text.now ≡ decimal n) × (n < 10 ^ 8)) }
+    ensures { MatchOption result ((n : ℕ) → n < 10 ^ 8 → text.now ≢ decimal n)
+        (λ n. (text.now ≡ decimal n) × (n < 10 ^ 8)) }
 {
     match text.parse::<u32>() {
         Ok(n) => {

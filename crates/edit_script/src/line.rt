@@ -25,8 +25,10 @@ pub enum Line {
 /// # Errors
 /// `Failed` only where the sink's faults rose; a part of the line was appended then, and not all of it.
 pub fn write_line<K: Sink>(out: &mut K, line: &Line) -> Result<(), Failed>
-    ensures whole { OnOk result (Appends (K.written out.old) (K.written out.new) (line_text line.now)) }
-    ensures part { OnErr result (AppendsPart (K.written out.old) (K.written out.new) (line_text line.now)) }
+    ensures whole { OnOk result
+        (Appends (K.written out.old) (K.written out.new) (line_text line.now)) }
+    ensures part { OnErr result
+        (AppendsPart (K.written out.old) (K.written out.new) (line_text line.now)) }
     ensures cause { HasCause (K.faults out.old) (K.faults out.new) result }
 {
     match line {
@@ -39,8 +41,10 @@ pub fn write_line<K: Sink>(out: &mut K, line: &Line) -> Result<(), Failed>
 // Writes the word, the number and a line end as one piece.
 fn write_numbered<K: Sink>(out: &mut K, word: &[u8], number: u64) -> Result<(), Failed>
     requires { length word.now ≤ 7 }
-    ensures whole { OnOk result (Appends (K.written out.old) (K.written out.new) (word.now ++ decimal number ++ codes "\n")) }
-    ensures part { OnErr result (AppendsPart (K.written out.old) (K.written out.new) (word.now ++ decimal number ++ codes "\n")) }
+    ensures whole { OnOk result (Appends (K.written out.old) (K.written out.new)
+        (word.now ++ decimal number ++ codes "\n")) }
+    ensures part { OnErr result (AppendsPart (K.written out.old) (K.written out.new)
+        (word.now ++ decimal number ++ codes "\n")) }
     ensures cause { HasCause (K.faults out.old) (K.faults out.new) result }
 {
     let mut buffer = Buffer::new();

@@ -6,7 +6,7 @@ ghost use Rattle.std.specs.FinMap.{is_sorted};
 ghost use Rattle.std.specs.FinMap as finite;
 ghost use Rattle.tk_io.specs.Order.{text_cmp};
 ghost use Rattle.edit_script.specs.Delta.{Delta, ChangeData, IsDelta};
-ghost use Rattle.edit_script.specs.Merge.{Entries, AreChanges, IsStep, found_changes, shown, shown_entry};
+ghost use Rattle.edit_script.specs.inner.Merge.{Entries, AreChanges, IsStep, found_changes, shown, shown_entry};
 ghost use Rattle.edit_script.specs.Shown.{with_line};
 
 use crate::record_line::{file_line, gone_line};
@@ -19,7 +19,9 @@ use tk_io::{Bytes, NoMemory, Outputs};
 /// written where only the new have it or have other bytes there. An output that stays as it was has no change. Each
 /// change carries its record's first line.
 pub fn delta<'a>(alloc: Global, old: &'a Outputs, new: &'a Outputs) -> Result<Changes<'a>, NoMemory>
-    ensures { IfOk result (λ cs. (d : Delta) × IsDelta old.entry.now new.entry.now d × (cs ≡ map with_line (finite.entries d))) }
+    ensures { IfOk result
+        (λ cs. (d : Delta) × IsDelta old.entry.now new.entry.now d
+        × (cs ≡ map with_line (finite.entries d))) }
 {
     merge(alloc, old.entries(), new.entries())
 }
@@ -31,7 +33,9 @@ type Entry = (String, Bytes);
 fn merge<'a>(alloc: Global, old: &'a [Entry], new: &'a [Entry]) -> Result<Changes<'a>, NoMemory>
     requires old { T (is_sorted text_cmp (shown old.now)) × (length (shown old.now) < 2 ^ 64) }
     requires new { T (is_sorted text_cmp (shown new.now)) × (length (shown new.now) < 2 ^ 64) }
-    ensures { IfOk result (λ cs. (ds : List ChangeData) × AreChanges (shown old.entry.now) (shown new.entry.now) ds × (cs ≡ map with_line ds)) }
+    ensures { IfOk result
+        (λ cs. (ds : List ChangeData) × AreChanges (shown old.entry.now) (shown new.entry.now) ds
+        × (cs ≡ map with_line ds)) }
 {
     let mut changes = Changes::new(alloc);
     let mut i = 0;

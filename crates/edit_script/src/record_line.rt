@@ -43,8 +43,10 @@ pub(crate) fn file_line(alloc: Global, path: &str, bytes: &[u8]) -> Result<Bytes
 /// `Failed` only where the sink's faults rose; a part of the record was appended then, and not all of it.
 pub fn write_change<K: Sink>(out: &mut K, change: &Change<'_>) -> Result<(), Failed>
     requires { lined_of change.now ≡ with_line (lined_of change.now).0 }
-    ensures whole { OnOk result (Appends (K.written out.old) (K.written out.new) (record_of (lined_of change.now).0)) }
-    ensures part { OnErr result (AppendsPart (K.written out.old) (K.written out.new) (record_of (lined_of change.now).0)) }
+    ensures whole { OnOk result
+        (Appends (K.written out.old) (K.written out.new) (record_of (lined_of change.now).0)) }
+    ensures part { OnErr result
+        (AppendsPart (K.written out.old) (K.written out.new) (record_of (lined_of change.now).0)) }
     ensures cause { HasCause (K.faults out.old) (K.faults out.new) result }
 {
     match change {

@@ -3,7 +3,7 @@ ghost use Rattle.std.specs.Prelude.{◌≡◌, ℕ, List, ◌++◌, ◌∷◌, E
 ghost use Rattle.std.specs.Fmt.{decimal};
 ghost use Rattle.edit_script.specs.Script.{EventData, EventFits, IsScript, IsStop, event_text, put};
 ghost use Rattle.edit_script.specs.Shown.{event_of};
-ghost use Rattle.edit_script.specs.Line.{first_line, behind_line};
+ghost use Rattle.edit_script.specs.inner.Line.{first_line, behind_line};
 ghost use Rattle.edit_script.specs.declared.script.ScriptStop.TheVariants.{NoMemory as OutOfMemory};
 
 use crate::cut::{cut_at_first, cut_at_newline};
@@ -44,7 +44,8 @@ impl From<NoMemory> for ScriptStop {
 pub fn read_script<'s>(alloc: Global, text: &'s str) -> Result<Events<'s>, ScriptStop>
     ensures ok { IfOk result (λ es. IsScript text.entry.now es) }
     // No events are read only where there are none to read, ..
-    ensures none { (at : ℕ) → result ≡ Err (ScriptStop.BadScript at) → (es : List EventData) → IsScript text.entry.now es → ⊥ }
+    ensures none { (at : ℕ) → result ≡ Err (ScriptStop.BadScript at) → (es : List EventData)
+        → IsScript text.entry.now es → ⊥ }
     // .. and then at the stop.
     ensures stop { (at : ℕ) → result ≡ Err (ScriptStop.BadScript at) → IsStop text.entry.now at }
 {
@@ -64,7 +65,8 @@ pub fn read_script<'s>(alloc: Global, text: &'s str) -> Result<Events<'s>, Scrip
 
 /// The event at the front of the text, and what is left behind it; none where no event stands there.
 fn next_event(text: &str) -> Option<(Event<'_>, &str)>
-    ensures { MatchOption result ((e : EventData) → (rest : List ℕ) → EventFits e → text.now ≡ event_text e ++ rest → ⊥)
+    ensures { MatchOption result ((e : EventData) → (rest : List ℕ) → EventFits e
+        → text.now ≡ event_text e ++ rest → ⊥)
         (λ p. (text.now ≡ event_text (event_of p.0) ++ p.1.now) × EventFits (event_of p.0)) }
 {
     let (line, behind) = cut_at_first(text, '\n')?;
@@ -73,7 +75,8 @@ fn next_event(text: &str) -> Option<(Event<'_>, &str)>
 
 /// The event with this line, whose text stands at the front of what is behind the line.
 fn event_of_line<'s>(line: &'s str, behind: &'s str) -> Option<(Event<'s>, &'s str)>
-    ensures { MatchOption result ((e : EventData) → (rest : List ℕ) → EventFits e → line.entry.now ≡ first_line e → behind.entry.now ≡ behind_line e ++ rest → ⊥)
+    ensures { MatchOption result ((e : EventData) → (rest : List ℕ) → EventFits e
+        → line.entry.now ≡ first_line e → behind.entry.now ≡ behind_line e ++ rest → ⊥)
         (λ p. (line.entry.now ≡ first_line (event_of p.0)) × (behind.entry.now ≡ behind_line (event_of p.0) ++ p.1.now) × EventFits (event_of p.0)) }
 {
     if line == "commit" {
@@ -91,7 +94,9 @@ fn event_of_line<'s>(line: &'s str, behind: &'s str) -> Option<(Event<'s>, &'s s
 
 /// The path and the text of a put with these words on its line, and what is left behind the text.
 fn put_text<'s>(words: &'s str, behind: &'s str) -> Option<(&'s str, &'s str, &'s str)>
-    ensures { MatchOption result ((path : List ℕ) → (text : List ℕ) → (rest : List ℕ) → EventFits (put path text) → words.entry.now ≡ path ++ 32 ∷ decimal (length text) → behind.entry.now ≡ text ++ 10 ∷ rest → ⊥)
+    ensures { MatchOption result ((path : List ℕ) → (text : List ℕ) → (rest : List ℕ)
+        → EventFits (put path text) → words.entry.now ≡ path ++ 32 ∷ decimal (length text)
+        → behind.entry.now ≡ text ++ 10 ∷ rest → ⊥)
         (λ p. (words.entry.now ≡ p.0.now ++ 32 ∷ decimal (length p.1.now)) × (behind.entry.now ≡ p.1.now ++ 10 ∷ p.2.now) × EventFits (put p.0.now p.1.now)) }
 {
     let (path, digits) = cut_at_first(words, ' ')?;

@@ -143,8 +143,8 @@ fn check_records(
     let new_outputs = outputs_of(alloc, new)?;
     let changes = delta(alloc, &old_outputs, &new_outputs)?;
     let mut records = Bytes::new(alloc);
-    for i in 0..changes.len() {
-        match changes.at(i).ok_or("no such change")? {
+    for change in changes.as_slice() {
+        match change {
             Change::Gone(_, line) => records.append(line.as_slice())?,
             Change::Written(_, bytes, line) => {
                 records.append(line.as_slice())?;
@@ -203,9 +203,12 @@ fn writes_lines_and_records(rt: HostRuntime) -> Result<(), Fail> {
 fn lists_grow_at_their_end(rt: HostRuntime) -> Result<(), Fail> {
     let alloc: Global = rt.alloc();
     let mut events = Events::new(alloc);
+    assert!(rt; events.is_empty());
     events.push(Event::Del("a"))?;
     assert_eq!(rt; events.len(), 1);
+    assert_eq!(rt; events.as_slice(), [Event::Del("a")].as_slice());
     let mut changes = Changes::new(alloc);
+    assert!(rt; changes.is_empty());
     changes.push(Change::Gone("a", Bytes::new(alloc)))?;
     assert_eq!(rt; changes.len(), 1);
     assert!(rt; matches!(changes.at(0), Some(Change::Gone("a", _))));

@@ -1,6 +1,6 @@
 use Rattle.std.proofs.Common.{ap, sym, ◌∙◌}
 use Rattle.std.specs.Option.{option_map}
-use Rattle.edit_script.specs.Merge.{shown_entry}
+use Rattle.edit_script.specs.inner.Merge.{shown_entry}
 use Rattle.edit_script.proofs.Rising.{low_none, low_next, turned, step_new, step_gone, step_same, step_other}
 use Rattle.edit_script.proofs.merging.first_found.Goals as goal
 

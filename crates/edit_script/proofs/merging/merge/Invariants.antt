@@ -1,7 +1,7 @@
 -- The changes so far, with which those of what is left are all.
 use Rattle.std.proofs.Common.{◌≡◌, ◌+◌, ◌-◌, ◌≤◌, List, length, map}
 use Rattle.edit_script.specs.Delta.{ChangeData}
-use Rattle.edit_script.specs.Merge.{shown}
+use Rattle.edit_script.specs.inner.Merge.{shown}
 use Rattle.edit_script.specs.Shown.{with_line}
 use Rattle.edit_script.proofs.Rising.{Leads}
 use Rattle.edit_script.proofs.merging.merge.Given as goal
