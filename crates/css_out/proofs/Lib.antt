@@ -1,0 +1,12 @@
+pub mod EqualValues
+pub mod Generic
+pub mod Joined
+pub mod Linked
+pub mod Nesting
+pub mod NoReferences
+pub mod Once
+pub mod Owned
+pub mod OwnNames
+pub mod SheetsDenote
+pub mod Sounds
+pub mod Spelled

@@ -1,0 +1,14 @@
+pub mod Lists
+pub mod Piece
+pub mod PlatformValue
+pub mod Reading
+pub mod Rounds
+pub mod Links
+pub mod Parts
+pub mod Fragment
+pub mod Spelling
+pub mod Sources
+pub mod Sheets
+pub mod WithoutHex
+pub mod Laws
+pub mod inner

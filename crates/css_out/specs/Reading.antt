@@ -1,0 +1,219 @@
+-- How a style sheet is read, in the profile of CSS that outputs keep to: one block of declarations of custom properties.
+-- Blanks, newlines and comments give nothing. Nothing here knows of tokens or kinds.
+use Rattle.std.specs.Prelude.{◌≡◌, zero, suc, ℕ, ◌==◌, ◌&&◌, ◌||◌, Bool, true, false, List, [], ◌∷◌, ◌++◌, codes, Option, Some, None, if◌then◌else◌}
+use Rattle.std.specs.Char.{is_ascii_alphabetic, is_ascii_alphanumeric, is_ascii_digit}
+use Rattle.dec_fix.specs.Decimal.{Decimal}
+use Rattle.dec_fix.specs.Following.{unsigned_at}
+use Rattle.css_out.specs.Piece.{Piece, mark, var, number, percent, unit, string, word, opens, closes, comma, slash, is_opening, is_closing}
+
+-- a byte of a word: an ASCII letter, a digit or `-`
+abbrev pub in_word : ℕ → Bool
+in_word c = is_ascii_alphanumeric c || (c == 45)
+
+-- a byte of a name behind its `--`: an ASCII letter, a digit, `_` or `-`
+abbrev pub in_name : ℕ → Bool
+in_name c = is_ascii_alphanumeric c || ((c == 95) || (c == 45))
+
+-- the bytes at the front that pass, and what follows them
+abbrev pub front : (ℕ → Bool) → List ℕ → List ℕ
+front p [] = []
+front p (c ∷ t) = if p c then c ∷ front p t else []
+
+abbrev pub rest : (ℕ → Bool) → List ℕ → List ℕ
+rest p [] = []
+rest p (c ∷ t) = if p c then rest p t else c ∷ t
+
+abbrev pub is_some : List ℕ → Bool
+is_some [] = false
+is_some (c ∷ t) = true
+
+-- a name up to its `)`, behind `var(--`
+abbrev pub closed_name : List ℕ → List ℕ → Option (Piece × List ℕ)
+closed_name n [] = None
+closed_name n (c ∷ t) = if (c == 41) && is_some n then Some (var (45 ∷ 45 ∷ n), t) else None
+
+abbrev pub var_at : List ℕ → Option (Piece × List ℕ)
+var_at [] = None
+var_at (c ∷ []) = None
+var_at (c ∷ d ∷ t) = if (c == 45) && (d == 45) then closed_name (front in_name t) (rest in_name t) else None
+
+abbrev pub is_var : List ℕ → Bool
+is_var (a ∷ b ∷ c ∷ []) = (a == 118) && ((b == 97) && (c == 114))
+is_var w = false
+
+-- a word, or a function where a `(` stands directly behind it
+abbrev pub worded : List ℕ → List ℕ → Option (Piece × List ℕ)
+worded w [] = Some (mark (word w), [])
+worded w (c ∷ t) = if c == 40 then (if is_var w then var_at t else Some (mark (opens w), t)) else Some (mark (word w), c ∷ t)
+
+-- a string's characters up to its `"`, where a `\` gives the character behind it
+abbrev pub with_first : ℕ → Option (List ℕ × List ℕ) → Option (List ℕ × List ℕ)
+with_first c None = None
+with_first c (Some r) = Some (c ∷ r.0, r.1)
+
+abbrev pub string_from : Bool → List ℕ → Option (List ℕ × List ℕ)
+string_from escaped [] = None
+string_from true (c ∷ t) = with_first c (string_from false t)
+string_from false (c ∷ t) = if c == 34 then Some ([], t) else (if c == 92 then string_from true t else with_first c (string_from false t))
+
+abbrev pub string_piece : Option (List ℕ × List ℕ) → Option (Piece × List ℕ)
+string_piece None = None
+string_piece (Some r) = Some (mark (string r.0), r.1)
+
+-- letters or `%` directly behind a number make a unit or a percentage
+abbrev pub measured : Decimal → List ℕ → Option (Piece × List ℕ)
+measured d [] = Some (mark (number d), [])
+measured d (c ∷ t) = if c == 37 then Some (mark (percent d), t)
+    else (if is_ascii_alphabetic c then Some (mark (unit d (front is_ascii_alphabetic (c ∷ t))), rest is_ascii_alphabetic (c ∷ t))
+    else Some (mark (number d), c ∷ t))
+
+-- a number of any length: digits, and optionally a point and digits
+abbrev pub numbered : Decimal × List ℕ → Option (Piece × List ℕ)
+numbered r = measured r.0 r.1
+
+abbrev pub starts_digit : List ℕ → Bool
+starts_digit [] = false
+starts_digit (c ∷ t) = is_ascii_digit c
+
+-- the piece at the front, and what follows it
+abbrev pub piece_at : List ℕ → Option (Piece × List ℕ)
+piece_at [] = None
+piece_at (c ∷ t) =
+    if c == 44 then Some (mark comma, t)
+    else (if c == 41 then Some (mark closes, t)
+    else (if c == 47 then Some (mark slash, t)
+    else (if c == 34 then string_piece (string_from false t)
+    else (if is_ascii_digit c then numbered (unsigned_at false (c ∷ t))
+    else (if (c == 45) && starts_digit t then numbered (unsigned_at true t)
+    else (if is_ascii_alphabetic c then worded (front in_word (c ∷ t)) (rest in_word (c ∷ t)) else None))))))
+
+abbrev pub is_blank : ℕ → Bool
+is_blank c = (c == 32) || (c == 10)
+
+-- what follows the `*/` of a comment
+abbrev pub after_comment : List ℕ → Option (List ℕ)
+after_comment [] = None
+after_comment (c ∷ []) = None
+after_comment (c ∷ d ∷ t) = if (c == 42) && (d == 47) then Some t else after_comment (d ∷ t)
+
+-- what follows a comment, behind its `/`
+abbrev pub skip_star : List ℕ → Option (List ℕ)
+skip_star [] = None
+skip_star (c ∷ t) = if c == 42 then after_comment t else None
+
+abbrev pub starts_star : List ℕ → Bool
+starts_star [] = false
+starts_star (c ∷ t) = c == 42
+
+-- what stands at the front of a value: its end, something that gives nothing, a piece, or none of these
+pub data Step : Type 0 where
+  stop : Step
+  skip : List ℕ → Step
+  take : Piece → List ℕ → Step
+  wrong : Step
+
+abbrev pub skipped : Option (List ℕ) → Step
+skipped None = wrong
+skipped (Some t) = skip t
+
+abbrev pub taken : Option (Piece × List ℕ) → Step
+taken None = wrong
+taken (Some r) = take r.0 r.1
+
+abbrev pub step : List ℕ → Step
+step [] = wrong
+step (c ∷ t) =
+    if c == 59 then stop
+    else (if is_blank c then skip t
+    else (if (c == 47) && starts_star t then skipped (skip_star t)
+    else taken (piece_at (c ∷ t))))
+
+-- A value's pieces up to its `;`, with which the second text begins.
+pub data Pieces : List ℕ → List Piece → List ℕ → Type 0 where
+  stops : (t : List ℕ) → step t ≡ stop → Pieces t [] t
+  skips : (t s : List ℕ) (ps : List Piece) (u : List ℕ) → step t ≡ skip s → Pieces s ps u → Pieces t ps u
+  takes : (t s : List ℕ) (p : Piece) (ps : List Piece) (u : List ℕ) → step t ≡ take p s → Pieces s ps u → Pieces t (p ∷ ps) u
+
+-- each function is closed, and k more that are open before the pieces
+abbrev pub is_zero : ℕ → Bool
+is_zero zero = true
+is_zero (suc k) = false
+
+abbrev pub with_one_less : (ℕ → Bool) → ℕ → Bool
+with_one_less f zero = false
+with_one_less f (suc k) = f k
+
+abbrev pub are_closed : ℕ → List Piece → Bool
+are_closed k [] = is_zero k
+are_closed k (p ∷ ps) =
+    if is_opening p then are_closed (suc k) ps
+    else (if is_closing p then with_one_less (λ j. are_closed j ps) k
+    else are_closed k ps)
+
+-- what stands between a name and its value: the `:`, something that gives nothing before it, or neither
+abbrev pub colon : List ℕ → Step
+colon [] = wrong
+colon (c ∷ t) =
+    if c == 58 then stop
+    else (if is_blank c then skip t
+    else (if c == 47 then skipped (skip_star t) else wrong))
+
+abbrev pub tail : List ℕ → List ℕ
+tail [] = []
+tail (c ∷ t) = t
+
+-- what follows the `:`
+pub data Colon : List ℕ → List ℕ → Type 0 where
+  meets : (t : List ℕ) → colon t ≡ stop → Colon t (tail t)
+  misses : (t s u : List ℕ) → colon t ≡ skip s → Colon s u → Colon t u
+
+-- a declaration: a name and its pieces
+pub record Declared : Type 0 where
+  pub name : List ℕ
+  pub pieces : List Piece
+
+-- what stands at the front of a block: its end, something that gives nothing, a name, or none of these
+pub data Turn : Type 0 where
+  over : Turn
+  pass : List ℕ → Turn
+  names : List ℕ → List ℕ → Turn
+  other : Turn
+
+abbrev pub passed : Option (List ℕ) → Turn
+passed None = other
+passed (Some t) = pass t
+
+-- `--` and one byte of a name or more, behind which something stands
+abbrev pub named : List ℕ → List ℕ → Turn
+named n [] = other
+named n (c ∷ t) = if is_some n then names (45 ∷ 45 ∷ n) (c ∷ t) else other
+
+abbrev pub dashed : List ℕ → Turn
+dashed [] = other
+dashed (c ∷ t) = if c == 45 then named (front in_name t) (rest in_name t) else other
+
+abbrev pub turn : List ℕ → Turn
+turn [] = over
+turn (c ∷ t) =
+    if is_blank c then pass t
+    else (if c == 47 then passed (skip_star t)
+    else (if c == 45 then dashed t else other))
+
+-- The declarations of a text, read alone.
+pub data Block : List ℕ → List Declared → Type 0 where
+  ended : (t : List ℕ) → turn t ≡ over → Block t []
+  passes : (t s : List ℕ) (ds : List Declared) → turn t ≡ pass s → Block s ds → Block t ds
+  declared : (t n s u v : List ℕ) (ps : List Piece) (ds : List Declared) → turn t ≡ names n s → Colon s u → Pieces u ps v
+      → are_closed 0 ps ≡ true → Block (tail v) ds → Block t (record { name = n; pieces = ps } ∷ ds)
+
+abbrev pub head : List ℕ
+head = codes ":root {\n"
+
+abbrev pub foot : List ℕ
+foot = codes "}\n"
+
+-- a whole sheet, and what it declares
+pub record Reads (bytes : List ℕ) (ds : List Declared) : Type 0 where
+  pub inside : List ℕ
+  pub frame : bytes ≡ head ++ (inside ++ foot)
+  pub block : Block inside ds

@@ -1,0 +1,53 @@
+-- The bytes of pieces, lines and fragments.
+use Rattle.std.specs.Prelude.{ℕ, ◌==◌, ◌||◌, Bool, true, false, List, [], ◌∷◌, ◌++◌, codes, if◌then◌else◌, flat_map}
+use Rattle.dec_fix.specs.Writing.{spelling}
+use Rattle.css_out.specs.Piece.{Mark, Piece, mark, var, number, percent, unit, string, word, opens, closes, comma, slash, is_comma, is_opening, is_closing}
+use Rattle.css_out.specs.Reading.{Declared}
+
+-- `\` stands before `"` and `\`
+abbrev pub escape : ℕ → List ℕ
+escape c = if (c == 34) || (c == 92) then 92 ∷ c ∷ [] else c ∷ []
+
+abbrev pub mark_text : Mark → List ℕ
+mark_text (number d) = spelling d
+mark_text (percent d) = spelling d ++ codes "%"
+mark_text (unit d w) = spelling d ++ w
+mark_text (string x) = codes "\"" ++ (flat_map escape x ++ codes "\"")
+mark_text (word w) = w
+mark_text (opens w) = w ++ codes "("
+mark_text closes = codes ")"
+mark_text comma = codes ","
+mark_text slash = codes "/"
+
+abbrev pub piece_text : Piece → List ℕ
+piece_text (mark m) = mark_text m
+piece_text (var n) = codes "var(" ++ (n ++ codes ")")
+
+abbrev pub is_comma_piece : Piece → Bool
+is_comma_piece (mark m) = is_comma m
+is_comma_piece (var n) = false
+
+-- no blank stands before a comma and before the end of a function
+abbrev pub is_tight : Piece → Bool
+is_tight p = is_comma_piece p || is_closing p
+
+-- A blank stands between two pieces; not at the start (where it is tight), behind the name of a function, before a comma and
+-- before a function's end.
+abbrev pub pieces_from : Bool → List Piece → List ℕ
+pieces_from tight [] = []
+pieces_from tight (p ∷ ps) = (if is_tight p || tight then [] else codes " ") ++ (piece_text p ++ pieces_from (is_opening p) ps)
+
+abbrev pub pieces_text : List Piece → List ℕ
+pieces_text ps = pieces_from true ps
+
+-- two blanks, the name, `: `, the value, `;` and a newline
+abbrev pub line_text : Declared → List ℕ
+line_text d = codes "  " ++ (d.name ++ (codes ": " ++ (pieces_text d.pieces ++ codes ";\n")))
+
+abbrev pub omitted_text : List ℕ → List ℕ
+omitted_text name = codes "  /* omitted " ++ (name ++ codes " */\n")
+
+-- the lines of a token of the name; a comment where it has none
+abbrev pub body_text : List ℕ → List Declared → List ℕ
+body_text name [] = omitted_text name
+body_text name (d ∷ ds) = flat_map line_text (d ∷ ds)
