@@ -9,13 +9,12 @@ use Rattle.composite_rules.specs.declared.gradient.ColorStop.{ColorStop}
 use Rattle.composite_rules.specs.declared.shadow.ShadowItem.{ShadowItem}
 use Rattle.composite_rules.specs.declared.typed.Typed.{Typed}
 use Rattle.composite_rules.specs.declared.typed.Typed.TheVariants as typed
-use Rattle.css_out.specs.Parts.{Part, plain, linked, shown, own, Entry, declaration, value}
+use Rattle.css_out.specs.Parts.{Part, plain, linked, shown, own, Entry, declaration, value, as_declared}
 use Rattle.css_out.specs.Piece.{Mark, mark}
 use Rattle.css_out.specs.PlatformValue.{can_spell, css_values}
 use Rattle.css_out.specs.Fragment.{css_name, behind_commas, listed_parts, is_only, item_part, shadow_parts, stop_parts, lines_of, entries, fragment_entries}
-use Rattle.css_out.specs.Laws.{as_declared}
-use Rattle.css_out.proofs.Nesting.{marks-append}
-use Rattle.css_out.proofs.Owned.{own_values}
+use Rattle.css_out.proofs.RoundsEnd.{marks-append}
+use Rattle.css_out.proofs.OwnValues.{own_values}
 
 abbrev IsPlain : Part → Type 0
 IsPlain (plain marks) = ⊤

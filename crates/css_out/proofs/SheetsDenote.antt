@@ -14,17 +14,17 @@ use Rattle.css_out.specs.Piece.{Mark, Values, value_names}
 use Rattle.css_out.specs.PlatformValue.{css_values}
 use Rattle.css_out.specs.Reading.{Declared, Block, ended, head, foot}
 use Rattle.css_out.specs.Rounds.{Denotes}
-use Rattle.css_out.specs.Parts.{Part, plain, linked, Entry, declaration, value, Nested, no_parts, itself, leads}
+use Rattle.css_out.specs.Parts.{Part, plain, linked, Entry, declaration, value}
 use Rattle.css_out.specs.Fragment.{css_name, spelled_links}
 use Rattle.css_out.specs.Sources.{TargetsAreNamed, IsFrom, ComesFrom}
 use Rattle.css_out.specs.Sheets.{Cell, css_frame, cell_name, cell_entries, cell_text, cell_values, cell_names, sheet_bytes, sheet_values, LeadsTo, LinksLead, no_links, link_leads, IsSheet, Refers}
-use Rattle.css_out.proofs.Joined.{joined}
-use Rattle.css_out.proofs.Linked.{come_from}
-use Rattle.css_out.proofs.Nesting.{denotes, value_in}
-use Rattle.css_out.proofs.Owned.{own_values}
-use Rattle.css_out.proofs.OwnNames.{own_apart}
-use Rattle.css_out.proofs.Sounds.{entries_sound}
-use Rattle.css_out.proofs.Spelled.{body_read}
+use Rattle.css_out.proofs.BlocksJoin.{joined}
+use Rattle.css_out.proofs.NamesComeFromLinks.{come_from}
+use Rattle.css_out.proofs.RoundsEnd.{Nested, no_parts, itself, leads, denotes, value_in}
+use Rattle.css_out.proofs.OwnValues.{own_values}
+use Rattle.css_out.proofs.OwnNamesApart.{own_apart}
+use Rattle.css_out.proofs.LinesAreSpellable.{entries_sound}
+use Rattle.css_out.proofs.SpelledIsRead.{body_read}
 
 -- lists
 in_left : {A : Type 0} (x : A) (xs ys : List A) → In x xs → In x (xs ++ ys)

@@ -7,11 +7,11 @@ use Rattle.transforms.specs.PlatformName.{is_property}
 use Rattle.composite_rules.specs.Sound.{kind_of, IsTyped}
 use Rattle.composite_rules.specs.declared.typed.Typed.{Typed}
 use Rattle.css_out.specs.Lists.{AreApart, Each}
-use Rattle.css_out.specs.Piece.{Mark, mark, value_names}
+use Rattle.css_out.specs.Piece.{value_names}
 use Rattle.css_out.specs.PlatformValue.{can_spell, css_values}
-use Rattle.css_out.specs.Reading.{Declared, Block, Reads, head, foot}
+use Rattle.css_out.specs.Reading.{Declared, Block, Reads}
 use Rattle.css_out.specs.Rounds.{Denotes}
-use Rattle.css_out.specs.Parts.{Entry, declaration, value, Nested}
+use Rattle.css_out.specs.Parts.{declaration, value, as_declared}
 use Rattle.css_out.specs.Fragment.{css_name, entries, fragment_entries}
 use Rattle.css_out.specs.Spelling.{body_text}
 use Rattle.css_out.specs.Sources.{TargetsAreNamed, ComesFrom, HasRoom}
@@ -25,11 +25,6 @@ BlocksJoin = (s t : List ℕ) (ds es : List Declared) → Block s ds → Block t
 -- bytes are one sheet at most
 abbrev pub ReadOnce : Type 0
 ReadOnce = (bytes : List ℕ) (ds es : List Declared) → Reads bytes ds → Reads bytes es → ds ≡ es
-
--- Where names differ and at most 256 links stand one behind the other, the lines of entries denote the values of the entries.
-abbrev pub EntriesDenote : Type 0
-EntriesDenote = (inside : List ℕ) (es : List Entry) → Block inside (map declaration es) → AreApart (value_names (map value es))
-    → Each es (λ e. Nested es 256 e.parts) → Denotes (head ++ (inside ++ foot)) (map value es)
 
 -- without references the lines of a token have its values
 abbrev pub OwnValues : Type 0
@@ -48,10 +43,6 @@ FragmentsRead = (prefix name : List ℕ) (links : List Link) (v : Typed) → IsT
 abbrev pub NamesComeFromLinks : Type 0
 NamesComeFromLinks = (prefix name : List ℕ) (links : List Link) (v : Typed) → HasRoom v
     → AllByRecursion (λ e. AllByRecursion (ComesFrom prefix links v) e.parts) (entries prefix links name v)
-
--- a name and its value as a declaration without `var()`
-abbrev pub as_declared : List ℕ × List Mark → Declared
-as_declared v = record { name = v.0; pieces = map mark v.1 }
 
 -- where references are not spelled as such, the lines of a token are its values, and no `var()` stands in them
 abbrev pub NoReferences : Type 0

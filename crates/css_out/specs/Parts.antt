@@ -1,6 +1,5 @@
 -- Values in parts, each by itself or by the name of another token, and lines that declare them.
-use Rattle.std.specs.Prelude.{ℕ, suc, ◌≡◌, List, [], ◌∷◌, map, flat_map}
-use Rattle.css_out.specs.Lists.{In}
+use Rattle.std.specs.Prelude.{ℕ, List, [], ◌∷◌, map, flat_map}
 use Rattle.css_out.specs.Piece.{Mark, Piece, mark, var}
 use Rattle.css_out.specs.Reading.{Declared}
 
@@ -36,9 +35,6 @@ declaration e = record { name = e.name; pieces = shown e.parts }
 abbrev pub value : Entry → List ℕ × List Mark
 value e = (e.name, own e.parts)
 
--- Each link leads to an entry whose own marks are the part's, and at most k links stand one behind the other.
-pub data Nested (es : List Entry) : ℕ → List Part → Type 0 where
-  no_parts : {k : ℕ} → Nested es k []
-  itself : {k : ℕ} {ms : List Mark} {parts : List Part} → Nested es k parts → Nested es k (plain ms ∷ parts)
-  leads : {k : ℕ} {n : List ℕ} {ms : List Mark} {parts : List Part} (e : Entry) → In e es → value e ≡ (n, ms) → Nested es k e.parts
-      → Nested es (suc k) parts → Nested es (suc k) (linked n ms ∷ parts)
+-- a name and its value as a declaration without `var()`
+abbrev pub as_declared : List ℕ × List Mark → Declared
+as_declared v = record { name = v.0; pieces = map mark v.1 }

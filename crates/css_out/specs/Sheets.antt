@@ -9,13 +9,13 @@ use Rattle.composite_rules.specs.Parts.{part_at}
 use Rattle.composite_rules.specs.Sound.{kind_of, IsTyped}
 use Rattle.composite_rules.specs.declared.typed.Typed.{Typed}
 use Rattle.css_out.specs.Lists.{In, Each}
-use Rattle.css_out.specs.Piece.{Mark, Values, value_names}
+use Rattle.css_out.specs.Piece.{Mark, Values}
 use Rattle.css_out.specs.PlatformValue.{css_values}
 use Rattle.css_out.specs.Reading.{head, foot}
 use Rattle.css_out.specs.Rounds.{HasValue}
-use Rattle.css_out.specs.Parts.{Part, plain, linked, Entry, declaration}
+use Rattle.css_out.specs.Parts.{Part, plain, linked, Entry}
 use Rattle.css_out.specs.Fragment.{css_name, fragment_entries}
-use Rattle.css_out.specs.Spelling.{body_text}
+use Rattle.css_out.specs.Spelling.{fragment_names, fragment_text}
 use Rattle.css_out.specs.Sources.{HasRoom}
 
 -- a token of a sheet: its path, the links in its value, and its value
@@ -37,14 +37,14 @@ module _ (settings : Settings) where
   cell_entries c = fragment_entries settings c.path c.links c.typed
 
   abbrev pub cell_text : Cell → List ℕ
-  cell_text c = body_text (cell_name c) (map declaration (cell_entries c))
+  cell_text c = fragment_text settings c.path c.links c.typed
 
   -- what it is to have
   abbrev pub cell_values : Cell → Values
   cell_values c = css_values (cell_name c) c.typed
 
   abbrev pub cell_names : Cell → Named
-  cell_names c = record { path = c.path; names = value_names (cell_values c) }
+  cell_names c = record { path = c.path; names = fragment_names settings c.path c.typed }
 
   -- the bytes of the sheet, and what its names are to have
   abbrev pub sheet_bytes : List Cell → List ℕ

@@ -1,7 +1,9 @@
 -- Where the references in a token's lines come from.
 use Rattle.std.specs.Prelude.{◌≡◌, true, ℕ, ◌^◌, ◌≤◌, length, List, Some, ⊤}
 use Rattle.std.specs.List.{AllByRecursion}
+use Rattle.name_path.specs.Names.{IsTokenPath}
 use Rattle.name_path.specs.declared.link.Link.{Link}
+use Rattle.transforms.specs.Config.{Settings}
 use Rattle.transforms.specs.PlatformName.{is_property}
 use Rattle.composite_rules.specs.Parts.{part_at}
 use Rattle.composite_rules.specs.Sound.{kind_of}
@@ -9,6 +11,8 @@ use Rattle.composite_rules.specs.declared.typed.Typed.{Typed}
 use Rattle.composite_rules.specs.declared.typed.Typed.TheVariants as typed
 use Rattle.css_out.specs.Lists.{In}
 use Rattle.css_out.specs.Piece.{Mark}
+use Rattle.css_out.specs.Reading.{Block}
+use Rattle.css_out.specs.Spelling.{fragment_lines}
 use Rattle.css_out.specs.Parts.{Part, plain, linked}
 use Rattle.css_out.specs.PlatformValue.{css_values}
 use Rattle.css_out.specs.Fragment.{css_name}
@@ -16,6 +20,15 @@ use Rattle.css_out.specs.Fragment.{css_name}
 -- the tokens to which links lead have names of CSS
 abbrev pub TargetsAreNamed : List ℕ → List Link → Type 0
 TargetsAreNamed prefix links = AllByRecursion (λ l. is_property (css_name prefix l.target) ≡ true) links
+
+-- the path, as one that a token can have, has a name of CSS
+abbrev pub IsNamed : Settings → List (List ℕ) → Type 0
+IsNamed settings path = IsTokenPath path → is_property (css_name settings.prefix path) ≡ true
+
+-- The text is read as the token's lines, where the token's path and its links have names of CSS.
+abbrev pub IsReadAsLines : Settings → List (List ℕ) → List Link → Typed → List ℕ → Type 0
+IsReadAsLines settings path links v text =
+    IsTokenPath path → TargetsAreNamed settings.prefix links → Block text (fragment_lines settings path links v)
 
 -- A part that is spelled by a name comes from a link: what stands there in the value has the kind of the link's token, and
 -- under the name of that token this name has the part's own marks.

@@ -1,8 +1,14 @@
 -- The bytes of pieces, lines and fragments.
-use Rattle.std.specs.Prelude.{ℕ, ◌==◌, ◌||◌, Bool, true, false, List, [], ◌∷◌, ◌++◌, codes, if◌then◌else◌, flat_map}
+use Rattle.std.specs.Prelude.{ℕ, ◌==◌, ◌||◌, Bool, true, false, List, [], ◌∷◌, ◌++◌, codes, if◌then◌else◌, map, flat_map}
 use Rattle.dec_fix.specs.Writing.{spelling}
-use Rattle.css_out.specs.Piece.{Mark, Piece, mark, var, number, percent, unit, string, word, opens, closes, comma, slash, is_comma, is_opening, is_closing}
+use Rattle.name_path.specs.declared.link.Link.{Link}
+use Rattle.transforms.specs.Config.{Settings}
+use Rattle.composite_rules.specs.declared.typed.Typed.{Typed}
+use Rattle.css_out.specs.Piece.{Mark, Piece, mark, var, number, percent, unit, string, word, opens, closes, comma, slash, is_comma, is_opening, is_closing, value_names}
+use Rattle.css_out.specs.PlatformValue.{css_values}
 use Rattle.css_out.specs.Reading.{Declared}
+use Rattle.css_out.specs.Parts.{declaration}
+use Rattle.css_out.specs.Fragment.{css_name, fragment_entries}
 
 -- `\` stands before `"` and `\`
 abbrev pub escape : ℕ → List ℕ
@@ -51,3 +57,13 @@ omitted_text name = codes "  /* omitted " ++ (name ++ codes " */\n")
 abbrev pub body_text : List ℕ → List Declared → List ℕ
 body_text name [] = omitted_text name
 body_text name (d ∷ ds) = flat_map line_text (d ∷ ds)
+
+-- the lines of the token at the path, the names that they declare, and their text
+abbrev pub fragment_lines : Settings → List (List ℕ) → List Link → Typed → List Declared
+fragment_lines settings path links v = map declaration (fragment_entries settings path links v)
+
+abbrev pub fragment_names : Settings → List (List ℕ) → Typed → List (List ℕ)
+fragment_names settings path v = value_names (css_values (css_name settings.prefix path) v)
+
+abbrev pub fragment_text : Settings → List (List ℕ) → List Link → Typed → List ℕ
+fragment_text settings path links v = body_text (css_name settings.prefix path) (fragment_lines settings path links v)

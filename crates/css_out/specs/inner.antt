@@ -1,1 +1,2 @@
-pub mod Spellable
+pub mod Added
+pub mod Written

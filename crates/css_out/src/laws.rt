@@ -1,14 +1,12 @@
 //! Laws of the definitions alone, for the layers above.
 
-ghost use Rattle.css_out.specs.Laws.{BlocksJoin, ReadOnce, EntriesDenote, OwnValues, OwnNamesApart, FragmentsRead, NamesComeFromLinks, NoReferences, ValuesDiffer, SheetsDenote, ReferencesDenote};
+ghost use Rattle.css_out.specs.Laws.{BlocksJoin, ReadOnce, OwnValues, OwnNamesApart, FragmentsRead, NamesComeFromLinks, NoReferences, ValuesDiffer, SheetsDenote, ReferencesDenote};
 
 /// What a text declares, read alone, it declares before any other text too, so that between its frame a sheet declares what
-/// its fragments declare, one after another. Bytes are one sheet at most. Where names differ and each link leads to a line
-/// with the part's own marks, the names of a sheet stand for the values of its lines without references.
+/// its fragments declare, one after another. Bytes are one sheet at most.
 pub fn reading_laws()
     ensures join { BlocksJoin }
     ensures once { ReadOnce }
-    ensures denote { EntriesDenote }
 {}
 
 /// Without references the lines of a token have the values that it is to have, under names that differ. The text of a token,

@@ -6,5 +6,15 @@
 #![tactic(auto)]
 
 mod laws;
+mod line;
+mod links;
+mod spellable;
+mod spelling;
+#[cfg(test)]
+mod tests;
+mod token;
+mod typography;
+mod writing;
 
 pub use laws::{fragment_laws, reading_laws, sheet_laws};
+pub use writing::{FRAME, fragment, frame};

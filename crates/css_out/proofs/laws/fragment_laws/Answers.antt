@@ -1,10 +1,10 @@
-use Rattle.css_out.proofs.Owned.{own_values}
-use Rattle.css_out.proofs.OwnNames.{own_apart}
-use Rattle.css_out.proofs.Linked.{come_from}
-use Rattle.css_out.proofs.Sounds.{entries_sound}
-use Rattle.css_out.proofs.Spelled.{body_read}
+use Rattle.css_out.proofs.OwnValues.{own_values}
+use Rattle.css_out.proofs.OwnNamesApart.{own_apart}
+use Rattle.css_out.proofs.NamesComeFromLinks.{come_from}
+use Rattle.css_out.proofs.LinesAreSpellable.{entries_sound}
+use Rattle.css_out.proofs.SpelledIsRead.{body_read}
 use Rattle.css_out.proofs.NoReferences.{no_references}
-use Rattle.css_out.proofs.EqualValues.{equal_values}
+use Rattle.css_out.proofs.ValuesDiffer.{equal_values}
 use Rattle.css_out.proofs.laws.fragment_laws.Goals as goal
 
 pub returns-clause-values : goal.returns-clause-values

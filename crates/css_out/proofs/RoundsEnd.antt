@@ -7,8 +7,15 @@ use Rattle.css_out.specs.Lists.{In, AreApart, Each}
 use Rattle.css_out.specs.Piece.{Mark, Piece, mark, var, value_names}
 use Rattle.css_out.specs.Reading.{Declared, Block, Reads, head, foot}
 use Rattle.css_out.specs.Rounds.{declared_for, or_var, put, rounds, IsValue, Denotes}
-use Rattle.css_out.specs.Parts.{Part, shown, own, Entry, declaration, value, Nested, no_parts, itself, leads}
-use Rattle.css_out.proofs.Once.{read_once}
+use Rattle.css_out.specs.Parts.{Part, shown, own, plain, linked, Entry, declaration, value}
+use Rattle.css_out.proofs.OneReading.{read_once}
+
+-- Each link leads to an entry whose own marks are the part's, and at most k links stand one behind the other.
+pub data Nested (es : List Entry) : ℕ → List Part → Type 0 where
+  no_parts : {k : ℕ} → Nested es k []
+  itself : {k : ℕ} {ms : List Mark} {parts : List Part} → Nested es k parts → Nested es k (plain ms ∷ parts)
+  leads : {k : ℕ} {n : List ℕ} {ms : List Mark} {parts : List Part} (e : Entry) → In e es → value e ≡ (n, ms) → Nested es k e.parts
+      → Nested es (suc k) parts → Nested es (suc k) (linked n ms ∷ parts)
 
 module _ (env : List ℕ → Option (List Piece)) where
   pub rounds-append : (k : ℕ) (ps qs : List Piece) → rounds k env (ps ++ qs) ≡ rounds k env ps ++ rounds k env qs

@@ -49,10 +49,10 @@ use Rattle.css_out.specs.Links.{link_for, item_link}
 use Rattle.css_out.specs.Parts.{Part, shown_part, shown, Entry, declaration}
 use Rattle.css_out.specs.PlatformValue.{size_marks, time_marks, number_marks, curve_marks, function_name, space_marks, has_percents, component_mark, component_marks, alpha_marks, color_marks, listed, is_generic, family_marks, families_marks, simple_marks, stroke_marks, border_marks, transition_marks, inset_marks, shadow_marks, position_mark, stop_marks, family_end, size_end, weight_end, spacing_end, height_end, can_spell}
 use Rattle.css_out.specs.Fragment.{css_name, part, unless_linked, behind_commas, listed_parts, is_only, border_parts, transition_parts, shadow_parts, stop_parts, value_parts, typography_part, typography_line, lines_of, entries}
-use Rattle.css_out.specs.inner.Spellable.{is_word, is_unit, IsSpellableMark, IsSpellable, AreSpellable}
-use Rattle.css_out.proofs.Generic.{generic_is_word}
-use Rattle.css_out.proofs.Nesting.{marks-append}
-use Rattle.css_out.proofs.Spelled.{IsLine}
+use Rattle.css_out.proofs.SpellablePieces.{is_word, is_unit, IsSpellableMark, IsSpellable, AreSpellable}
+use Rattle.css_out.proofs.GenericsAreWords.{generic_is_word}
+use Rattle.css_out.proofs.RoundsEnd.{marks-append}
+use Rattle.css_out.proofs.SpelledIsRead.{IsLine}
 
 -- pieces that can be spelled, wherever they stand
 record Sound (ps : List Piece) : Type 0 where

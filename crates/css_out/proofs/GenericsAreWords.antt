@@ -3,7 +3,7 @@ use Rattle.std.proofs.Common.{◌≡◌, ℕ, ◌||◌, Bool, true, false, List,
 use Rattle.std.specs.Str.{bytes_eq}
 use Rattle.std.proofs.lemmas.Slice.Eq.{bytes_eq-Decides}
 use Rattle.css_out.specs.PlatformValue.{is_generic}
-use Rattle.css_out.specs.inner.Spellable.{is_word}
+use Rattle.css_out.proofs.SpellablePieces.{is_word}
 
 among : (t b : Bool) (f w : List ℕ) → bytes_eq f w ≡ t → is_word w ≡ true → (b ≡ true → is_word f ≡ true) → (t || b) ≡ true → is_word f ≡ true
 among true b f w e good other h = let same : f ≡ w = (bytes_eq-Decides f w).0 e in rw same good

@@ -17,7 +17,7 @@ use Rattle.transforms.specs.declared.platform.Platform.TheVariants.{Css}
 use Rattle.css_out.specs.Piece.{Piece, mark, var, number, percent, unit, string, word, opens, closes, comma, slash, is_opening}
 use Rattle.css_out.specs.Reading.{in_word, in_name, is_some, front, rest, is_var, worded, with_first, string_from, string_piece, measured, numbered, starts_digit, is_blank, after_comment, take, taken, step, Pieces, stops, skips, takes, are_closed, meets, Declared, names, passed, turn, Block, ended, passes, declared}
 use Rattle.css_out.specs.Spelling.{escape, piece_text, is_tight, pieces_from, pieces_text, line_text, omitted_text, body_text}
-use Rattle.css_out.specs.inner.Spellable.{is_word, is_unit, IsSpellable, AreSpellable}
+use Rattle.css_out.proofs.SpellablePieces.{is_word, is_unit, IsSpellable, AreSpellable}
 
 -- a blank, a comma, `)` or `;` ends each piece
 abbrev ends : List ℕ → Bool

@@ -1,0 +1,275 @@
+//! Lines of tokens against those of an independent writer.
+
+ghost use Rattle.std.specs.Prelude.{IfOk};
+ghost use Rattle.composite_rules.specs.Sound.{IsTyped};
+
+mod reading;
+mod table;
+
+use crate::*;
+use composite_rules::{Typed, check, value_laws};
+use json_span::{Plain, PlainItems};
+use name_path::{Kind, Link, Links, Path, Trail};
+use reading::plain;
+use std::alloc::Global;
+use std::process::Abort;
+use std::test::Fail;
+use tk_io::{Bytes, NoMemory, Text};
+use transforms::{Config, Frag, Names, Sheet, read_config};
+use type_rules::ValueFault;
+
+fn typed<'s>(alloc: Global, kind: Kind, plain: &Plain<'s>) -> Result<Typed<'s>, ValueFault<'s>>
+    ensures { IfOk result (λ v. IsTyped v) }
+{
+    value_laws();
+    check(alloc, kind, plain)
+}
+
+fn path<'s>(alloc: Global, text: &'s str) -> Result<Path<'s>, NoMemory> {
+    let mut path = Path::new(alloc);
+    for name in text.split('.') {
+        path.push(Text::of(name))?;
+    }
+    Ok(path)
+}
+
+fn trail<'s>(alloc: Global, text: &'s str) -> Result<Trail<'s>, NoMemory> {
+    let mut trail = Trail::new(alloc);
+    if text.is_empty() {
+        return Ok(trail);
+    }
+    for step in text.split('/') {
+        trail.push(Text::of(step))?;
+    }
+    Ok(trail)
+}
+
+/// The links of a row: each a trail, a target and a kind.
+fn links<'s>(alloc: Global, text: &'s str) -> Result<Links<'s>, NoMemory> {
+    let mut links = Links::new(alloc);
+    for link in text.split(';') {
+        let mut parts = link.split('>');
+        let (Some(steps), Some(target), Some(kind)) = (parts.next(), parts.next(), parts.next())
+        else {
+            continue;
+        };
+        links.push(Link {
+            trail: trail(alloc, steps)?,
+            target: path(alloc, target)?,
+            kind: Kind::named(kind),
+        })?;
+    }
+    Ok(links)
+}
+
+fn config(alloc: Global, prefix: &str, references: bool) -> Result<Config, Fail> {
+    let text = format!(in alloc; "prefix = \"{prefix}\"\nreferences = {references}\n")?;
+    match read_config(alloc, text.as_str()) {
+        Ok(config) => Ok(config),
+        Err(_) => Err(Fail::from(NoMemory)),
+    }
+}
+
+/// The names, each with a newline behind it.
+fn listed(alloc: Global, names: &Names) -> Result<Bytes, NoMemory> {
+    let mut out = Bytes::new(alloc);
+    for name in names.as_slice() {
+        out.append(name.as_slice())?;
+        out.append(b"\n")?;
+    }
+    Ok(out)
+}
+
+/// Whether the fragment has these lines, and the names that they declare.
+fn has_lines(alloc: Global, frag: &Frag, lines: &str) -> Result<bool, NoMemory> {
+    let mut body = Bytes::new(alloc);
+    let mut names = Bytes::new(alloc);
+    for line in lines.split('|') {
+        body.append(b"  ")?;
+        body.append(line.as_bytes())?;
+        body.append(b"\n")?;
+        if let Some((name, _)) = line.split_once(": ") {
+            names.append(name.as_bytes())?;
+            names.append(b"\n")?;
+        }
+    }
+    let declared = listed(alloc, &frag.names)?;
+    Ok(frag.body.as_slice() == body.as_slice() && declared.as_slice() == names.as_slice())
+}
+
+/// Whether the value with the links has the lines.
+fn is_written(
+    alloc: Global,
+    path: &Path<'_>,
+    config: &Config,
+    kind: Kind,
+    row: &str,
+) -> Result<bool, NoMemory> {
+    let mut parts = row.splitn(3, '|');
+    let (Some(text), Some(listed), Some(lines)) = (parts.next(), parts.next(), parts.next()) else {
+        return Ok(false);
+    };
+    let links = links(alloc, listed)?;
+    let value = plain(alloc, text)?;
+    match typed(alloc, kind, &value) {
+        Ok(typed) => {
+            let frag = fragment(alloc, path, &typed, &links, config)?;
+            has_lines(alloc, &frag, lines)
+        }
+        Err(ValueFault::Broken { .. }) => Ok(false),
+        Err(ValueFault::NoMemory) => Err(NoMemory),
+    }
+}
+
+#[test]
+fn values_have_their_lines(rt: HostRuntime) -> Result<(), Fail> {
+    let path = path(rt.alloc(), "t")?;
+    let config = Config::plain(rt.alloc());
+    let mut count = 0u32;
+    for (kind, rows) in [
+        (Kind::Dimension, table::DIMENSIONS),
+        (Kind::Duration, table::DURATIONS),
+        (Kind::Number, table::NUMBERS),
+        (Kind::CubicBezier, table::CURVES),
+        (Kind::FontFamily, table::FAMILIES),
+        (Kind::FontWeight, table::WEIGHTS),
+        (Kind::Color, table::COLORS),
+        (Kind::StrokeStyle, table::STROKE_STYLES),
+        (Kind::Border, table::BORDERS),
+        (Kind::Transition, table::TRANSITIONS),
+        (Kind::Shadow, table::SHADOWS),
+        (Kind::Gradient, table::GRADIENTS),
+        (Kind::Typography, table::TYPOGRAPHIES),
+    ] {
+        for row in rows.lines() {
+            if row.is_empty() {
+                continue;
+            }
+            assert!(rt; is_written(rt.alloc(), &path, &config, kind, row)?, "{row}");
+            count = count.saturating_add(1);
+        }
+    }
+    assert_eq!(rt; count, 155);
+    Ok(())
+}
+
+/// Whether the token of a row has the row's lines: a path, a prefix, `var` where references are spelled, a kind, and a row
+/// of values.
+fn is_token_written(alloc: Global, row: &str) -> Result<bool, Fail> {
+    let mut parts = row.splitn(5, '|');
+    let (Some(name), Some(prefix), Some(references)) = (parts.next(), parts.next(), parts.next())
+    else {
+        return Ok(false);
+    };
+    let (Some(kind), Some(value)) = (parts.next(), parts.next()) else {
+        return Ok(false);
+    };
+    let Some(kind) = Kind::named(kind) else {
+        return Ok(false);
+    };
+    let path = path(alloc, name)?;
+    let config = config(alloc, prefix, references == "var")?;
+    Ok(is_written(alloc, &path, &config, kind, value)?)
+}
+
+#[test]
+fn tokens_have_their_lines(rt: HostRuntime) -> Result<(), Fail> {
+    let mut count = 0u32;
+    for row in table::TOKENS.lines() {
+        if row.is_empty() {
+            continue;
+        }
+        assert!(rt; is_token_written(rt.alloc(), row)?, "{row}");
+        count = count.saturating_add(1);
+    }
+    assert_eq!(rt; count, 22);
+    Ok(())
+}
+
+const FAMILIES: [(&str, &str); 12] = [
+    (r#"say "hi""#, r#"--t: "say \"hi\"";"#),
+    (r"back\slash", r#"--t: "back\\slash";"#),
+    (r#"\""#, r#"--t: "\\\"";"#),
+    ("'", r#"--t: "'";"#),
+    ("}", r#"--t: "}";"#),
+    (
+        "\u{a0}\u{fffd}\u{10ffff}",
+        "--t: \"\u{a0}\u{fffd}\u{10ffff}\";",
+    ),
+    ("\t", "/* omitted --t */"),
+    ("a\nb", "/* omitted --t */"),
+    ("\u{1f}", "/* omitted --t */"),
+    ("\u{7f}", "/* omitted --t */"),
+    ("\u{fffe}", "/* omitted --t */"),
+    ("x\u{ffff}", "/* omitted --t */"),
+];
+
+/// Whether a family, alone and behind another, gives the lines.
+fn is_family_written(alloc: Global, family: &'static str, lines: &str) -> Result<bool, Fail> {
+    let path = path(alloc, "t")?;
+    let config = Config::plain(alloc);
+    let value = Plain::Str(Text::of(family));
+    match typed(alloc, Kind::FontFamily, &value) {
+        Ok(typed) => {
+            let frag = fragment(alloc, &path, &typed, &Links::new(alloc), &config)?;
+            Ok(has_lines(alloc, &frag, lines)?)
+        }
+        Err(_) => Ok(false),
+    }
+}
+
+#[test]
+fn families_are_quoted_or_omitted(rt: HostRuntime) -> Result<(), Fail> {
+    for (family, lines) in FAMILIES {
+        assert!(rt; is_family_written(rt.alloc(), family, lines)?, "{lines}");
+    }
+    Ok(())
+}
+
+/// A family that is not printable behind others.
+#[test]
+fn later_families_are_looked_at(rt: HostRuntime) -> Result<(), Fail> {
+    let alloc = rt.alloc();
+    let mut families = PlainItems::new(alloc);
+    families.push(Plain::Str(Text::of("Inter")))?;
+    families.push(Plain::Str(Text::of("\u{7f}")))?;
+    let value = Plain::Arr(families);
+    let path = path(alloc, "t")?;
+    let config = Config::plain(alloc);
+    match typed(alloc, Kind::FontFamily, &value) {
+        Ok(typed) => {
+            let frag = fragment(alloc, &path, &typed, &Links::new(alloc), &config)?;
+            assert!(rt; has_lines(alloc, &frag, "/* omitted --t */")?);
+        }
+        Err(_) => assert!(rt; false),
+    }
+    Ok(())
+}
+
+/// A sheet of two tokens.
+#[test]
+fn sheet_has_its_frame(rt: HostRuntime) -> Result<(), Fail> {
+    let alloc = rt.alloc();
+    let config = Config::plain(alloc);
+    let mut sheet = Sheet::start(alloc, FRAME)?;
+    for name in ["a", "b"] {
+        let path = path(alloc, name)?;
+        let value = Plain::Num("1");
+        if let Ok(typed) = typed(alloc, Kind::Number, &value) {
+            sheet.add(&fragment(alloc, &path, &typed, &Links::new(alloc), &config)?)?;
+        }
+    }
+    let text = sheet.finish()?;
+    assert_eq!(rt;
+        text.as_slice(),
+        b":root {\n  --a: 1;\n  --b: 1;\n}\n".as_slice()
+    );
+    Ok(())
+}
+
+#[test]
+fn laws_are_called(_rt: HostRuntime) -> Result<(), Fail> {
+    sheet_laws();
+    fragment_laws();
+    Ok(())
+}
