@@ -14,4 +14,5 @@ pub mod RoundsEnd
 pub mod SheetsDenote
 pub mod SpellablePieces
 pub mod SpelledIsRead
+pub mod TextsRead
 pub mod ValuesDiffer

@@ -6,6 +6,7 @@ use Rattle.std.specs.Fmt.{decimal}
 use Rattle.name_path.specs.declared.kind.Kind.{Kind}
 use Rattle.name_path.specs.declared.kind.Kind.TheVariants as kind
 use Rattle.name_path.specs.declared.link.Link.{Link}
+use Rattle.transforms.specs.Config.{Settings}
 use Rattle.composite_rules.specs.Sound.{kind_of}
 use Rattle.composite_rules.specs.declared.border.Border.{Border}
 use Rattle.composite_rules.specs.declared.gradient.ColorStop.{ColorStop}
@@ -14,10 +15,11 @@ use Rattle.composite_rules.specs.declared.transition.Transition.{Transition}
 use Rattle.composite_rules.specs.declared.typed.Typed.{Typed}
 use Rattle.composite_rules.specs.declared.typed.Typed.TheVariants as typed
 use Rattle.css_out.specs.Links.{link_for, item_link}
-use Rattle.css_out.specs.Parts.{Part, own_part, own, Entry, value}
+use Rattle.css_out.specs.Spelling.{fragment_lines, fragment_names}
+use Rattle.css_out.specs.Parts.{declaration, Part, own_part, own, Entry, value}
 use Rattle.css_out.specs.Piece.{Mark, comma, Values, value_names}
 use Rattle.css_out.specs.PlatformValue.{size_marks, time_marks, number_marks, curve_marks, color_marks, families_marks, stroke_marks, simple_marks, family_end, size_end, weight_end, spacing_end, height_end, listed, border_marks, transition_marks, shadow_marks, stop_marks, can_spell, all_values, css_values}
-use Rattle.css_out.specs.Fragment.{css_name, part, unless_linked, behind_commas, listed_parts, is_only, border_parts, transition_parts, shadow_parts, stop_parts, typography_part, lines_of, entries}
+use Rattle.css_out.specs.Fragment.{spelled_links, css_name, part, unless_linked, behind_commas, listed_parts, is_only, border_parts, transition_parts, shadow_parts, stop_parts, typography_part, lines_of, entries}
 
 own-append : (ps qs : List Part) → own (ps ++ qs) ≡ own ps ++ own qs
 own-append ps qs = flat_map-append own_part ps qs
@@ -115,3 +117,14 @@ module _ (prefix : List ℕ) (links : List Link) where
 pub entry_names : (es : List Entry) → map (λ e. e.name) es ≡ value_names (map value es)
 entry_names [] = refl
 entry_names (e ∷ es) = ap (λ ns. e.name ∷ ns) (entry_names es)
+
+-- lines declare the names of their values
+line_names : (es : List Entry) → map (λ d. d.name) (map declaration es) ≡ value_names (map value es)
+line_names [] = refl
+line_names (e ∷ es) = ap (λ ns. e.name ∷ ns) (line_names es)
+
+pub lines_named : (settings : Settings) (path : List (List ℕ)) (links : List Link) (v : Typed) → map (λ d. d.name) (fragment_lines settings path links v) ≡ fragment_names settings path v
+lines_named settings path links v =
+    let name = css_name settings.prefix path in
+    let spelled = spelled_links settings links in
+    line_names (entries settings.prefix spelled name v) ∙ ap value_names (own_values settings.prefix spelled name v)

@@ -6,7 +6,6 @@ use Rattle.name_path.specs.declared.link.Link.{Link}
 use Rattle.transforms.specs.Clash.{ShareNoName}
 use Rattle.transforms.specs.Config.{Settings}
 use Rattle.transforms.specs.PlatformName.{is_property}
-use Rattle.transforms.specs.Sheet.{sheet_text}
 use Rattle.composite_rules.specs.Sound.{kind_of}
 use Rattle.composite_rules.specs.declared.typed.Typed.{Typed}
 use Rattle.css_out.specs.Lists.{In, AreApart, Each}
@@ -17,13 +16,14 @@ use Rattle.css_out.specs.Rounds.{Denotes}
 use Rattle.css_out.specs.Parts.{Part, plain, linked, Entry, declaration, value}
 use Rattle.css_out.specs.Fragment.{css_name, spelled_links}
 use Rattle.css_out.specs.Sources.{TargetsAreNamed, IsFrom, ComesFrom}
-use Rattle.css_out.specs.Sheets.{Cell, css_frame, cell_name, cell_entries, cell_text, cell_values, cell_names, sheet_bytes, sheet_values, LeadsTo, LinksLead, no_links, link_leads, IsSheet, Refers}
+use Rattle.css_out.specs.Sheets.{Cell, cell_name, cell_entries, cell_text, cell_values, cell_names, sheet_bytes, sheet_values, LeadsTo, LinksLead, no_links, link_leads, IsSheet, Refers}
 use Rattle.css_out.proofs.BlocksJoin.{joined}
 use Rattle.css_out.proofs.NamesComeFromLinks.{come_from}
 use Rattle.css_out.proofs.RoundsEnd.{Nested, no_parts, itself, leads, denotes, value_in}
 use Rattle.css_out.proofs.OwnValues.{own_values}
 use Rattle.css_out.proofs.OwnNamesApart.{own_apart}
 use Rattle.css_out.proofs.LinesAreSpellable.{entries_sound}
+use Rattle.css_out.proofs.TextsRead.{framed}
 use Rattle.css_out.proofs.SpelledIsRead.{body_read}
 
 -- lists
@@ -108,15 +108,6 @@ led (link_leads {k} {from} to there way behind more) link (inl same) =
     let P : Link → Type 0 = λ l. LeadsTo from l to in
     record { less = k; is_less = refl; to = to; there = there; way = subst P (sym same) way; behind = behind }
 led (link_leads to there way behind more) link (inr i) = led more link i
-
--- the texts in the frame
-glued_texts : {A : Type 0} (f : A → List ℕ) (xs : List A) → flat_map (λ next. [] ++ next) (map f xs) ≡ flat_map f xs
-glued_texts f [] = refl
-glued_texts f (x ∷ xs) = ap (λ t. f x ++ t) (glued_texts f xs)
-
-framed : {A : Type 0} (f : A → List ℕ) (xs : List A) → sheet_text css_frame (map f xs) ≡ head ++ (flat_map f xs ++ foot)
-framed f [] = refl
-framed f (x ∷ xs) = ap (λ t. head ++ ((f x ++ t) ++ foot)) (glued_texts f xs)
 
 module _ (settings : Settings) (cells : List Cell) (sheet : IsSheet settings cells) where
   abbrev all : List Entry

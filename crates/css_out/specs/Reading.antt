@@ -2,17 +2,19 @@
 -- Blanks, newlines and comments give nothing. Nothing here knows of tokens or kinds.
 use Rattle.std.specs.Prelude.{◌≡◌, zero, suc, ℕ, ◌==◌, ◌&&◌, ◌||◌, Bool, true, false, List, [], ◌∷◌, ◌++◌, codes, Option, Some, None, if◌then◌else◌}
 use Rattle.std.specs.Char.{is_ascii_alphabetic, is_ascii_alphanumeric, is_ascii_digit}
+use Rattle.std.specs.Str.{bytes_eq}
 use Rattle.dec_fix.specs.Decimal.{Decimal}
 use Rattle.dec_fix.specs.Following.{unsigned_at}
+use Rattle.css_out.specs.Characters.{newline, blank, quote, percent_sign, left_bracket, right_bracket, asterisk, comma_sign, hyphen, solidus, colon_sign, semicolon, backslash, low_line}
 use Rattle.css_out.specs.Piece.{Piece, mark, var, number, percent, unit, string, word, opens, closes, comma, slash, is_opening, is_closing}
 
 -- a byte of a word: an ASCII letter, a digit or `-`
 abbrev pub in_word : ℕ → Bool
-in_word c = is_ascii_alphanumeric c || (c == 45)
+in_word c = is_ascii_alphanumeric c || (c == hyphen)
 
 -- a byte of a name behind its `--`: an ASCII letter, a digit, `_` or `-`
 abbrev pub in_name : ℕ → Bool
-in_name c = is_ascii_alphanumeric c || ((c == 95) || (c == 45))
+in_name c = is_ascii_alphanumeric c || ((c == low_line) || (c == hyphen))
 
 -- the bytes at the front that pass, and what follows them
 abbrev pub front : (ℕ → Bool) → List ℕ → List ℕ
@@ -30,21 +32,20 @@ is_some (c ∷ t) = true
 -- a name up to its `)`, behind `var(--`
 abbrev pub closed_name : List ℕ → List ℕ → Option (Piece × List ℕ)
 closed_name n [] = None
-closed_name n (c ∷ t) = if (c == 41) && is_some n then Some (var (45 ∷ 45 ∷ n), t) else None
+closed_name n (c ∷ t) = if (c == right_bracket) && is_some n then Some (var (codes "--" ++ n), t) else None
 
 abbrev pub var_at : List ℕ → Option (Piece × List ℕ)
 var_at [] = None
 var_at (c ∷ []) = None
-var_at (c ∷ d ∷ t) = if (c == 45) && (d == 45) then closed_name (front in_name t) (rest in_name t) else None
+var_at (c ∷ d ∷ t) = if (c == hyphen) && (d == hyphen) then closed_name (front in_name t) (rest in_name t) else None
 
 abbrev pub is_var : List ℕ → Bool
-is_var (a ∷ b ∷ c ∷ []) = (a == 118) && ((b == 97) && (c == 114))
-is_var w = false
+is_var w = bytes_eq w (codes "var")
 
 -- a word, or a function where a `(` stands directly behind it
 abbrev pub worded : List ℕ → List ℕ → Option (Piece × List ℕ)
 worded w [] = Some (mark (word w), [])
-worded w (c ∷ t) = if c == 40 then (if is_var w then var_at t else Some (mark (opens w), t)) else Some (mark (word w), c ∷ t)
+worded w (c ∷ t) = if c == left_bracket then (if is_var w then var_at t else Some (mark (opens w), t)) else Some (mark (word w), c ∷ t)
 
 -- a string's characters up to its `"`, where a `\` gives the character behind it
 abbrev pub with_first : ℕ → Option (List ℕ × List ℕ) → Option (List ℕ × List ℕ)
@@ -54,7 +55,7 @@ with_first c (Some r) = Some (c ∷ r.0, r.1)
 abbrev pub string_from : Bool → List ℕ → Option (List ℕ × List ℕ)
 string_from escaped [] = None
 string_from true (c ∷ t) = with_first c (string_from false t)
-string_from false (c ∷ t) = if c == 34 then Some ([], t) else (if c == 92 then string_from true t else with_first c (string_from false t))
+string_from false (c ∷ t) = if c == quote then Some ([], t) else (if c == backslash then string_from true t else with_first c (string_from false t))
 
 abbrev pub string_piece : Option (List ℕ × List ℕ) → Option (Piece × List ℕ)
 string_piece None = None
@@ -63,7 +64,7 @@ string_piece (Some r) = Some (mark (string r.0), r.1)
 -- letters or `%` directly behind a number make a unit or a percentage
 abbrev pub measured : Decimal → List ℕ → Option (Piece × List ℕ)
 measured d [] = Some (mark (number d), [])
-measured d (c ∷ t) = if c == 37 then Some (mark (percent d), t)
+measured d (c ∷ t) = if c == percent_sign then Some (mark (percent d), t)
     else (if is_ascii_alphabetic c then Some (mark (unit d (front is_ascii_alphabetic (c ∷ t))), rest is_ascii_alphabetic (c ∷ t))
     else Some (mark (number d), c ∷ t))
 
@@ -79,31 +80,31 @@ starts_digit (c ∷ t) = is_ascii_digit c
 abbrev pub piece_at : List ℕ → Option (Piece × List ℕ)
 piece_at [] = None
 piece_at (c ∷ t) =
-    if c == 44 then Some (mark comma, t)
-    else (if c == 41 then Some (mark closes, t)
-    else (if c == 47 then Some (mark slash, t)
-    else (if c == 34 then string_piece (string_from false t)
+    if c == comma_sign then Some (mark comma, t)
+    else (if c == right_bracket then Some (mark closes, t)
+    else (if c == solidus then Some (mark slash, t)
+    else (if c == quote then string_piece (string_from false t)
     else (if is_ascii_digit c then numbered (unsigned_at false (c ∷ t))
-    else (if (c == 45) && starts_digit t then numbered (unsigned_at true t)
+    else (if (c == hyphen) && starts_digit t then numbered (unsigned_at true t)
     else (if is_ascii_alphabetic c then worded (front in_word (c ∷ t)) (rest in_word (c ∷ t)) else None))))))
 
 abbrev pub is_blank : ℕ → Bool
-is_blank c = (c == 32) || (c == 10)
+is_blank c = (c == blank) || (c == newline)
 
 -- what follows the `*/` of a comment
 abbrev pub after_comment : List ℕ → Option (List ℕ)
 after_comment [] = None
 after_comment (c ∷ []) = None
-after_comment (c ∷ d ∷ t) = if (c == 42) && (d == 47) then Some t else after_comment (d ∷ t)
+after_comment (c ∷ d ∷ t) = if (c == asterisk) && (d == solidus) then Some t else after_comment (d ∷ t)
 
 -- what follows a comment, behind its `/`
 abbrev pub skip_star : List ℕ → Option (List ℕ)
 skip_star [] = None
-skip_star (c ∷ t) = if c == 42 then after_comment t else None
+skip_star (c ∷ t) = if c == asterisk then after_comment t else None
 
 abbrev pub starts_star : List ℕ → Bool
 starts_star [] = false
-starts_star (c ∷ t) = c == 42
+starts_star (c ∷ t) = c == asterisk
 
 -- what stands at the front of a value: its end, something that gives nothing, a piece, or none of these
 pub data Step : Type 0 where
@@ -123,9 +124,9 @@ taken (Some r) = take r.0 r.1
 abbrev pub step : List ℕ → Step
 step [] = wrong
 step (c ∷ t) =
-    if c == 59 then stop
+    if c == semicolon then stop
     else (if is_blank c then skip t
-    else (if (c == 47) && starts_star t then skipped (skip_star t)
+    else (if (c == solidus) && starts_star t then skipped (skip_star t)
     else taken (piece_at (c ∷ t))))
 
 -- A value's pieces up to its `;`, with which the second text begins.
@@ -154,9 +155,9 @@ are_closed k (p ∷ ps) =
 abbrev pub colon : List ℕ → Step
 colon [] = wrong
 colon (c ∷ t) =
-    if c == 58 then stop
+    if c == colon_sign then stop
     else (if is_blank c then skip t
-    else (if c == 47 then skipped (skip_star t) else wrong))
+    else (if c == solidus then skipped (skip_star t) else wrong))
 
 abbrev pub tail : List ℕ → List ℕ
 tail [] = []
@@ -186,18 +187,18 @@ passed (Some t) = pass t
 -- `--` and one byte of a name or more, behind which something stands
 abbrev pub named : List ℕ → List ℕ → Turn
 named n [] = other
-named n (c ∷ t) = if is_some n then names (45 ∷ 45 ∷ n) (c ∷ t) else other
+named n (c ∷ t) = if is_some n then names (codes "--" ++ n) (c ∷ t) else other
 
 abbrev pub dashed : List ℕ → Turn
 dashed [] = other
-dashed (c ∷ t) = if c == 45 then named (front in_name t) (rest in_name t) else other
+dashed (c ∷ t) = if c == hyphen then named (front in_name t) (rest in_name t) else other
 
 abbrev pub turn : List ℕ → Turn
 turn [] = over
 turn (c ∷ t) =
     if is_blank c then pass t
-    else (if c == 47 then passed (skip_star t)
-    else (if c == 45 then dashed t else other))
+    else (if c == solidus then passed (skip_star t)
+    else (if c == hyphen then dashed t else other))
 
 -- The declarations of a text, read alone.
 pub data Block : List ℕ → List Declared → Type 0 where

@@ -4,6 +4,7 @@ use Rattle.dec_fix.specs.Writing.{spelling}
 use Rattle.name_path.specs.declared.link.Link.{Link}
 use Rattle.transforms.specs.Config.{Settings}
 use Rattle.composite_rules.specs.declared.typed.Typed.{Typed}
+use Rattle.css_out.specs.Characters.{quote, backslash}
 use Rattle.css_out.specs.Piece.{Mark, Piece, mark, var, number, percent, unit, string, word, opens, closes, comma, slash, is_comma, is_opening, is_closing, value_names}
 use Rattle.css_out.specs.PlatformValue.{css_values}
 use Rattle.css_out.specs.Reading.{Declared}
@@ -12,7 +13,7 @@ use Rattle.css_out.specs.Fragment.{css_name, fragment_entries}
 
 -- `\` stands before `"` and `\`
 abbrev pub escape : ℕ → List ℕ
-escape c = if (c == 34) || (c == 92) then 92 ∷ c ∷ [] else c ∷ []
+escape c = if (c == quote) || (c == backslash) then backslash ∷ c ∷ [] else c ∷ []
 
 abbrev pub mark_text : Mark → List ℕ
 mark_text (number d) = spelling d

@@ -1,11 +1,12 @@
 //! Laws of the definitions alone, for the layers above.
 
-ghost use Rattle.css_out.specs.Laws.{BlocksJoin, ReadOnce, OwnValues, OwnNamesApart, FragmentsRead, NamesComeFromLinks, NoReferences, ValuesDiffer, SheetsDenote, ReferencesDenote};
+ghost use Rattle.css_out.specs.Laws.{BlocksJoin, TextsRead, ReadOnce, OwnValues, LinesAreNamed, OwnNamesApart, FragmentsRead, NamesComeFromLinks, NoReferences, ValuesDiffer, SheetsDenote, ReferencesDenote};
 
 /// What a text declares, read alone, it declares before any other text too, so that between its frame a sheet declares what
 /// its fragments declare, one after another. Bytes are one sheet at most.
 pub fn reading_laws()
     ensures join { BlocksJoin }
+    ensures sheet { TextsRead }
     ensures once { ReadOnce }
 {}
 
@@ -14,6 +15,7 @@ pub fn reading_laws()
 /// such, no part is. Values of one kind differ in what CSS is to have of them, but for `hex`.
 pub fn fragment_laws()
     ensures values { OwnValues }
+    ensures named { LinesAreNamed }
     ensures apart { OwnNamesApart }
     ensures read { FragmentsRead }
     ensures links { NamesComeFromLinks }

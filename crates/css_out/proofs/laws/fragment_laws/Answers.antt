@@ -1,4 +1,4 @@
-use Rattle.css_out.proofs.OwnValues.{own_values}
+use Rattle.css_out.proofs.OwnValues.{own_values, lines_named}
 use Rattle.css_out.proofs.OwnNamesApart.{own_apart}
 use Rattle.css_out.proofs.NamesComeFromLinks.{come_from}
 use Rattle.css_out.proofs.LinesAreSpellable.{entries_sound}
@@ -24,3 +24,6 @@ returns-clause-without c = no_references
 
 pub returns-clause-differ : goal.returns-clause-differ
 returns-clause-differ c = equal_values
+
+pub returns-clause-named : goal.returns-clause-named
+returns-clause-named c = lines_named
