@@ -23,5 +23,6 @@ pub use laws::{
 };
 pub use line::{Line, write_line};
 pub use merging::delta;
+pub use path::is_path;
 pub use record_line::write_change;
 pub use script::{ScriptStop, read_script};

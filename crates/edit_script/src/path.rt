@@ -7,7 +7,7 @@ use crate::cut::cut_at_first;
 
 /// Whether the text is 1 to 200 bytes of segments joined by `/`, each of one or more ASCII letters, digits, `.`, `_` and
 /// `-`, and none of them `.` or `..`.
-pub(crate) fn is_path(path: &str) -> bool
+pub fn is_path(path: &str) -> bool
     ensures { result ≡ is_path path.now }
 {
     path.len() <= 200 && has_segments(path)

@@ -1,2 +1,10 @@
 pub mod Breaks
 pub mod First
+pub mod NumbersByTexts
+pub mod RightSets
+pub mod SetRings
+pub mod OneAnswer
+pub mod Dots
+pub mod SeenNames
+pub mod PlanFaults
+pub mod HaveChoices

@@ -1,2 +1,10 @@
 pub mod Break
 pub mod Form
+pub mod Document
+pub mod View
+pub mod Naming
+pub mod Rings
+pub mod ResolverView
+pub mod Answer
+pub mod Laws
+pub mod inner

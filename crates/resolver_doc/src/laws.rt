@@ -1,9 +1,17 @@
 // Laws of the definitions alone, for the layers above.
 
 ghost use Rattle.resolver_doc.specs.Break.{FirstIsTold, NoneIsTold};
+ghost use Rattle.resolver_doc.specs.Laws.{OneFault, UnbrokenIsNotRefused};
 
 /// Of several breaks the first by its start and then by its rule's number is told, and where none is told there is none.
 pub fn break_laws()
     ensures first { FirstIsTold }
     ensures none { NoneIsTold }
+{}
+
+/// A document has one answer: what is told of one that breaks a rule is one break, and of one that breaks none nothing is
+/// told.
+pub fn plan_laws()
+    ensures one { OneFault }
+    ensures unbroken { UnbrokenIsNotRefused }
 {}

@@ -3,12 +3,28 @@
 #![tactic(auto)]
 
 mod document;
+mod fault;
 mod form;
+mod graph;
+mod items;
+mod known;
 mod laws;
+mod members;
+mod pointers;
+mod reading;
+mod repeats;
+mod resolver;
+mod rings;
 mod rule;
+mod sources;
 #[cfg(test)]
 mod tests;
+mod written;
 
 pub use document::form_break;
-pub use laws::break_laws;
+pub use fault::PlanFault;
+pub use laws::{break_laws, plan_laws};
+pub use reading::read_resolver;
+pub use resolver::Resolver;
 pub use rule::{Break, PlanRule};
+pub use written::{Contexts, Item, Order, SetDef, Sets, Written, WrittenSource};

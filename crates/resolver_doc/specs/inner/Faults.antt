@@ -1,0 +1,40 @@
+-- A ring of sets as a fault.
+use Rattle.std.specs.Prelude.{◌≡◌, ℕ, List, [], Some, map}
+use Rattle.json_span.specs.Tree.{Placed, Entry, start_of, end_of}
+use Rattle.resolver_doc.specs.declared.rule.PlanRule.{PlanRule}
+use Rattle.resolver_doc.specs.declared.rule.PlanRule.TheVariants.{Cycle}
+use Rattle.resolver_doc.specs.declared.fault.PlanFault.{PlanFault}
+use Rattle.resolver_doc.specs.declared.fault.PlanFault.TheVariants.{Broken, NoMemory}
+use Rattle.resolver_doc.specs.declared.rule.Break.{Break}
+use Rattle.resolver_doc.specs.Break.{first_of}
+use Rattle.resolver_doc.specs.Naming.{naming_breaks}
+use Rattle.resolver_doc.specs.Document.{SetData, name_in}
+use Rattle.resolver_doc.specs.Rings.{IsRingOfSets, ring_string}
+
+-- what is told of a ring
+pub record IsTold (sets : List Entry) (ring : List ℕ) (rule : PlanRule) (start end : ℕ) (names : List (List ℕ)) : Type 0 where
+  pub rule_is : rule ≡ Cycle
+  pub named : names ≡ map (name_in sets) ring
+  pub string : Placed
+  pub closes : ring_string sets ring ≡ Some string
+  pub starts : start ≡ start_of string
+  pub ends : end ≡ end_of string
+
+abbrev pub IsRingAt : List Entry → List ℕ → PlanFault → Type 0
+IsRingAt sets ring (Broken rule start end names) = IsTold sets ring rule start end names
+IsRingAt sets ring NoMemory = ⊥
+
+-- the fault tells the first ring; memory may always run out
+abbrev pub IsRingFault : List Entry → List SetData → PlanFault → Type 0
+IsRingFault sets listed (Broken rule start end names) = (ring : List ℕ) × IsRingOfSets listed ring × IsTold sets ring rule start end names
+IsRingFault sets listed NoMemory = Unit {0}
+
+-- a break as a fault
+abbrev pub told : Break → List (List ℕ) → PlanFault
+told b ring = Broken b.rule b.start b.end ring
+
+-- the fault tells the first break of references and names; memory may always run out
+abbrev pub IsNamedFault : Placed → PlanFault → Type 0
+IsNamedFault root (Broken rule start end names) =
+    (first_of (naming_breaks root) ≡ Some (record { rule = rule; start = start; end = end })) × (names ≡ [])
+IsNamedFault root NoMemory = Unit {0}

@@ -1,0 +1,41 @@
+//! What a resolver document says as a whole.
+
+ghost use Rattle.std.specs.Prelude.{IsTrue};
+ghost use Rattle.resolver_doc.specs.Document.{have_choices};
+ghost use Rattle.resolver_doc.specs.Rings.{HasNoRingOfSets, are_sets_right, are_items_right};
+ghost use Rattle.resolver_doc.specs.View.{sets_view, order_view};
+
+use crate::graph::graph_of;
+use crate::written::{Order, Sets};
+use std::alloc::Global;
+use tk_io::NoMemory;
+
+/// What a resolver document without a broken rule says. Each reference to a set names one of the sets, and no sets name
+/// each other in a ring.
+#[derive(Drop)]
+pub struct Resolver<'a, 's> {
+    /// The sets, in document order.
+    pub sets: Sets<'a, 's>,
+    /// The items of `resolutionOrder`.
+    pub order: Order<'a, 's>,
+    pub ghost sets_right: { IsTrue (are_sets_right (sets_view sets) (sets_view sets)) },
+    pub ghost order_right: { IsTrue (are_items_right (sets_view sets) (order_view order)) },
+    pub ghost choices: { IsTrue (have_choices (order_view order)) },
+    pub ghost no_ring: { HasNoRingOfSets (sets_view sets) },
+}
+
+impl<'a, 's> Resolver<'a, 's> {
+    ghost use Rattle.std.specs.Prelude.{◌≡◌, ◌+◌, IfOk, length};
+    ghost use Rattle.ring.specs.Graph.{IsGraph};
+    ghost use Rattle.resolver_doc.specs.Rings.{ListsNeeds};
+
+    /// What each set names, as a table for a search of rings and orders: row v lists the numbers of the sets that set v
+    /// names, in order, and the row behind the last set lists all sets.
+    pub fn set_graph(&self, alloc: Global) -> Result<Vec<Vec<usize>>, NoMemory>
+        ensures rows { IfOk result (λ graph. ListsNeeds graph.items (sets_view self.now.sets)) }
+        ensures graph { IfOk result (λ graph. IsGraph graph.items) }
+        ensures long { IfOk result (λ graph. length graph.items ≡ length self.now.sets + 1) }
+    {
+        graph_of(alloc, self.sets.as_slice())
+    }
+}
