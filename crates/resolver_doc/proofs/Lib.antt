@@ -8,3 +8,4 @@ pub mod Dots
 pub mod SeenNames
 pub mod PlanFaults
 pub mod HaveChoices
+pub mod PointersNamed

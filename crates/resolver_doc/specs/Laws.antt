@@ -1,9 +1,11 @@
--- A document has one answer.
-use Rattle.std.specs.Prelude.{◌≡◌, ◌≢◌}
-use Rattle.json_span.specs.Tree.{Placed}
+-- Laws of the definitions: a document has one answer, and names are what they are said to be.
+use Rattle.std.specs.Prelude.{◌≡◌, ◌≢◌, ℕ, zero, suc, List, ◌∷◌, Some, slice_get}
+use Rattle.json_span.specs.Tree.{Placed, Entry}
+use Rattle.ring.specs.Routes.{In}
 use Rattle.resolver_doc.specs.declared.fault.PlanFault.{PlanFault}
 use Rattle.resolver_doc.specs.declared.fault.PlanFault.TheVariants.{NoMemory}
 use Rattle.resolver_doc.specs.Answer.{IsUnbroken, IsPlanFault}
+use Rattle.resolver_doc.specs.Document.{pointer, pointed, name_in, without_dots}
 
 -- one break is told
 abbrev pub OneFault : Type 0
@@ -12,3 +14,28 @@ OneFault = (root : Placed) (a b : PlanFault) → a ≢ NoMemory → b ≢ NoMemo
 -- and none of a document that breaks no rule
 abbrev pub UnbrokenIsNotRefused : Type 0
 UnbrokenIsNotRefused = (root : Placed) (a : PlanFault) → IsUnbroken root → a ≢ NoMemory → IsPlanFault root a → ⊥
+
+-- Names of files, and what pointers name.
+
+-- the name behind some `./`
+abbrev pub behind_dots : ℕ → List ℕ → List ℕ
+behind_dots zero name = name
+behind_dots (suc n) name = 46 ∷ (47 ∷ behind_dots n name)
+
+pub record IsWithoutDots (text name : List ℕ) : Type 0 where
+  pub times : ℕ
+  pub whole : text ≡ behind_dots times name
+  pub first : (rest : List ℕ) → name ≢ 46 ∷ (47 ∷ rest)
+
+-- a file's name is what stands behind all leading `./`
+abbrev pub DotsAreTaken : Type 0
+DotsAreTaken = (text : List ℕ) → IsWithoutDots text (without_dots text)
+
+-- what a text points to has a name that spells it
+abbrev pub PointersSpell : Type 0
+PointersSpell = (part : List ℕ) (es : List Entry) (text : List ℕ) (v : ℕ) → pointed part es text ≡ Some v
+    → (e : Entry) × (slice_get es v ≡ Some e) × (text ≡ pointer part e)
+
+-- the pointer to a member finds one of its name
+abbrev pub PointersFind : Type 0
+PointersFind = (part : List ℕ) (es : List Entry) (e : Entry) → In e es → (v : ℕ) × (pointed part es (pointer part e) ≡ Some v) × (name_in es v ≡ e.name)
