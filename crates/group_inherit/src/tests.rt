@@ -5,7 +5,10 @@ ghost use Rattle.std.specs.Prelude.{◌≡◌, ◌<◌};
 mod extension;
 
 use crate::walking::flat_of;
-use crate::{Entry, FileSpan, Flat, TreeFault, flatten, over, over_by_name};
+use crate::{
+    Entry, FileSpan, Flat, TreeFault, expanded_by_name, flat_by_path, flatten, lost_in_order,
+    merged_in_order, one_answer, ordered_trees, over, over_by_name,
+};
 use json_span::read;
 use name_path::{Path, print_group, print_path};
 use std::alloc::Global;
@@ -109,9 +112,20 @@ static OVER: [(&str, &str, &str); 9] = [
 ];
 
 #[test]
+fn laws_hold(_rt: HostRuntime) -> Result<(), Fail> {
+    over_by_name();
+    merged_in_order();
+    ordered_trees();
+    expanded_by_name();
+    flat_by_path();
+    lost_in_order();
+    one_answer();
+    Ok(())
+}
+
+#[test]
 fn lays_one_tree_over_another(rt: HostRuntime) -> Result<(), Fail> {
     let alloc = rt.alloc();
-    over_by_name();
     for (later, earlier, tokens) in &OVER {
         let later = tree_of(alloc, later).expect(&rt, "the later tree has a shape");
         let earlier = tree_of(alloc, earlier).expect(&rt, "the earlier tree has a shape");

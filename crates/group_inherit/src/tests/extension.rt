@@ -2,7 +2,6 @@
 
 use super::{append_fault, outcome};
 use crate::checked::checked;
-use crate::one_answer;
 use name_path::Path;
 use std::alloc::{AllocError, Global};
 use std::test::Fail;
@@ -59,7 +58,6 @@ static FILES: [(&str, &str); 14] = [
 
 #[test]
 fn files(rt: HostRuntime) -> Result<(), Fail> {
-    one_answer();
     for (file, wanted) in &FILES {
         assert_eq!(rt;
             outcome(rt.alloc(), file)?.as_slice(),
