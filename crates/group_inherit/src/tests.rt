@@ -123,15 +123,24 @@ fn laws_hold(_rt: HostRuntime) -> Result<(), Fail> {
     Ok(())
 }
 
+/// The tokens of one file's tree over another's; nothing where one of them has no shape.
+fn over_text(alloc: Global, later: &str, earlier: &str) -> Result<Bytes, NoMemory> {
+    let Some(later) = tree_of(alloc, later) else {
+        return Ok(Bytes::new(alloc));
+    };
+    let Some(earlier) = tree_of(alloc, earlier) else {
+        return Ok(Bytes::new(alloc));
+    };
+    let both = over(alloc, &later, &earlier)?;
+    let flat = flat_of(alloc, &both)?;
+    text_of(alloc, &flat)
+}
+
 #[test]
 fn lays_one_tree_over_another(rt: HostRuntime) -> Result<(), Fail> {
-    let alloc = rt.alloc();
     for (later, earlier, tokens) in &OVER {
-        let later = tree_of(alloc, later).expect(&rt, "the later tree has a shape");
-        let earlier = tree_of(alloc, earlier).expect(&rt, "the earlier tree has a shape");
-        let both = over(alloc, &later, &earlier)?;
         assert_eq!(rt;
-            text_of(alloc, &flat_of(alloc, &both)?)?.as_slice(),
+            over_text(rt.alloc(), later, earlier)?.as_slice(),
             tokens.as_bytes(),
             "{tokens}"
         );
