@@ -1,0 +1,16 @@
+pub mod Escapes
+pub mod NamesTell
+pub mod SetNeeds
+pub mod SetRoutes
+pub mod SetsWithin
+pub mod Rows
+pub mod Filling
+pub mod Orders
+pub mod Known
+pub mod Stacks
+pub mod Counts
+pub mod Drafted
+pub mod CountSteps
+pub mod InPlace
+pub mod Limits
+pub mod NamesApart

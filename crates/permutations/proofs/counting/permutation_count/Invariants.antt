@@ -1,0 +1,13 @@
+-- The count times the ways to pick from the items to come are all ways.
+use Rattle.std.proofs.Common.{◌≡◌, ◌*◌, ◌≤◌, length, drop}
+use Rattle.permutations.specs.Answer.{told}
+use Rattle.resolver_doc.specs.View.{order_view}
+use Rattle.permutations.specs.Permutation.{choices}
+use Rattle.permutations.specs.declared.fault.TheConstants.{LAST_NUMBER}
+use Rattle.permutations.proofs.counting.permutation_count.Given as goal
+
+abbrev pub invariant-loop-item : goal.invariant-loop-item
+invariant-loop-item l = record {
+  ways : told (l.count * length (choices (order_view (drop l.item-index l.order)))) ≡ told (length (choices (order_view l.order)));
+  small : l.count ≤ LAST_NUMBER;
+}

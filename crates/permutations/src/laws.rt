@@ -1,0 +1,16 @@
+// Laws of the definitions alone, for the layers above.
+
+ghost use Rattle.permutations.specs.Laws.{NamesAreApart, SetsComeToTheirSources};
+ghost use Rattle.permutations.specs.Name.{NamesTellChoices};
+
+/// The name of a permutation tells which context is chosen for each modifier. Where the contexts of each modifier have
+/// different names, no two permutations have one name.
+pub fn name_laws()
+    ensures tell { NamesTellChoices }
+    ensures apart { NamesAreApart }
+{}
+
+/// Where no sets name each other in a ring, a set comes to what its sources come to.
+pub fn source_laws()
+    ensures { SetsComeToTheirSources }
+{}
