@@ -9,3 +9,4 @@ pub mod SeenNames
 pub mod PlanFaults
 pub mod HaveChoices
 pub mod PointersNamed
+pub mod ApartContexts

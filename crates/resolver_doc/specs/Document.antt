@@ -5,6 +5,7 @@ use Rattle.std.specs.List.{position_from, list_all}
 use Rattle.std.specs.Str.{bytes_eq}
 use Rattle.json_span.specs.Tree.{Placed, Entry, tree_of, start_of, end_of, string_in, array_in, under}
 use Rattle.name_path.specs.Reference.{pointer_text}
+use Rattle.ring.specs.Routes.{AreApart}
 use Rattle.resolver_doc.specs.Form.{counted, context_entries, entries_at}
 
 -- A source as it is written: a file by its name and the span of the string that names it, a set by its name and its number,
@@ -149,3 +150,8 @@ has_choice (modifier_item name (context ∷ contexts) default) = true
 
 abbrev pub have_choices : List ItemData → Bool
 have_choices order = list_all has_choice order
+
+-- no two contexts of a modifier have one name
+abbrev pub HasContextsApart : ItemData → Type 0
+HasContextsApart (set_item sources) = Unit {0}
+HasContextsApart (modifier_item name contexts default) = AreApart (map (λ c. c.name) contexts)

@@ -1,11 +1,13 @@
 -- Laws of the definitions: a document has one answer, and names are what they are said to be.
-use Rattle.std.specs.Prelude.{◌≡◌, ◌≢◌, ℕ, zero, suc, List, ◌∷◌, Some, slice_get}
+use Rattle.std.specs.Prelude.{◌≡◌, ◌≢◌, ℕ, zero, suc, List, ◌∷◌, Some, None, slice_get}
+use Rattle.std.specs.List.{AllByRecursion}
 use Rattle.json_span.specs.Tree.{Placed, Entry}
+use Rattle.json_span.specs.Flaw.{first_flaw}
 use Rattle.ring.specs.Routes.{In}
 use Rattle.resolver_doc.specs.declared.fault.PlanFault.{PlanFault}
 use Rattle.resolver_doc.specs.declared.fault.PlanFault.TheVariants.{NoMemory}
 use Rattle.resolver_doc.specs.Answer.{IsUnbroken, IsPlanFault}
-use Rattle.resolver_doc.specs.Document.{pointer, pointed, name_in, without_dots}
+use Rattle.resolver_doc.specs.Document.{resolver_of, pointer, pointed, name_in, without_dots, HasContextsApart}
 
 -- one break is told
 abbrev pub OneFault : Type 0
@@ -39,3 +41,7 @@ PointersSpell = (part : List ℕ) (es : List Entry) (text : List ℕ) (v : ℕ) 
 -- the pointer to a member finds one of its name
 abbrev pub PointersFind : Type 0
 PointersFind = (part : List ℕ) (es : List Entry) (e : Entry) → In e es → (v : ℕ) × (pointed part es (pointer part e) ≡ Some v) × (name_in es v ≡ e.name)
+
+-- in a document without a flaw the contexts of a modifier have different names
+abbrev pub ContextsAreApart : Type 0
+ContextsAreApart = (root : Placed) → first_flaw root ≡ None → AllByRecursion HasContextsApart (resolver_of root).order

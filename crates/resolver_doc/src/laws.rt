@@ -1,7 +1,7 @@
 // Laws of the definitions alone, for the layers above.
 
 ghost use Rattle.resolver_doc.specs.Break.{FirstIsTold, NoneIsTold};
-ghost use Rattle.resolver_doc.specs.Laws.{OneFault, UnbrokenIsNotRefused, DotsAreTaken, PointersSpell, PointersFind};
+ghost use Rattle.resolver_doc.specs.Laws.{OneFault, UnbrokenIsNotRefused, DotsAreTaken, PointersSpell, PointersFind, ContextsAreApart};
 
 /// Of several breaks the first by its start and then by its rule's number is told, and where none is told there is none.
 pub fn break_laws()
@@ -17,9 +17,10 @@ pub fn plan_laws()
 {}
 
 /// A file's name is what stands behind all leading `./` of a text. A text points to a member whose name it spells, and the
-/// pointer to a member finds one of its name.
+/// pointer to a member finds one of its name. In a document without a flaw the contexts of a modifier have different names.
 pub fn naming_laws()
     ensures files { DotsAreTaken }
     ensures spelled { PointersSpell }
     ensures found { PointersFind }
+    ensures apart { ContextsAreApart }
 {}
