@@ -1,13 +1,13 @@
 -- In a document without a flaw the contexts of a modifier have different names.
-use Rattle.std.proofs.Common.{◌≡◌, ◌⊎◌, inl, inr, ℕ, zero, suc, Bool, true, false, ◌&&◌, ◌||◌, not, List, [], ◌∷◌, Option, Some, None, option_map, option_and_then, unwrap_or, if◌then◌else◌, cond, map, codes, refl, sym, ap, ◌∙◌, subst}
+use Rattle.std.proofs.Common.{◌≡◌, ◌⊎◌, inl, inr, ℕ, zero, suc, Bool, true, false, ◌||◌, not, List, [], ◌∷◌, Option, Some, None, option_map, option_and_then, unwrap_or, if◌then◌else◌, cond, map, codes, refl, sym, ◌∙◌, subst}
 use Rattle.std.proofs.lemmas.Slice.Eq.{bytes_eq-Decides}
 use Rattle.std.specs.List.{AllByRecursion}
 use Rattle.ring.specs.Routes.{In, AreApart}
 use Rattle.std.specs.Str.{bytes_eq}
-use Rattle.json_span.specs.Tree.{Tree, a_null, a_boolean, a_number, a_string, an_array, an_object, Placed, placed, Elements, no_elements, element, Members, no_members, member, Entry, tree_of, array_in, object_in, elements_in, entries_in, under}
-use Rattle.json_span.specs.Flaw.{Flaw, equal_names, or_else, is_seen, most_open, flaw_in, flaw_at, flaw_in_elements, flaw_in_members, first_flaw}
-use Rattle.resolver_doc.specs.Document.{SetData, ItemData, set_item, modifier_item, HasContextsApart, resolver_of, elements_at, set_entries, modifier_entries, order_items, set_number, modifier_number, name_in, members_in, text_at, text_in, sources_in, context_of, modifier_of, named_modifier, named_item, own_name, own_item, item_by, item_of}
-use Rattle.resolver_doc.specs.Form.{is_reserved, counted, context_entries, entries_at}
+use Rattle.json_span.specs.Tree.{a_null, a_boolean, a_number, a_string, an_array, an_object, Placed, placed, Elements, no_elements, element, Members, no_members, member, Entry, tree_of, object_in, elements_in, entries_in, under}
+use Rattle.json_span.specs.Flaw.{Flaw, equal_names, or_else, is_seen, most_open, flaw_in, flaw_in_elements, flaw_in_members}
+use Rattle.resolver_doc.specs.Document.{set_item, HasContextsApart, elements_at, set_entries, modifier_entries, order_items, set_number, modifier_number, name_in, members_in, text_at, text_in, sources_in, context_of, modifier_of, named_modifier, named_item, own_name, item_by, item_of}
+use Rattle.resolver_doc.specs.Form.{is_reserved, counted, entries_at}
 use Rattle.resolver_doc.specs.Laws.{ContextsAreApart}
 
 -- Values without a flaw, and their parts.

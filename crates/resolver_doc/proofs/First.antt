@@ -1,10 +1,10 @@
 -- What is told of several breaks is the first of them.
-use Rattle.std.proofs.Common.{◌≡◌, ℕ, ◌==◌, ◌&&◌, ◌||◌, Bool, true, false, nat_lt, List, [], ◌∷◌, Option, Some, None, refl, sym, ap, ◌∙◌, subst, inl, inr, arith}
+use Rattle.std.proofs.Common.{◌≡◌, ℕ, ◌==◌, ◌&&◌, ◌||◌, Bool, true, false, nat_lt, List, [], ◌∷◌, Some, None, refl, sym, subst, inl, inr, arith}
 use Rattle.std.specs.Prelude.{◌⊎◌, if◌then◌else◌}
 use Rattle.std.proofs.lemmas.Bool.Decides.{nat_tests}
 use Rattle.ring.specs.Routes.{In}
 use Rattle.resolver_doc.specs.declared.rule.Break.{Break}
-use Rattle.resolver_doc.specs.Break.{number_of, is_before, taken, with_breaks, first_of, IsFirst, FirstIsTold, NoneIsTold}
+use Rattle.resolver_doc.specs.Break.{number_of, is_before, with_breaks, FirstIsTold, NoneIsTold}
 
 -- the order of two places in the list of rules, by numbers alone
 abbrev before : ℕ → ℕ → ℕ → ℕ → Bool

@@ -1,14 +1,14 @@
 -- Where the forms are met, each modifier of the order has a context.
 use Rattle.std.proofs.Common.{◌≡◌, ℕ, zero, suc, ◌-◌, Bool, true, false, ◌&&◌, ◌||◌, not, List, [], ◌∷◌, ◌++◌, Option, Some, None, option_map, option_and_then, unwrap_or, is_some, if◌then◌else◌, map, codes, refl, sym, ap, ◌∙◌, subst, slice_get, arith}
-use Rattle.std.specs.List.{flat_map, list_all, list_any}
+use Rattle.std.specs.List.{flat_map}
 use Rattle.std.specs.Str.{bytes_eq}
 use Rattle.json_span.specs.Tree.{Placed, Entry, tree_of, string_in, array_in, object_in, under}
 use Rattle.resolver_doc.specs.declared.rule.PlanRule.TheVariants.{Shape, Contexts}
 use Rattle.resolver_doc.specs.declared.rule.Break.{Break}
 use Rattle.resolver_doc.specs.Break.{at_value}
-use Rattle.resolver_doc.specs.Document.{ItemData, set_item, modifier_item, has_choice, have_choices, resolver_of, elements_at, set_entries, modifier_entries, order_items, pointer, set_number, modifier_number, name_in, members_in, text_at, text_in, sources_in, context_of, modifier_of, named_modifier, named_item, own_name, own_item, item_by, item_of}
+use Rattle.resolver_doc.specs.Document.{set_item, modifier_item, has_choice, have_choices, resolver_of, elements_at, set_entries, modifier_entries, order_items, pointer, set_number, modifier_number, name_in, members_in, text_at, text_in, sources_in, context_of, modifier_of, named_modifier, named_item, own_name, own_item, item_by, item_of}
 use Rattle.resolver_doc.proofs.RightSets.{Stands, found_from}
-use Rattle.resolver_doc.specs.Form.{counted, formed, a_text, a_list, an_object, needed, optional, text, is_reserved, reference, is_reference, counts_some, contexts, contexts_members, context, context_entries, default, modifier_members, modifier, typed, item_type, item_members, item, each_value, set, set_members, version, document_members, entries_at, form_breaks}
+use Rattle.resolver_doc.specs.Form.{counted, formed, a_list, an_object, needed, optional, text, is_reserved, reference, counts_some, contexts, contexts_members, context, context_entries, default, modifier_members, modifier, typed, item_type, item_members, item, each_value, set, set_members, version, document_members, entries_at, form_breaks}
 
 left : (xs ys : List Break) → xs ++ ys ≡ [] → xs ≡ []
 left [] ys e = refl

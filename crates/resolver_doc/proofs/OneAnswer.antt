@@ -1,12 +1,11 @@
 -- A document has one answer: the break that is told, or what it says.
-use Rattle.std.proofs.Common.{◌≡◌, ◌≢◌, ◌⊎◌, inl, inr, ℕ, List, [], Option, Some, None, refl, sym, ap, ◌∙◌, subst, map, length}
+use Rattle.std.proofs.Common.{◌≡◌, inl, inr, ℕ, List, [], Some, None, refl, sym, ap, ◌∙◌, map, length}
 use Rattle.json_span.specs.Tree.{Placed, start_of, end_of}
 use Rattle.ring.proofs.Once.{same_ring}
-use Rattle.resolver_doc.specs.declared.rule.PlanRule.{PlanRule}
 use Rattle.resolver_doc.specs.declared.rule.Break.{Break}
 use Rattle.resolver_doc.specs.declared.fault.PlanFault.{PlanFault}
 use Rattle.resolver_doc.specs.declared.fault.PlanFault.TheVariants.{Broken, NoMemory}
-use Rattle.resolver_doc.specs.Answer.{IsUnbroken, IsFormFault, IsNamingFault, IsCycleFault, IsPlanBreak, IsPlanFault}
+use Rattle.resolver_doc.specs.Answer.{IsUnbroken, IsPlanBreak}
 use Rattle.resolver_doc.specs.Break.{first_of}
 use Rattle.resolver_doc.specs.Document.{resolver_of, set_entries, name_in}
 use Rattle.resolver_doc.specs.Form.{form_breaks}

@@ -1,12 +1,11 @@
 -- From the breaks that are taken in, phase by phase, to the answer for a document.
-use Rattle.std.proofs.Common.{◌≡◌, ℕ, inl, inr, List, [], ◌∷◌, ◌++◌, Option, Some, None, refl, sym, ap, ap₂, ◌∙◌, subst, map, length, true}
+use Rattle.std.proofs.Common.{◌≡◌, ℕ, inl, inr, List, [], ◌++◌, Option, Some, None, refl, sym, ap, ◌∙◌, subst, map, length, true}
 use Rattle.std.specs.List.{flat_map}
 use Rattle.std.specs.declared.alloc.Global.{Global}
 use Rattle.std.specs.declared.vec.Vec.{Vec}
 use Rattle.json_span.specs.Tree.{Placed, Entry}
 use Rattle.ring.specs.Graph.{needs_in}
 use Rattle.ring.specs.Routes.{IsRing, HasNoRing}
-use Rattle.resolver_doc.specs.declared.rule.PlanRule.{PlanRule}
 use Rattle.resolver_doc.specs.declared.rule.Break.{Break}
 use Rattle.resolver_doc.specs.declared.fault.PlanFault.{PlanFault}
 use Rattle.resolver_doc.specs.declared.fault.PlanFault.TheVariants.{Broken, NoMemory}
@@ -15,8 +14,8 @@ use Rattle.resolver_doc.specs.Break.{with_breaks, first_of}
 use Rattle.resolver_doc.specs.Document.{SetData, ItemData, resolver_of, set_entries, modifier_entries, order_items, set_of, name_in, have_choices}
 use Rattle.resolver_doc.specs.Form.{form_breaks, entries_at}
 use Rattle.resolver_doc.specs.Naming.{set_breaks, modifier_breaks, item_breaks, repeats, naming_breaks}
-use Rattle.resolver_doc.specs.Rings.{set_needs, IsRingOfSets, HasNoRingOfSets, ring_string, are_sets_right, are_items_right, IsSetRing}
-use Rattle.resolver_doc.specs.inner.Faults.{IsTold, IsRingAt, IsRingFault, IsNamedFault, told}
+use Rattle.resolver_doc.specs.Rings.{set_needs, IsRingOfSets, HasNoRingOfSets, ring_string, are_sets_right, are_items_right}
+use Rattle.resolver_doc.specs.inner.Faults.{IsRingAt, IsRingFault, IsNamedFault, told}
 use Rattle.resolver_doc.proofs.Breaks.{with_breaks-append}
 use Rattle.resolver_doc.proofs.First.{none_is_told}
 use Rattle.resolver_doc.proofs.HaveChoices.{order_chosen}

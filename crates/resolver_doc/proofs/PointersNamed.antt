@@ -1,15 +1,14 @@
 -- What pointers name.
-use Rattle.std.proofs.Common.{◌≡◌, ℕ, suc, ◌+◌, ◌-◌, Bool, true, false, List, [], ◌∷◌, Option, Some, None, option_map, unwrap_or, cond, inl, inr, refl, sym, ap, ◌∙◌, subst, arith, slice_get}
+use Rattle.std.proofs.Common.{◌≡◌, ℕ, suc, ◌+◌, ◌-◌, Bool, true, false, List, [], ◌∷◌, Option, Some, option_map, unwrap_or, cond, inl, inr, refl, sym, ap, ◌∙◌, subst, arith, slice_get}
 use Rattle.std.proofs.lemmas.Slice.Eq.{bytes_eq-Decides}
 use Rattle.std.specs.List.{position_from}
 use Rattle.std.specs.Str.{bytes_eq}
 use Rattle.json_span.specs.Tree.{Entry}
-use Rattle.name_path.specs.Reference.{pointer_text}
 use Rattle.name_path.proofs.Joins.{one_pointer}
 use Rattle.ring.specs.Routes.{In}
-use Rattle.resolver_doc.specs.Document.{pointer, pointed, name_in}
+use Rattle.resolver_doc.specs.Document.{pointer}
 use Rattle.resolver_doc.specs.Laws.{PointersSpell, PointersFind}
-use Rattle.resolver_doc.proofs.RightSets.{Stands, found_from}
+use Rattle.resolver_doc.proofs.RightSets.{found_from}
 
 some_is : {A : Type 0} {x y : A} → Some x ≡ Some y → x ≡ y
 some_is e = cc

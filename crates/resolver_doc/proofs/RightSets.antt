@@ -1,11 +1,11 @@
 -- References to sets have the names and the numbers of sets.
-use Rattle.std.proofs.Common.{◌≡◌, ℕ, zero, suc, ◌+◌, ◌-◌, ◌<◌, ◌≤◌, Bool, true, false, ◌&&◌, List, [], ◌∷◌, Option, Some, None, option_map, unwrap_or, cond, map, codes, if◌then◌else◌, refl, sym, ap, ◌∙◌, subst, arith, slice_get}
+use Rattle.std.proofs.Common.{◌≡◌, ℕ, suc, ◌+◌, ◌-◌, ◌≤◌, Bool, true, false, ◌&&◌, List, [], ◌∷◌, Option, Some, None, option_map, unwrap_or, cond, map, codes, if◌then◌else◌, refl, sym, ap, ◌∙◌, subst, arith, slice_get}
 use Rattle.std.proofs.lemmas.Option.{slice_get-map}
 use Rattle.std.proofs.lemmas.Slice.Eq.{bytes_eq-Decides}
-use Rattle.std.specs.List.{list_all, position_from}
+use Rattle.std.specs.List.{position_from}
 use Rattle.std.specs.Str.{bytes_eq}
 use Rattle.json_span.specs.Tree.{Placed, Entry, under}
-use Rattle.resolver_doc.specs.Document.{SourceData, SetData, ItemData, set_item, modifier_item, resolver_of, elements_at, text_at, pointer, set_entries, modifier_entries, order_items, set_number, modifier_number, name_in, members_in, set_or_file, source_by, source_of, sources_of, sources_in, set_of, context_of, text_in, modifier_of, named_modifier, named_item, own_name, own_item, item_by, item_of}
+use Rattle.resolver_doc.specs.Document.{SetData, set_item, resolver_of, elements_at, text_at, pointer, set_entries, modifier_entries, order_items, set_number, modifier_number, name_in, members_in, set_or_file, source_by, source_of, sources_of, sources_in, set_of, context_of, text_in, modifier_of, named_modifier, named_item, own_name, item_by, item_of}
 use Rattle.resolver_doc.specs.Form.{counted, context_entries, entries_at}
 use Rattle.resolver_doc.specs.Rings.{has_name, is_right, are_right, are_sets_right, is_item_right, are_items_right}
 

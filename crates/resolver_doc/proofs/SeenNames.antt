@@ -1,5 +1,5 @@
 -- Names that were seen, and items that repeat one.
-use Rattle.std.proofs.Common.{◌≡◌, ℕ, Bool, true, false, ◌||◌, List, [], ◌∷◌, ◌++◌, Option, Some, None, is_some, cond, if◌then◌else◌, refl, sym, ap, ◌∙◌, subst}
+use Rattle.std.proofs.Common.{◌≡◌, ℕ, Bool, true, false, ◌||◌, List, [], ◌∷◌, Option, Some, None, is_some, cond, if◌then◌else◌, refl, sym, ap, ◌∙◌}
 use Rattle.std.specs.FinMap as map
 use Rattle.std.specs.Option.{option_or}
 use Rattle.std.specs.Str.{bytes_eq}
@@ -8,7 +8,7 @@ use Rattle.tk_io.specs.Order.{text_cmp}
 use Rattle.resolver_doc.specs.declared.rule.PlanRule.TheVariants.{Duplicate}
 use Rattle.resolver_doc.specs.declared.rule.Break.{Break}
 use Rattle.resolver_doc.specs.Break.{with_breaks, at_value}
-use Rattle.resolver_doc.specs.Naming.{of_each, is_among, repeat_at, with_name, repeats, item_name, name_string}
+use Rattle.resolver_doc.specs.Naming.{of_each, repeat_at, with_name, repeats, item_name, name_string}
 use Rattle.resolver_doc.specs.inner.Pointers.{Numbers, AddsFirst, Keeps}
 use Rattle.resolver_doc.proofs.Breaks.{with_breaks-append}
 

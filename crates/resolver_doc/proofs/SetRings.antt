@@ -4,14 +4,14 @@ use Rattle.std.proofs.lemmas.Bool.Decides.{nat_tests}
 use Rattle.std.proofs.lemmas.List.{length-map}
 use Rattle.std.proofs.lemmas.List.Elements.{All-cons}
 use Rattle.std.proofs.lemmas.Option.{slice_get-map, slice_get_within}
-use Rattle.std.specs.List.{flat_map, list_all, range_with_len}
+use Rattle.std.specs.List.{range_with_len}
 use Rattle.std.specs.declared.alloc.Global.{Global}
 use Rattle.std.specs.declared.vec.Vec.{Vec}
 use Rattle.json_span.specs.Tree.{Placed, Entry, under}
 use Rattle.ring.specs.Graph.{needs_in, IsGraph}
-use Rattle.ring.specs.Routes.{In, Leads, IsRoute, IsRing, HasNoRing}
+use Rattle.ring.specs.Routes.{In, Leads, IsRoute, IsRing}
 use Rattle.ring.proofs.Ends.{in_cases, leads_tail}
-use Rattle.resolver_doc.specs.Document.{SourceData, file_source, set_source, inline_source, SetData, elements_at, text_at, set_number, members_in, set_or_file, source_by, source_of, sources_of, sources_in, set_of, name_in}
+use Rattle.resolver_doc.specs.Document.{SourceData, file_source, set_source, inline_source, SetData, elements_at, text_at, set_number, members_in, set_or_file, source_by, source_of, sources_of, set_of}
 use Rattle.resolver_doc.specs.Form.{entries_at}
 use Rattle.resolver_doc.specs.Rings.{set_in, sets_in, set_rows, set_needs, has_name, is_right, are_right, are_sets_right, is_set, naming_string, sources_at, last_of, ring_string}
 use Rattle.resolver_doc.proofs.RightSets.{listed_right}

@@ -1,7 +1,6 @@
 -- When a document breaks no rule, and which break is told where it breaks some: the first of the first phase that has one.
 use Rattle.std.specs.Prelude.{◌≡◌, ◌⊎◌, ℕ, List, [], Some}
 use Rattle.json_span.specs.Tree.{Placed}
-use Rattle.resolver_doc.specs.declared.rule.PlanRule.{PlanRule}
 use Rattle.resolver_doc.specs.declared.rule.PlanRule.TheVariants.{Cycle}
 use Rattle.resolver_doc.specs.declared.rule.Break.{Break}
 use Rattle.resolver_doc.specs.declared.fault.PlanFault.{PlanFault}

@@ -1,9 +1,8 @@
 -- The form of a resolver document (Design Tokens Resolver Module 2025.10, in this project's profile), and where it is not met.
-use Rattle.std.specs.Prelude.{ℕ, Bool, true, false, ◌==◌, ◌||◌, not, if◌then◌else◌, List, [], ◌∷◌, ◌++◌, codes, filter, map, Option, Some, None, is_some, option_map, option_and_then, unwrap_or}
+use Rattle.std.specs.Prelude.{ℕ, Bool, false, ◌==◌, not, if◌then◌else◌, List, [], ◌∷◌, ◌++◌, codes, filter, Option, Some, None, is_some, option_and_then, unwrap_or}
 use Rattle.std.specs.List.{flat_map, list_any}
 use Rattle.std.specs.Str.{bytes_eq}
-use Rattle.json_span.specs.Tree.{Tree, Placed, Entry, tree_of, string_in, array_in, object_in, under}
-use Rattle.resolver_doc.specs.declared.rule.PlanRule.{PlanRule}
+use Rattle.json_span.specs.Tree.{Placed, Entry, tree_of, string_in, array_in, object_in, under}
 use Rattle.resolver_doc.specs.declared.rule.PlanRule.TheVariants.{Version, Shape, Contexts, Default}
 use Rattle.resolver_doc.specs.declared.rule.Break.{Break}
 use Rattle.resolver_doc.specs.Break.{at_value, at_name}

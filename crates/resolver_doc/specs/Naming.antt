@@ -1,5 +1,5 @@
 -- References of sources and items, and where one names nothing or a name stands twice.
-use Rattle.std.specs.Prelude.{ℕ, Bool, ◌||◌, List, [], ◌∷◌, ◌++◌, codes, nat_eq, Option, Some, None, is_some, option_map, if◌then◌else◌, unwrap_or}
+use Rattle.std.specs.Prelude.{ℕ, Bool, ◌||◌, List, [], ◌∷◌, ◌++◌, codes, nat_eq, Option, Some, None, is_some, if◌then◌else◌, unwrap_or}
 use Rattle.std.specs.List.{flat_map, list_any, starts_with}
 use Rattle.std.specs.Str.{bytes_eq}
 use Rattle.json_span.specs.Tree.{Placed, Entry, under}
@@ -8,7 +8,7 @@ use Rattle.resolver_doc.specs.declared.rule.PlanRule.TheVariants.{Reference, Mod
 use Rattle.resolver_doc.specs.declared.rule.Break.{Break}
 use Rattle.resolver_doc.specs.Break.{at_value}
 use Rattle.resolver_doc.specs.Form.{counted, context_entries, entries_at}
-use Rattle.resolver_doc.specs.Document.{elements_at, text_at, set_entries, modifier_entries, order_items, set_number, modifier_number, name_in, without_dots, text_in, own_name}
+use Rattle.resolver_doc.specs.Document.{elements_at, text_at, set_entries, modifier_entries, order_items, set_number, modifier_number, name_in, without_dots, text_in}
 
 -- a source names a set, or a file whose name is a path; none names a modifier
 abbrev pub named_breaks_by : Placed → Option ℕ → List Break

@@ -9,7 +9,7 @@ use Rattle.json_span.specs.Tree.{Placed, Entry, start_of, end_of, under}
 use Rattle.ring.specs.Graph.{needs_in}
 use Rattle.ring.specs.Routes.{IsRing, HasNoRing}
 use Rattle.resolver_doc.specs.Form.{entries_at}
-use Rattle.resolver_doc.specs.Document.{SourceData, file_source, set_source, inline_source, SetData, ItemData, set_item, modifier_item, ResolverData, elements_at, set_entries, name_in, members_in, source_of, resolver_of}
+use Rattle.resolver_doc.specs.Document.{SourceData, file_source, set_source, inline_source, SetData, ItemData, set_item, modifier_item, elements_at, set_entries, name_in, members_in, source_of, resolver_of}
 
 -- the numbers of the sets that sources name, in order
 abbrev pub set_in : SourceData → List ℕ

@@ -1,5 +1,5 @@
 -- Numbers under texts, of which the first stays.
-use Rattle.std.specs.Prelude.{◌≡◌, ℕ, List, cond, Option, Some, None, is_some}
+use Rattle.std.specs.Prelude.{◌≡◌, ℕ, List, cond, Some, None, is_some}
 use Rattle.std.specs.FinMap as map
 use Rattle.std.specs.List.{position_from}
 use Rattle.std.specs.Option.{option_or}

@@ -1,8 +1,6 @@
 -- With the members that are still to come, all are taken in.
 use Rattle.std.proofs.Common.{◌≡◌}
-use Rattle.std.specs.List.{flat_map}
 use Rattle.json_span.specs.View.{fields_view}
-use Rattle.resolver_doc.specs.Break.{with_breaks}
 use Rattle.resolver_doc.specs.Form.{has_context}
 use Rattle.resolver_doc.proofs.form.has_context.Given as goal
 

@@ -1,9 +1,8 @@
-use Rattle.std.proofs.Common.{◌≡◌, ◌+◌, ℕ, List, map, length, sym, ap, ◌∙◌, subst}
+use Rattle.std.proofs.Common.{◌≡◌, ◌+◌, ℕ, List, map, length, sym, ap, ◌∙◌}
 use Rattle.std.proofs.lemmas.List.{length-map}
 use Rattle.std.specs.List.{range_with_len}
 use Rattle.std.specs.declared.alloc.Global.{Global}
 use Rattle.std.specs.declared.vec.Vec.{Vec}
-use Rattle.resolver_doc.specs.Document.{SetData}
 use Rattle.resolver_doc.specs.Rings.{set_rows}
 use Rattle.resolver_doc.specs.View.{set_view, sets_view}
 use Rattle.resolver_doc.specs.declared.written.SetDef.{SetDef}

@@ -1,7 +1,6 @@
 -- With the sets that are still to come, all are listed and all breaks are taken in.
 use Rattle.std.proofs.Common.{◌≡◌, ◌++◌, drop, map}
 use Rattle.std.specs.List.{flat_map}
-use Rattle.json_span.specs.View.{field_view}
 use Rattle.resolver_doc.specs.Break.{with_breaks}
 use Rattle.resolver_doc.specs.Document.{set_of}
 use Rattle.resolver_doc.specs.Form.{entries_at}

@@ -1,5 +1,5 @@
 -- With the members that are still to come, all that count are listed.
-use Rattle.std.proofs.Common.{◌≡◌, ◌++◌, map, codes}
+use Rattle.std.proofs.Common.{◌≡◌, ◌++◌, map}
 use Rattle.json_span.specs.View.{ref_view, field_view, fields_view}
 use Rattle.resolver_doc.specs.Form.{counted, entries_at}
 use Rattle.resolver_doc.specs.Document.{section}

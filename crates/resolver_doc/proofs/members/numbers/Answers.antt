@@ -1,4 +1,4 @@
-use Rattle.std.proofs.Common.{ap, sym, ◌∙◌, subst}
+use Rattle.std.proofs.Common.{subst}
 use Rattle.json_span.specs.View.{field_view}
 use Rattle.resolver_doc.specs.inner.Known.{fields_of}
 use Rattle.resolver_doc.specs.inner.Pointers.{Completes}

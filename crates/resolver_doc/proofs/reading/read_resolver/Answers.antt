@@ -1,6 +1,6 @@
 use Rattle.std.proofs.Common.{◌≡◌, [], sym, ap, ◌∙◌, subst}
 use Rattle.std.proofs.lemmas.Result.{err_from_is_err_and}
-use Rattle.json_span.specs.View.{node_view, ref_view}
+use Rattle.json_span.specs.View.{ref_view}
 use Rattle.resolver_doc.specs.Answer.{IsUnbroken, IsPlanFault}
 use Rattle.resolver_doc.specs.Document.{resolver_of}
 use Rattle.resolver_doc.specs.Form.{form_breaks}

@@ -1,7 +1,7 @@
-use Rattle.std.proofs.Common.{[], sym, subst}
+use Rattle.std.proofs.Common.{sym, subst}
 use Rattle.json_span.specs.View.{ref_view}
 use Rattle.resolver_doc.specs.Naming.{naming_breaks}
-use Rattle.resolver_doc.specs.inner.Faults.{IsNamedFault, told}
+use Rattle.resolver_doc.specs.inner.Faults.{IsNamedFault}
 use Rattle.resolver_doc.specs.inner.Known.{known_sets, known_modifiers}
 use Rattle.resolver_doc.proofs.PlanFaults.{naming_taken, none_broken, some_named}
 use Rattle.resolver_doc.proofs.reading.read_said.Goals as goal

@@ -1,4 +1,4 @@
-use Rattle.std.proofs.Common.{◌≡◌, ◌∷◌, [], rules, ap, subst}
+use Rattle.std.proofs.Common.{◌≡◌, [], rules, ap, subst}
 use Rattle.json_span.specs.View.{ref_view, items_view}
 use Rattle.resolver_doc.specs.Break.{with_breaks}
 use Rattle.resolver_doc.specs.Naming.{item_name, with_name, repeats}

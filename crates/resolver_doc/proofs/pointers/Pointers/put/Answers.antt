@@ -1,4 +1,4 @@
-use Rattle.std.proofs.Common.{◌++◌, ap, ap₂, ◌∙◌}
+use Rattle.std.proofs.Common.{◌++◌, ap, ◌∙◌}
 use Rattle.std.specs.FinMap as map
 use Rattle.resolver_doc.proofs.NumbersByTexts.{by_text, text_put}
 use Rattle.resolver_doc.proofs.pointers.Pointers.put.Goals as goal

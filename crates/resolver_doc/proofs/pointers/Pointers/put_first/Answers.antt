@@ -1,4 +1,4 @@
-use Rattle.std.proofs.Common.{◌≡◌, OnOk, is_some, false, true, ap, sym, ◌∙◌}
+use Rattle.std.proofs.Common.{◌≡◌, is_some, false, ap, sym, ◌∙◌}
 use Rattle.std.specs.FinMap as map
 use Rattle.resolver_doc.proofs.NumbersByTexts.{put_new, adds_none}
 use Rattle.resolver_doc.proofs.pointers.Pointers.put_first.Goals as goal
