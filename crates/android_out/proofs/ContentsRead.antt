@@ -1,0 +1,162 @@
+-- Contents are read as they are spelled.
+use Rattle.std.proofs.Common.{◌≡◌, ◌≢◌, ℕ, zero, suc, ◌+◌, ◌-◌, ◌*◌, ◌/◌, ◌%◌, ◌^◌, ◌<◌, ◌≤◌, ◌==◌, ◌&&◌, ◌||◌, not, Bool, true, false, cond, List, [], ◌∷◌, ◌++◌, length, refl, sym, ◌∙◌, ap, subst, append_assoc, append-nil, codes, Option, Some, None, arith, nat_lt, ℤ, pos, negsuc, unsigned_abs}
+use Rattle.std.specs.Prelude.{if◌then◌else◌}
+use Rattle.std.specs.Char.{is_ascii_alphabetic, is_ascii_digit, is_ascii_hexdigit, digit_char, digit_value, to_ascii_uppercase}
+use Rattle.std.specs.Fmt.{decimal}
+use Rattle.std.specs.List.{list_all}
+use Rattle.std.specs.Str.{all_ascii_digits}
+use Rattle.std.proofs.Math.Nat.{div-le_self}
+use Rattle.std.proofs.lemmas.Bool.Decides.{nat_tests}
+use Rattle.std.proofs.lemmas.Fmt.{decimal_is_IsNumeral_wide}
+use Rattle.std.proofs.lemmas.List.Folds.{list_all-append}
+use Rattle.dec_fix.specs.Decimal.{Decimal, IsDec}
+use Rattle.dec_fix.specs.Following.{number_at, ends_number}
+use Rattle.dec_fix.specs.Writing.{spelling, point_and, last_digits, sign_of}
+use Rattle.dec_fix.proofs.Again.{number_again, decimal-digits, last_digits-digits}
+use Rattle.transforms.specs.Hexadecimal.{hex_byte, hex_color, hex_value}
+use Rattle.android_out.specs.Element.{Content, color, dimen, integer, item, string, tag_of}
+use Rattle.android_out.specs.Reading.{eight_digits, color_in, starts_digit, starts_number, numbered, is_unit, with_unit, alone, whole_alone, content_in, no_tag}
+use Rattle.android_out.specs.Spelling.{content_text}
+use Rattle.android_out.proofs.Runs.{both}
+
+pub together : (a b : Bool) → a ≡ true → b ≡ true → a && b ≡ true
+together true b h i = i
+together false b h i = cc
+
+-- a digit in upper case
+record IsDigit (n : ℕ) : Type 0 where
+  value : digit_value (to_ascii_uppercase (digit_char n)) ≡ n
+  hexadecimal : is_ascii_hexdigit (to_ascii_uppercase (digit_char n)) ≡ true
+  plain : no_tag (to_ascii_uppercase (digit_char n)) ≡ true
+
+digit : (n : ℕ) → n < 16 → IsDigit n
+digit zero h = record { value = refl; hexadecimal = refl; plain = refl }
+digit (suc zero) h = record { value = refl; hexadecimal = refl; plain = refl }
+digit (suc (suc zero)) h = record { value = refl; hexadecimal = refl; plain = refl }
+digit (suc (suc (suc zero))) h = record { value = refl; hexadecimal = refl; plain = refl }
+digit (suc (suc (suc (suc zero)))) h = record { value = refl; hexadecimal = refl; plain = refl }
+digit (suc (suc (suc (suc (suc zero))))) h = record { value = refl; hexadecimal = refl; plain = refl }
+digit (suc (suc (suc (suc (suc (suc zero)))))) h = record { value = refl; hexadecimal = refl; plain = refl }
+digit (suc (suc (suc (suc (suc (suc (suc zero))))))) h = record { value = refl; hexadecimal = refl; plain = refl }
+digit (suc (suc (suc (suc (suc (suc (suc (suc zero)))))))) h = record { value = refl; hexadecimal = refl; plain = refl }
+digit (suc (suc (suc (suc (suc (suc (suc (suc (suc zero))))))))) h = record { value = refl; hexadecimal = refl; plain = refl }
+digit (suc (suc (suc (suc (suc (suc (suc (suc (suc (suc zero)))))))))) h = record { value = refl; hexadecimal = refl; plain = refl }
+digit (suc (suc (suc (suc (suc (suc (suc (suc (suc (suc (suc zero))))))))))) h = record { value = refl; hexadecimal = refl; plain = refl }
+digit (suc (suc (suc (suc (suc (suc (suc (suc (suc (suc (suc (suc zero)))))))))))) h = record { value = refl; hexadecimal = refl; plain = refl }
+digit (suc (suc (suc (suc (suc (suc (suc (suc (suc (suc (suc (suc (suc zero))))))))))))) h = record { value = refl; hexadecimal = refl; plain = refl }
+digit (suc (suc (suc (suc (suc (suc (suc (suc (suc (suc (suc (suc (suc (suc zero)))))))))))))) h = record { value = refl; hexadecimal = refl; plain = refl }
+digit (suc (suc (suc (suc (suc (suc (suc (suc (suc (suc (suc (suc (suc (suc (suc zero))))))))))))))) h = record { value = refl; hexadecimal = refl; plain = refl }
+digit (suc (suc (suc (suc (suc (suc (suc (suc (suc (suc (suc (suc (suc (suc (suc (suc n)))))))))))))))) h = absurd (omega arith)
+
+byte_value : (b : ℕ) → b < 256 → hex_value (hex_byte b) ≡ b
+byte_value b h =
+    let high = digit (b / 16) (omega arith) in
+    let low = digit (b % 16) (omega arith) in
+    rw (high.value, low.value) (omega arith)
+
+color_read : (a r g b : ℕ) → a < 256 → r < 256 → g < 256 → b < 256 → color_in (hex_color (a ∷ r ∷ g ∷ b ∷ [])) ≡ Some (color a r g b)
+color_read a r g b ha hr hg hb =
+    let a1 = digit (a / 16) (omega arith) in let a2 = digit (a % 16) (omega arith) in
+    let r1 = digit (r / 16) (omega arith) in let r2 = digit (r % 16) (omega arith) in
+    let g1 = digit (g / 16) (omega arith) in let g2 = digit (g % 16) (omega arith) in
+    let b1 = digit (b / 16) (omega arith) in let b2 = digit (b % 16) (omega arith) in
+    rw (a1.hexadecimal, a2.hexadecimal, r1.hexadecimal, r2.hexadecimal, g1.hexadecimal, g2.hexadecimal, b1.hexadecimal, b2.hexadecimal)
+    (ap (λ x. Some (color x (hex_value (hex_byte r)) (hex_value (hex_byte g)) (hex_value (hex_byte b)))) (byte_value a ha)
+    ∙ ap (λ x. Some (color a x (hex_value (hex_byte g)) (hex_value (hex_byte b)))) (byte_value r hr)
+    ∙ ap (λ x. Some (color a r x (hex_value (hex_byte b)))) (byte_value g hg)
+    ∙ ap (λ x. Some (color a r g x)) (byte_value b hb))
+
+color_plain : (a r g b : ℕ) → a < 256 → r < 256 → g < 256 → b < 256 → list_all no_tag (hex_color (a ∷ r ∷ g ∷ b ∷ [])) ≡ true
+color_plain a r g b ha hr hg hb =
+    let a1 = digit (a / 16) (omega arith) in let a2 = digit (a % 16) (omega arith) in
+    let r1 = digit (r / 16) (omega arith) in let r2 = digit (r % 16) (omega arith) in
+    let g1 = digit (g / 16) (omega arith) in let g2 = digit (g % 16) (omega arith) in
+    let b1 = digit (b / 16) (omega arith) in let b2 = digit (b % 16) (omega arith) in
+    rw (a1.plain, a2.plain, r1.plain, r2.plain, g1.plain, g2.plain, b1.plain, b2.plain) refl
+
+-- numbers
+digits_start : (ds t : List ℕ) → all_ascii_digits ds ≡ true → 0 < length ds → starts_digit (ds ++ t) ≡ true
+digits_start [] t h some = absurd (omega arith)
+digits_start (d ∷ ds) t h some = (both (is_ascii_digit d) (all_ascii_digits ds) h).0
+
+digits_number : (t : List ℕ) → starts_digit t ≡ true → starts_number t ≡ true
+digits_number [] h = cc
+digits_number (c ∷ t) h = grind arith
+
+starts_from : (c : ℤ) (s : ℕ) (t : List ℕ) → unsigned_abs c < 10 ^ 64 → starts_number (spelling (record { c = c; s = s }) ++ t) ≡ true
+starts_from (pos n) s t small =
+    let whole : n / 10 ^ s < 10 ^ 64 = omega (arith, div-le_self n (10 ^ s)) in
+    rw (append_assoc (decimal (n / 10 ^ s)) (point_and n s) t)
+    (digits_number (decimal (n / 10 ^ s) ++ (point_and n s ++ t)) (digits_start (decimal (n / 10 ^ s)) (point_and n s ++ t) (decimal-digits (n / 10 ^ s) whole) ((decimal_is_IsNumeral_wide (n / 10 ^ s) whole).0.0)))
+starts_from (negsuc n) s t small =
+    let whole : suc n / 10 ^ s < 10 ^ 64 = omega (arith, div-le_self (suc n) (10 ^ s)) in
+    rw (append_assoc (decimal (suc n / 10 ^ s)) (point_and (suc n) s) t)
+    (digits_start (decimal (suc n / 10 ^ s)) (point_and (suc n) s ++ t) (decimal-digits (suc n / 10 ^ s) whole) ((decimal_is_IsNumeral_wide (suc n / 10 ^ s) whole).0.0))
+
+number_read : (f : Decimal → List ℕ → Option Content) (d : Decimal) (t : List ℕ) → IsDec d → ends_number t ≡ true → numbered f (spelling d ++ t) ≡ f d t
+number_read f d t h e = rw (starts_from d.c d.s t (omega (arith, h.size))) (ap (λ r. f r.0 r.1) (number_again d t h e))
+
+alone_read : (f : Decimal → List ℕ → Option Content) (d : Decimal) → IsDec d → numbered f (spelling d) ≡ f d []
+alone_read f d h = let P : List ℕ → Type 0 = λ t. numbered f t ≡ f d [] in subst P (append-nil (spelling d)) (number_read f d [] h refl)
+
+unit_ends : (u : List ℕ) → is_unit u ≡ true → ends_number u ≡ true
+unit_ends [] h = cc
+unit_ends (c ∷ w) h = let l = both (is_ascii_alphabetic c) (list_all is_ascii_alphabetic w) h in grind (arith, l.0)
+
+dimen_read : (d : Decimal) (u : List ℕ) → IsDec d → is_unit u ≡ true → numbered with_unit (spelling d ++ u) ≡ Some (dimen d u)
+dimen_read d u h is = number_read with_unit d u h (unit_ends u is) ∙ rw is refl
+
+digits_plain : (ds : List ℕ) → all_ascii_digits ds ≡ true → list_all no_tag ds ≡ true
+digits_plain [] h = refl
+digits_plain (d ∷ ds) h =
+    let l = both (is_ascii_digit d) (all_ascii_digits ds) h in let a : no_tag d ≡ true = grind (arith, l.0) in together (no_tag d) (list_all no_tag ds) a (digits_plain ds l.1)
+
+all-append : (xs ys : List ℕ) → list_all no_tag xs ≡ true → list_all no_tag ys ≡ true → list_all no_tag (xs ++ ys) ≡ true
+all-append xs ys h i = list_all-append no_tag xs ys ∙ together (list_all no_tag xs) (list_all no_tag ys) h i
+
+point_plain : (b : Bool) (n s : ℕ) → list_all no_tag (if b then [] else 46 ∷ last_digits s n) ≡ true
+point_plain true n s = refl
+point_plain false n s = digits_plain (last_digits s n) (last_digits-digits s n)
+
+size_plain : (n s : ℕ) → n < 10 ^ 64 → list_all no_tag (decimal (n / 10 ^ s) ++ point_and n s) ≡ true
+size_plain n s small =
+    let whole : n / 10 ^ s < 10 ^ 64 = omega (arith, div-le_self n (10 ^ s)) in
+    all-append (decimal (n / 10 ^ s)) (point_and n s) (digits_plain (decimal (n / 10 ^ s)) (decimal-digits (n / 10 ^ s) whole)) (point_plain (s == 0) n s)
+
+plain_from : (c : ℤ) (s : ℕ) → unsigned_abs c < 10 ^ 64 → list_all no_tag (spelling (record { c = c; s = s })) ≡ true
+plain_from (pos n) s small = size_plain n s small
+plain_from (negsuc n) s small = size_plain (suc n) s small
+
+number_plain : (d : Decimal) → IsDec d → list_all no_tag (spelling d) ≡ true
+number_plain d h = plain_from d.c d.s (omega (arith, h.size))
+
+letters_plain : (w : List ℕ) → list_all is_ascii_alphabetic w ≡ true → list_all no_tag w ≡ true
+letters_plain [] h = refl
+letters_plain (c ∷ w) h =
+    let l = both (is_ascii_alphabetic c) (list_all is_ascii_alphabetic w) h in let a : no_tag c ≡ true = grind (arith, l.0) in together (no_tag c) (list_all no_tag w) a (letters_plain w l.1)
+
+unit_plain : (u : List ℕ) → is_unit u ≡ true → list_all no_tag u ≡ true
+unit_plain [] h = cc
+unit_plain (c ∷ w) h = letters_plain (c ∷ w) h
+
+-- contents that can be spelled
+pub data IsFine : Content → Type 0 where
+  fine_color : (a r g b : ℕ) → a < 256 → r < 256 → g < 256 → b < 256 → IsFine (color a r g b)
+  fine_dimen : (d : Decimal) (u : List ℕ) → IsDec d → is_unit u ≡ true → IsFine (dimen d u)
+  fine_integer : (d : Decimal) → IsDec d → (d.s == 0) ≡ true → IsFine (integer d)
+  fine_item : (d : Decimal) → IsDec d → IsFine (item d)
+  fine_string : (t : List ℕ) → list_all no_tag t ≡ true → IsFine (string t)
+
+pub fine_read : {c : Content} → IsFine c → content_in (tag_of c) (content_text c) ≡ Some c
+fine_read (fine_color a r g b ha hr hg hb) = color_read a r g b ha hr hg hb
+fine_read (fine_dimen d u h is) = dimen_read d u h is
+fine_read (fine_integer d h whole) = alone_read whole_alone d h ∙ rw whole refl
+fine_read (fine_item d h) = alone_read (λ e. alone (item e)) d h
+fine_read (fine_string t h) = refl
+
+pub fine_plain : {c : Content} → IsFine c → list_all no_tag (content_text c) ≡ true
+fine_plain (fine_color a r g b ha hr hg hb) = color_plain a r g b ha hr hg hb
+fine_plain (fine_dimen d u h is) = all-append (spelling d) u (number_plain d h) (unit_plain u is)
+fine_plain (fine_integer d h whole) = number_plain d h
+fine_plain (fine_item d h) = number_plain d h
+fine_plain (fine_string t h) = h

@@ -1,0 +1,11 @@
+pub mod BlocksJoin
+pub mod ContentsRead
+pub mod FiveLines
+pub mod OneReading
+pub mod OwnNamesApart
+pub mod Runs
+pub mod SheetsDenote
+pub mod SpelledIsRead
+pub mod TextsRead
+pub mod ValuesSpellable
+pub mod Words

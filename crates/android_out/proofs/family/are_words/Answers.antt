@@ -1,0 +1,16 @@
+use Rattle.std.proofs.Common.{◌≡◌, false, true, sym, ◌∙◌, refl}
+use Rattle.android_out.proofs.Words.{words_by_bytes, next_byte, last_byte}
+use Rattle.android_out.proofs.family.are_words.Goals as goal
+
+pub returns-then-not-begun : goal.returns-then-not-begun
+returns-then-not-begun c =
+    let t = c.args.text.now in
+    sym (words_by_bytes t ∙ c.loop-c.invariant ∙ next_byte c.loop-c.begun t c.loop-c.c-index c.loop-c-test.true ∙ rw (c.if-c-eq32.true, c.if-not-begun.true) refl)
+
+pub returns-else-is_plain_char : goal.returns-else-is_plain_char
+returns-else-is_plain_char c = let f = c.if-c-eq32 in ?
+
+pub returns : goal.returns
+returns c =
+    let t = c.args.text.now in
+    sym (words_by_bytes t ∙ c.loop-c.invariant ∙ last_byte c.loop-c.begun t c.loop-c.c-index c.loop-c-test.false)

@@ -1,0 +1,8 @@
+pub mod Lists
+pub mod Element
+pub mod PlatformValue
+pub mod Spelling
+pub mod Reading
+pub mod Sheets
+pub mod Laws
+pub mod inner

@@ -1,0 +1,100 @@
+-- How a resource file is read, in the profile of XML that outputs keep to: one block of elements, each with a name. Blanks,
+-- newlines and comments between them give nothing. Nothing here knows of tokens or kinds.
+use Rattle.std.specs.Prelude.{◌≡◌, ℕ, ◌+◌, ◌*◌, ◌==◌, ◌&&◌, ◌||◌, not, Bool, true, false, List, [], ◌∷◌, ◌++◌, codes, Option, Some, None, if◌then◌else◌}
+use Rattle.std.specs.Char.{is_ascii_alphabetic, is_ascii_digit, is_ascii_hexdigit}
+use Rattle.std.specs.List.{list_all}
+use Rattle.dec_fix.specs.Decimal.{Decimal}
+use Rattle.dec_fix.specs.Following.{number_at}
+use Rattle.transforms.specs.Hexadecimal.{hex_value}
+use Rattle.transforms.specs.PlatformName.{is_identifier}
+use Rattle.android_out.specs.Element.{Content, color, dimen, integer, item, string, Values, Tag, color_tag, dimen_tag, integer_tag, item_tag, string_tag, tag_of, element_text}
+
+-- `#` and eight hexadecimal digits
+abbrev pub eight_digits : List ℕ → Option Content
+eight_digits (a ∷ b ∷ c ∷ d ∷ e ∷ f ∷ g ∷ h ∷ []) =
+    if list_all is_ascii_hexdigit (a ∷ b ∷ c ∷ d ∷ e ∷ f ∷ g ∷ h ∷ [])
+    then Some (color (hex_value (a ∷ b ∷ [])) (hex_value (c ∷ d ∷ [])) (hex_value (e ∷ f ∷ [])) (hex_value (g ∷ h ∷ [])))
+    else None
+eight_digits digits = None
+
+abbrev pub color_in : List ℕ → Option Content
+color_in [] = None
+color_in (c ∷ t) = if c == 35 then eight_digits t else None
+
+-- a number begins with a digit, or with `-` and a digit
+abbrev pub starts_digit : List ℕ → Bool
+starts_digit [] = false
+starts_digit (c ∷ t) = is_ascii_digit c
+
+abbrev pub starts_number : List ℕ → Bool
+starts_number [] = false
+starts_number (c ∷ t) = is_ascii_digit c || ((c == 45) && starts_digit t)
+
+-- a number of any length and what follows it
+abbrev pub numbered : (Decimal → List ℕ → Option Content) → List ℕ → Option Content
+numbered f t = if starts_number t then f (number_at t).0 (number_at t).1 else None
+
+-- letters
+abbrev pub is_unit : List ℕ → Bool
+is_unit [] = false
+is_unit (c ∷ w) = list_all is_ascii_alphabetic (c ∷ w)
+
+abbrev pub with_unit : Decimal → List ℕ → Option Content
+with_unit d unit = if is_unit unit then Some (dimen d unit) else None
+
+abbrev pub alone : Content → List ℕ → Option Content
+alone content [] = Some content
+alone content (c ∷ t) = None
+
+abbrev pub whole_alone : Decimal → List ℕ → Option Content
+whole_alone d t = if d.s == 0 then alone (integer d) t else None
+
+-- what the content of an element of the tag says
+abbrev pub content_in : Tag → List ℕ → Option Content
+content_in color_tag t = color_in t
+content_in dimen_tag t = numbered with_unit t
+content_in integer_tag t = numbered whole_alone t
+content_in item_tag t = numbered (λ d. alone (item d)) t
+content_in string_tag t = Some (string t)
+
+-- not the start of a tag
+abbrev pub no_tag : ℕ → Bool
+no_tag c = not (c == 60)
+
+-- The text is an element of this name which says this.
+pub record IsElement (text name : List ℕ) (content : Content) : Type 0 where
+  pub inside : List ℕ
+  pub whole : text ≡ element_text (tag_of content) name inside
+  pub named : is_identifier name ≡ true
+  pub plain : list_all no_tag inside ≡ true
+  pub says : content_in (tag_of content) inside ≡ Some content
+
+abbrev pub is_blank : ℕ → Bool
+is_blank c = (c == 32) || (c == 10)
+
+-- what follows the first `-->`
+abbrev pub after_comment : List ℕ → Option (List ℕ)
+after_comment [] = None
+after_comment (c ∷ []) = None
+after_comment (c ∷ d ∷ []) = None
+after_comment (c ∷ d ∷ e ∷ t) = if (c == 45) && ((d == 45) && (e == 62)) then Some t else after_comment (d ∷ e ∷ t)
+
+-- The elements of a text, read alone.
+pub data Block : List ℕ → Values → Type 0 where
+  ended : (t : List ℕ) → t ≡ [] → Block t []
+  blank : (t : List ℕ) (c : ℕ) (rest : List ℕ) (vs : Values) → t ≡ c ∷ rest → is_blank c ≡ true → Block rest vs → Block t vs
+  comment : (t inside rest : List ℕ) (vs : Values) → t ≡ codes "<!--" ++ inside → after_comment inside ≡ Some rest → Block rest vs → Block t vs
+  element : (t text name rest : List ℕ) (content : Content) (vs : Values) → t ≡ text ++ rest → IsElement text name content
+      → Block rest vs → Block t ((name, content) ∷ vs)
+
+abbrev pub head : List ℕ
+head = codes "<?xml version=\"1.0\" encoding=\"utf-8\"?>\n<resources>\n"
+
+abbrev pub foot : List ℕ
+foot = codes "</resources>\n"
+
+-- a whole file, and what it says
+pub record Reads (bytes : List ℕ) (vs : Values) : Type 0 where
+  pub inside : List ℕ
+  pub frame : bytes ≡ head ++ (inside ++ foot)
+  pub block : Block inside vs

@@ -1,0 +1,11 @@
+-- Contents of the code as data.
+use Rattle.android_out.specs.Element.{Content, color, dimen, integer, item, string}
+use Rattle.android_out.specs.declared.content.Content.{Content as Held}
+use Rattle.android_out.specs.declared.content.Content.TheVariants as held
+
+abbrev pub content_view : Held → Content
+content_view (held.Color alpha red green blue) = color alpha red green blue
+content_view (held.Dimen number unit) = dimen number unit.now
+content_view (held.Integer number) = integer number
+content_view (held.Item number) = item number
+content_view (held.Text text) = string text.now

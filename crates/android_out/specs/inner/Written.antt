@@ -1,0 +1,23 @@
+-- What a fragment of given values is, and how its lines grow.
+use Rattle.std.specs.Prelude.{◌≡◌, ℕ, ◌==◌, Bool, true, false, List, [], ◌∷◌, ◌++◌, codes, if◌then◌else◌}
+use Rattle.transforms.specs.declared.sheet.Frag.{Frag}
+use Rattle.android_out.specs.Element.{Content, Values, value_names, Tag, tag_name, attributes}
+use Rattle.android_out.specs.PlatformValue.{is_plain_char}
+use Rattle.android_out.specs.Spelling.{body_text}
+
+-- the names of the values, and their lines under the token's name
+pub record IsFragment (name : List ℕ) (vs : Values) (f : Frag) : Type 0 where
+  pub names : f.names ≡ value_names vs
+  pub body : f.body ≡ body_text name vs
+
+-- a line up to its content, and behind it
+abbrev pub start_text : Tag → List ℕ → List ℕ
+start_text tag name = codes "  <" ++ (tag_name tag ++ (attributes tag ++ (codes " name=\"" ++ (name ++ codes "\">"))))
+
+abbrev pub end_text : Tag → List ℕ
+end_text tag = codes "</" ++ (tag_name tag ++ codes ">\n")
+
+-- words with single blanks between, where a word is begun or none is
+abbrev pub words_from : Bool → List ℕ → Bool
+words_from begun [] = begun
+words_from begun (c ∷ t) = if c == 32 then (if begun then words_from false t else false) else (if is_plain_char c then words_from true t else false)

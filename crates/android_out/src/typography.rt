@@ -1,0 +1,68 @@
+//! The five elements of a typography.
+
+ghost use Rattle.std.specs.Prelude.{◌≡◌, ◌∷◌, [], ◌++◌, OnOk, IfOk};
+ghost use Rattle.composite_rules.specs.Sound.{IsTypography};
+ghost use Rattle.android_out.specs.PlatformValue.{five_values};
+ghost use Rattle.android_out.specs.Spelling.{line_text};
+ghost use Rattle.android_out.specs.inner.View.{content_view};
+ghost use Rattle.android_out.specs.inner.Written.{IsFragment};
+
+use crate::content::{Content, size_content};
+use composite_rules::Typography;
+use std::alloc::Global;
+use tk_io::{Bytes, NoMemory};
+use transforms::{Config, Frag, Names};
+
+fn ended(alloc: Global, name: &[u8], ending: &str) -> Result<Bytes, NoMemory>
+    ensures { IfOk result (λ b. b ≡ name.now ++ ending.now) }
+{
+    let mut ended = Bytes::new(alloc);
+    ended.append(name)?;
+    ended.append(ending.as_bytes())?;
+    Ok(ended)
+}
+
+// Adds the element of the name with this ending.
+fn add(
+    alloc: Global,
+    lines: &mut Frag,
+    name: &[u8],
+    ending: &str,
+    content: &Content<'_>,
+) -> Result<(), NoMemory>
+    ensures names { OnOk result (lines.new.names ≡ lines.old.names ++ (name.now ++ ending.now) ∷ []) }
+    ensures body { OnOk result (lines.new.body ≡ lines.old.body ++ line_text (name.now ++ ending.now, content_view content.now)) }
+{
+    let name = ended(alloc, name, ending)?;
+    content.append_line(name.as_slice(), &mut lines.body)?;
+    lines.names.push(name)?;
+    Ok(())
+}
+
+/// The five names and elements; the family and the weight are those that are given.
+pub(crate) fn typography_fragment(
+    alloc: Global,
+    cfg: &Config,
+    name: &[u8],
+    value: &Typography<'_>,
+    family: &Content<'_>,
+    weight: &Content<'_>,
+) -> Result<Frag, NoMemory>
+    requires { IsTypography value.now }
+    ensures { IfOk result (IsFragment name.now
+        (five_values cfg.now name.now value.now (content_view family.now) (content_view weight.now))) }
+{
+    let mut lines = Frag {
+        names: Names::new(alloc),
+        body: Bytes::new(alloc),
+    };
+    let size = size_content(cfg, "sp", &value.size);
+    let spacing = size_content(cfg, "dp", &value.spacing);
+    let height = Content::Item(value.line_height);
+    add(alloc, &mut lines, name, "_font_family", family)?;
+    add(alloc, &mut lines, name, "_font_size", &size)?;
+    add(alloc, &mut lines, name, "_font_weight", weight)?;
+    add(alloc, &mut lines, name, "_letter_spacing", &spacing)?;
+    add(alloc, &mut lines, name, "_line_height", &height)?;
+    Ok(lines)
+}
