@@ -1,5 +1,5 @@
 -- What a text says alone, it says before any other.
-use Rattle.std.proofs.Common.{◌≡◌, ℕ, ◌==◌, ◌&&◌, Bool, true, false, List, [], ◌∷◌, ◌++◌, refl, sym, ◌∙◌, ap, subst, append_assoc, Option, Some, None}
+use Rattle.std.proofs.Common.{◌≡◌, ℕ, ◌==◌, ◌&&◌, Bool, true, false, List, [], ◌∷◌, ◌++◌, sym, ◌∙◌, ap, subst, append_assoc, Option, Some}
 use Rattle.std.specs.Prelude.{if◌then◌else◌}
 use Rattle.android_out.specs.Element.{Values}
 use Rattle.android_out.specs.Reading.{after_comment, Block, ended, blank, comment, element}

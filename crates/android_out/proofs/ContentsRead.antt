@@ -1,21 +1,20 @@
 -- Contents are read as they are spelled.
-use Rattle.std.proofs.Common.{◌≡◌, ◌≢◌, ℕ, zero, suc, ◌+◌, ◌-◌, ◌*◌, ◌/◌, ◌%◌, ◌^◌, ◌<◌, ◌≤◌, ◌==◌, ◌&&◌, ◌||◌, not, Bool, true, false, cond, List, [], ◌∷◌, ◌++◌, length, refl, sym, ◌∙◌, ap, subst, append_assoc, append-nil, codes, Option, Some, None, arith, nat_lt, ℤ, pos, negsuc, unsigned_abs}
+use Rattle.std.proofs.Common.{◌≡◌, ℕ, zero, suc, ◌/◌, ◌%◌, ◌^◌, ◌<◌, ◌==◌, ◌&&◌, Bool, true, false, List, [], ◌∷◌, ◌++◌, length, refl, ◌∙◌, ap, subst, append_assoc, append-nil, Option, Some, arith, ℤ, pos, negsuc, unsigned_abs}
 use Rattle.std.specs.Prelude.{if◌then◌else◌}
 use Rattle.std.specs.Char.{is_ascii_alphabetic, is_ascii_digit, is_ascii_hexdigit, digit_char, digit_value, to_ascii_uppercase}
 use Rattle.std.specs.Fmt.{decimal}
 use Rattle.std.specs.List.{list_all}
 use Rattle.std.specs.Str.{all_ascii_digits}
 use Rattle.std.proofs.Math.Nat.{div-le_self}
-use Rattle.std.proofs.lemmas.Bool.Decides.{nat_tests}
 use Rattle.std.proofs.lemmas.Fmt.{decimal_is_IsNumeral_wide}
 use Rattle.std.proofs.lemmas.List.Folds.{list_all-append}
 use Rattle.dec_fix.specs.Decimal.{Decimal, IsDec}
-use Rattle.dec_fix.specs.Following.{number_at, ends_number}
-use Rattle.dec_fix.specs.Writing.{spelling, point_and, last_digits, sign_of}
+use Rattle.dec_fix.specs.Following.{ends_number}
+use Rattle.dec_fix.specs.Writing.{spelling, point_and, last_digits}
 use Rattle.dec_fix.proofs.Again.{number_again, decimal-digits, last_digits-digits}
 use Rattle.transforms.specs.Hexadecimal.{hex_byte, hex_color, hex_value}
 use Rattle.android_out.specs.Element.{Content, color, dimen, integer, item, string, tag_of}
-use Rattle.android_out.specs.Reading.{eight_digits, color_in, starts_digit, starts_number, numbered, is_unit, with_unit, alone, whole_alone, content_in, no_tag}
+use Rattle.android_out.specs.Reading.{color_in, starts_digit, starts_number, numbered, is_unit, with_unit, alone, whole_alone, content_in, no_tag}
 use Rattle.android_out.specs.Spelling.{content_text}
 use Rattle.android_out.proofs.Runs.{both}
 

@@ -9,7 +9,7 @@ use Rattle.composite_rules.specs.declared.typed.Typed.{Typed}
 use Rattle.composite_rules.specs.declared.typed.Typed.TheVariants as typed
 use Rattle.composite_rules.specs.declared.typography.Typography.{Typography}
 use Rattle.android_out.specs.Lists.{In, AreApart}
-use Rattle.android_out.specs.Element.{Content, Values, value_names}
+use Rattle.android_out.specs.Element.{Content, value_names}
 use Rattle.android_out.specs.PlatformValue.{simple_content, family_content, whole_content, family_end, size_end, weight_end, spacing_end, height_end, one_value, unless_omitted, android_values}
 
 -- texts that a test tells apart

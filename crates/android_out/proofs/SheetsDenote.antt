@@ -1,18 +1,17 @@
 -- A file denotes the values of its tokens.
-use Rattle.std.proofs.Common.{◌≡◌, ℕ, zero, suc, ◌<◌, ◌^◌, Bool, true, false, List, [], ◌∷◌, ◌++◌, map, flat_map, length, refl, sym, ◌∙◌, ap, subst, inl, inr, arith}
+use Rattle.std.proofs.Common.{◌≡◌, ℕ, zero, suc, ◌<◌, ◌^◌, true, List, [], ◌∷◌, ◌++◌, map, flat_map, refl, sym, ◌∙◌, ap, subst, inl, inr, arith}
 use Rattle.std.specs.Prelude.{◌⊎◌, AllPairs, Contains}
 use Rattle.std.specs.List.{AllByRecursion}
-use Rattle.transforms.specs.Clash.{Named, ShareNoName}
+use Rattle.transforms.specs.Clash.{ShareNoName}
 use Rattle.transforms.specs.Config.{Settings}
 use Rattle.transforms.specs.PlatformName.{is_identifier}
-use Rattle.transforms.specs.Sheet.{sheet_text}
 use Rattle.composite_rules.specs.Sound.{IsTyped}
 use Rattle.composite_rules.specs.declared.typed.Typed.{Typed}
 use Rattle.android_out.specs.Lists.{In, AreApart, Each}
-use Rattle.android_out.specs.Element.{Values, value_names}
-use Rattle.android_out.specs.Reading.{Block, ended, head, foot, Reads}
-use Rattle.android_out.specs.Spelling.{android_name, fragment_values, fragment_names, fragment_text}
-use Rattle.android_out.specs.Sheets.{Cell, android_frame, cell_text, cell_values, cell_names, sheet_bytes, sheet_values, IsSheet, Denotes}
+use Rattle.android_out.specs.Element.{value_names}
+use Rattle.android_out.specs.Reading.{Block, ended}
+use Rattle.android_out.specs.Spelling.{android_name, fragment_values, fragment_text}
+use Rattle.android_out.specs.Sheets.{Cell, cell_text, cell_values, cell_names, sheet_bytes, sheet_values, IsSheet, Denotes}
 use Rattle.android_out.proofs.BlocksJoin.{joined}
 use Rattle.android_out.proofs.OwnNamesApart.{own_apart}
 use Rattle.android_out.proofs.SpelledIsRead.{body_read}
@@ -106,8 +105,8 @@ module _ (settings : Settings) (cells : List Cell) (sheet : IsSheet settings cel
   apart_names [] h = tt
   apart_names (c ∷ cs) h =
       apart_append (names c) (flat_map names cs) (own_apart settings (android_name settings c.path) c.typed) (apart_names cs (other_pairs ShareNoName (cell_names settings c) (map (cell_names settings) cs) h)) (λ name i j.
-        let (d, k, l) = from_flat names name cs j in
-        first_pair ShareNoName (cell_names settings c) (cell_names settings d) (map (cell_names settings) cs) h (in_map (cell_names settings) d cs k) name (contains name (names c) i) (contains name (names d) l))
+      let (d, k, l) = from_flat names name cs j in
+      first_pair ShareNoName (cell_names settings c) (cell_names settings d) (map (cell_names settings) cs) h (in_map (cell_names settings) d cs k) name (contains name (names c) i) (contains name (names d) l))
 
   pub sheet_denotes : Denotes (sheet_bytes settings cells) (sheet_values settings cells)
   sheet_denotes = record {

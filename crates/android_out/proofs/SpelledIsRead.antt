@@ -1,8 +1,6 @@
 -- What is spelled is read as it is.
-use Rattle.std.proofs.Common.{◌≡◌, ℕ, ◌==◌, ◌&&◌, ◌||◌, not, Bool, true, false, List, [], ◌∷◌, ◌++◌, flat_map, refl, sym, ◌∙◌, ap, subst, append_assoc, codes, Option, Some, None, arith, nat_lt, length}
-use Rattle.std.specs.Prelude.{if◌then◌else◌}
+use Rattle.std.proofs.Common.{◌≡◌, ℕ, ◌==◌, ◌&&◌, not, Bool, true, false, List, [], ◌∷◌, ◌++◌, flat_map, refl, subst, append_assoc, codes, Some, arith, nat_lt, length}
 use Rattle.std.specs.List.{list_all, AllByRecursion}
-use Rattle.std.proofs.lemmas.Bool.Decides.{nat_tests}
 use Rattle.transforms.specs.PlatformName.{is_kept, is_identifier, begins_with_digit}
 use Rattle.transforms.specs.declared.platform.Platform.TheVariants.{Android}
 use Rattle.android_out.specs.Element.{Content, Values, tag_of, element_text}

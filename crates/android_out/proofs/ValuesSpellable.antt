@@ -1,16 +1,15 @@
 -- What a token is to have can be spelled.
-use Rattle.std.proofs.Common.{◌≡◌, ◌≢◌, ℕ, zero, suc, ◌+◌, ◌-◌, ◌*◌, ◌/◌, ◌%◌, ◌^◌, ◌<◌, ◌≤◌, ◌==◌, ◌&&◌, ◌||◌, not, Bool, true, false, cond, List, [], ◌∷◌, ◌++◌, length, refl, sym, ◌∙◌, ap, subst, codes, Option, Some, None, arith, nat_lt, ℤ, pos, negsuc, unsigned_abs}
+use Rattle.std.proofs.Common.{◌≡◌, ◌≢◌, ℕ, zero, suc, ◌+◌, ◌*◌, ◌/◌, ◌%◌, ◌^◌, ◌<◌, ◌≤◌, ◌==◌, ◌&&◌, Bool, true, false, cond, List, [], ◌∷◌, ◌++◌, refl, sym, ◌∙◌, subst, codes, Option, Some, None, arith, nat_lt, ℤ, pos, negsuc, unsigned_abs}
 use Rattle.std.specs.Prelude.{if◌then◌else◌, IfSome, option_and_then, option_map, is_some}
 use Rattle.std.specs.Char.{digit_value}
-use Rattle.std.specs.List.{list_all, AllByRecursion, slice_split}
+use Rattle.std.specs.List.{list_all, AllByRecursion}
 use Rattle.std.specs.Option.{option_or}
 use Rattle.std.specs.Ordering.{int_cmp}
-use Rattle.std.specs.declared.cmp.Ordering.{Ordering}
 use Rattle.std.specs.declared.cmp.Ordering.TheVariants.{Less, Equal, Greater}
 use Rattle.std.proofs.Math.Nat.{div-le_self, div-lt_iff_lt-mul, mul-le-mul_left}
 use Rattle.std.proofs.lemmas.Bool.Decides.{nat_tests}
-use Rattle.dec_fix.specs.Decimal.{Decimal, IsDec, IsExact, IsShort, is_negative, signed, shortest, decimal_of}
-use Rattle.dec_fix.specs.Arithmetic.{IsPart, order_with, times, whole_of, byte_of}
+use Rattle.dec_fix.specs.Decimal.{Decimal, IsDec, IsExact, is_negative, shortest, decimal_of}
+use Rattle.dec_fix.specs.Arithmetic.{IsPart, times, whole_of, byte_of}
 use Rattle.dec_fix.proofs.OneShortest.{shortest-short}
 use Rattle.dec_fix.proofs.SameNumber.{unsigned_abs-signed, ten_above}
 use Rattle.transforms.specs.Config.{Settings}
@@ -19,8 +18,8 @@ use Rattle.transforms.specs.PlatformName.{is_kept, is_identifier}
 use Rattle.transforms.specs.Scaling.{scaled}
 use Rattle.transforms.specs.declared.platform.Platform.TheVariants.{Android}
 use Rattle.transforms.proofs.Endings.{endings_stay}
-use Rattle.type_rules.specs.Ranges.{ranges_of, share, holds}
-use Rattle.type_rules.specs.Sound.{IsColor, IsSize, IsTime, IsInRange, IsSimple, IsHex, IsShare, IsWeight, is_hex_digit}
+use Rattle.type_rules.specs.Ranges.{ranges_of, share}
+use Rattle.type_rules.specs.Sound.{IsColor, IsSize, IsInRange, IsSimple, IsHex, is_hex_digit}
 use Rattle.type_rules.proofs.Kept.{shares_are_parts}
 use Rattle.type_rules.specs.declared.color.Color.{Color}
 use Rattle.type_rules.specs.declared.simple.Simple.{Simple}
@@ -28,15 +27,14 @@ use Rattle.type_rules.specs.declared.simple.Simple.TheVariants as simple
 use Rattle.type_rules.specs.declared.size.Size.{Size}
 use Rattle.type_rules.specs.declared.space.Space.{Space}
 use Rattle.type_rules.specs.declared.space.Space.TheVariants.{Srgb, SrgbLinear, DisplayP3, A98Rgb, ProphotoRgb, Rec2020, XyzD65, XyzD50, Hsl, Hwb, Lab, Lch, Oklab, Oklch}
-use Rattle.type_rules.specs.declared.time.Time.{Time}
 use Rattle.type_rules.specs.declared.time.TimeUnit.{TimeUnit}
 use Rattle.type_rules.specs.declared.time.TimeUnit.TheVariants.{Ms, S}
 use Rattle.composite_rules.specs.Sound.{IsTyped, IsTypography}
 use Rattle.composite_rules.specs.declared.typed.Typed.{Typed}
 use Rattle.composite_rules.specs.declared.typed.Typed.TheVariants as typed
 use Rattle.composite_rules.specs.declared.typography.Typography.{Typography}
-use Rattle.android_out.specs.Element.{Content, color, dimen, integer, item, string, Values}
-use Rattle.android_out.specs.PlatformValue.{is_srgb, component_color, digits_color, color_content, is_rem, size_content, whole_content, milliseconds_in, time_content, is_plain_char, are_words, family_content, simple_content, family_end, size_end, weight_end, spacing_end, height_end, five_values, one_value, unless_omitted, android_values}
+use Rattle.android_out.specs.Element.{Content, color, integer, item, string}
+use Rattle.android_out.specs.PlatformValue.{is_srgb, component_color, digits_color, color_content, is_rem, size_content, whole_content, milliseconds_in, is_plain_char, are_words, family_content, simple_content, family_end, size_end, weight_end, spacing_end, height_end, one_value, unless_omitted, android_values}
 use Rattle.android_out.specs.Reading.{no_tag, is_unit}
 use Rattle.android_out.specs.inner.Written.{words_from}
 use Rattle.android_out.proofs.Runs.{both}

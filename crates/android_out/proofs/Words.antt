@@ -1,7 +1,8 @@
 -- Words with single blanks between, byte by byte.
-use Rattle.std.proofs.Common.{◌≡◌, ℕ, zero, suc, ◌+◌, ◌<◌, ◌≤◌, ◌==◌, ◌&&◌, Bool, true, false, cond, List, [], ◌∷◌, length, get_or, drop, refl, sym, ◌∙◌, ap, arith, add-one}
+use Rattle.std.proofs.Common.{◌≡◌, ℕ, ◌+◌, ◌<◌, ◌≤◌, ◌==◌, ◌&&◌, Bool, true, false, cond, List, [], ◌∷◌, length, get_or, drop, refl, sym, ◌∙◌, ap, arith, add-one}
 use Rattle.std.specs.Prelude.{if◌then◌else◌}
 use Rattle.std.specs.List.{list_all, slice_split, onto_first}
+use Rattle.std.proofs.lemmas.Bool.Decides.{nat_tests}
 use Rattle.std.proofs.Math.Seq.{drop-cons}
 use Rattle.std.proofs.lemmas.List.{drop_all}
 use Rattle.android_out.specs.PlatformValue.{is_plain_char, is_word, are_words}
@@ -51,3 +52,14 @@ next_byte b t i h = let cut : drop i t ≡ get_or t i 0 ∷ drop (i + 1) t = rw 
 
 pub last_byte : (b : Bool) (t : List ℕ) (i : ℕ) → length t ≤ i → words_from b (drop i t) ≡ b
 last_byte b t i h = ap (words_from b) (drop_all i t h)
+
+pub other_byte : (b : Bool) (c : ℕ) (t : List ℕ) → (c ≡ 32 → ⊥) → is_plain_char c ≡ false → words_from b (c ∷ t) ≡ false
+other_byte b c t h k = at (c == 32) (is_plain_char c) no k
+  where
+    no : (c == 32) ≡ false
+    no = grind (arith, nat_tests, h)
+
+    at : (s p : Bool) → s ≡ false → p ≡ false → (if s then (if b then words_from false t else false) else (if p then words_from true t else false)) ≡ false
+    at true p e f = cc
+    at false true e f = cc
+    at false false e f = refl

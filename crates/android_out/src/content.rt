@@ -133,7 +133,10 @@ pub(crate) fn size_content(cfg: &Config, unit: &'static str, size: &Size) -> Con
     requires { IsSize size.now }
     ensures { content_view result ≡ size_content cfg.now unit.now size.now }
 {
-    Content::Dimen(scale_rem(&size.value, is_rem(size.unit), cfg.rem_base), unit)
+    Content::Dimen(
+        scale_rem(&size.value, is_rem(size.unit), cfg.rem_base),
+        unit,
+    )
 }
 
 /// A number that is whole and of 32 bits.

@@ -18,7 +18,6 @@ use std::alloc::Global;
 use tk_io::{Bytes, NoMemory};
 use transforms::{Config, Frag, Frame, Names, Platform, name_for};
 
-
 /// What stands around the fragments of a resource file.
 pub const FRAME: Frame = Frame {
     head: b"<?xml version=\"1.0\" encoding=\"utf-8\"?>\n<resources>\n",
@@ -76,12 +75,14 @@ fn five_lines(
     typography_fragment(alloc, cfg, name, value, &family, &weight)
 }
 
-fn written(
-    alloc: Global,
-    cfg: &Config,
-    name: Bytes,
-    typed: &Typed<'_>,
-) -> Result<Frag, NoMemory>
+// The pixels of a rem are held in a byte.
+fn has_base(cfg: &Config)
+    ensures { cfg.now.rem_base < 2 ^ 8 }
+{
+    let _base = cfg.rem_base;
+}
+
+fn written(alloc: Global, cfg: &Config, name: Bytes, typed: &Typed<'_>) -> Result<Frag, NoMemory>
     requires { IsTyped typed.now }
     ensures { IfOk result (IsFragment name (android_values cfg.now name typed.now)) }
 {
@@ -117,6 +118,7 @@ pub fn fragment(
     ensures named { IfOk result (λ f. IsNamed cfg.now path.now) }
     ensures reads { IfOk result (λ f. IsReadAsValues cfg.now path.now typed.now f.body) }
 {
+    has_base(cfg);
     let name = name_for(alloc, Platform::Android, path, cfg)?;
     let fragment = written(alloc, cfg, name, typed)?;
     Ok(fragment)

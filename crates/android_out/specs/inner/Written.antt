@@ -1,7 +1,7 @@
 -- What a fragment of given values is, and how its lines grow.
 use Rattle.std.specs.Prelude.{◌≡◌, ℕ, ◌==◌, Bool, true, false, List, [], ◌∷◌, ◌++◌, codes, if◌then◌else◌}
 use Rattle.transforms.specs.declared.sheet.Frag.{Frag}
-use Rattle.android_out.specs.Element.{Content, Values, value_names, Tag, tag_name, attributes}
+use Rattle.android_out.specs.Element.{Values, value_names, Tag, tag_name, attributes}
 use Rattle.android_out.specs.PlatformValue.{is_plain_char}
 use Rattle.android_out.specs.Spelling.{body_text}
 

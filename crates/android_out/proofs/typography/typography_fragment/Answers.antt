@@ -1,5 +1,4 @@
-use Rattle.std.proofs.Common.{◌≡◌, ℕ, List, ◌++◌, codes, ap, ◌∙◌}
-use Rattle.android_out.specs.Element.{Content, item}
+use Rattle.std.proofs.Common.{◌++◌, ap, ◌∙◌}
 use Rattle.android_out.specs.Spelling.{line_text}
 use Rattle.android_out.specs.PlatformValue.{size_end, spacing_end}
 use Rattle.android_out.proofs.FiveLines.{five_texts, five_names}

@@ -1,8 +1,8 @@
-use Rattle.std.proofs.Common.{◌≡◌, ◌<◌, ◌^◌, arith, true, ℕ, List, sym, subst, ◌∙◌, ap}
+use Rattle.std.proofs.Common.{◌≡◌, ◌<◌, ◌^◌, true, ℕ, List, sym, subst, ◌∙◌, ap}
 use Rattle.transforms.specs.PlatformName.{is_identifier}
 use Rattle.android_out.specs.PlatformValue.{android_values}
 use Rattle.android_out.specs.Reading.{Block}
-use Rattle.android_out.specs.Spelling.{android_name, body_text, fragment_values}
+use Rattle.android_out.specs.Spelling.{body_text, fragment_values}
 use Rattle.android_out.proofs.SheetsDenote.{fragments_read}
 use Rattle.android_out.proofs.writing.fragment.Goals as goal
 
@@ -14,6 +14,6 @@ returns-clause-reads c = λ token.
     let same = c.in_ok-name.ensures.is in
     let P : List ℕ → Type 0 = λ name. is_identifier name ≡ true in
     let Q : List ℕ → Type 0 = λ text. Block text (fragment_values settings path v) in
-    let base : settings.rem_base < 2 ^ 8 = omega arith in
+    let base : settings.rem_base < 2 ^ 8 = c.has_base.ensures in
     let body = c.in_ok-fragment.ensures.body ∙ ap (λ name. body_text name (android_values settings name v)) same in
     subst Q (sym body) (fragments_read settings path v base c.requires.typed (subst P same (c.in_ok-name.ensures.named token)))
