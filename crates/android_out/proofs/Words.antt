@@ -1,12 +1,11 @@
 -- Words with single blanks between, byte by byte.
-use Rattle.std.proofs.Common.{◌≡◌, ℕ, ◌+◌, ◌<◌, ◌≤◌, ◌==◌, ◌&&◌, Bool, true, false, cond, List, [], ◌∷◌, length, get_or, drop, refl, sym, ◌∙◌, ap, arith, add-one}
+use Rattle.std.proofs.Common.{◌≡◌, ℕ, ◌+◌, ◌<◌, ◌≤◌, ◌==◌, ◌&&◌, Bool, true, false, cond, List, [], ◌∷◌, length, get_or, drop, refl, sym, ◌∙◌, ap, add-one, Some, None}
 use Rattle.std.specs.Prelude.{if◌then◌else◌}
 use Rattle.std.specs.List.{list_all, slice_split, onto_first}
-use Rattle.std.proofs.lemmas.Bool.Decides.{nat_tests}
 use Rattle.std.proofs.Math.Seq.{drop-cons}
 use Rattle.std.proofs.lemmas.List.{drop_all}
 use Rattle.android_out.specs.PlatformValue.{is_plain_char, is_word, are_words}
-use Rattle.android_out.specs.inner.Written.{words_from}
+use Rattle.android_out.specs.inner.Written.{when_some, words_from}
 
 -- whether the first of these pieces can end the word that is begun, and the others are words
 abbrev go_on : Bool → List (List ℕ) → Bool
@@ -38,7 +37,7 @@ by_bytes b (c ∷ t) = at (λ x. by_bytes x t) (c == 32) refl (is_plain_char c) 
     pieces = slice_split (λ x. x == 32) t
 
     at : ((x : Bool) → words_from x t ≡ go_on x pieces) → (s : Bool) → (c == 32) ≡ s → (k : Bool) → is_plain_char c ≡ k → (b : Bool)
-        → (if s then (if b then words_from false t else false) else (if k then words_from true t else false)) ≡ go_on b (cond s ([] ∷ pieces) (onto_first c pieces))
+        → when_some (λ x. words_from x t) (if s then (if b then Some false else None) else (if k then Some true else None)) ≡ go_on b (cond s ([] ∷ pieces) (onto_first c pieces))
     at again true e k h true = again false ∙ starts pieces
     at again true e k h false = refl
     at again false e true h b = again true ∙ sym (begins c b pieces h)
@@ -52,14 +51,3 @@ next_byte b t i h = let cut : drop i t ≡ get_or t i 0 ∷ drop (i + 1) t = rw 
 
 pub last_byte : (b : Bool) (t : List ℕ) (i : ℕ) → length t ≤ i → words_from b (drop i t) ≡ b
 last_byte b t i h = ap (words_from b) (drop_all i t h)
-
-pub other_byte : (b : Bool) (c : ℕ) (t : List ℕ) → (c ≡ 32 → ⊥) → is_plain_char c ≡ false → words_from b (c ∷ t) ≡ false
-other_byte b c t h k = at (c == 32) (is_plain_char c) no k
-  where
-    no : (c == 32) ≡ false
-    no = grind (arith, nat_tests, h)
-
-    at : (s p : Bool) → s ≡ false → p ≡ false → (if s then (if b then words_from false t else false) else (if p then words_from true t else false)) ≡ false
-    at true p e f = cc
-    at false true e f = cc
-    at false false e f = refl

@@ -2,6 +2,7 @@
 
 ghost use Rattle.std.specs.Prelude.{◌≡◌, option_map};
 ghost use Rattle.android_out.specs.PlatformValue.{is_plain_char, are_words, family_content};
+ghost use Rattle.android_out.specs.inner.Written.{after_byte};
 ghost use Rattle.android_out.specs.inner.View.{content_view};
 
 use crate::content::Content;
@@ -13,21 +14,25 @@ fn is_plain_char(c: u8) -> bool
     c.is_ascii_alphanumeric() || (c == b'-' || (c == b'_' || c == b'.'))
 }
 
+// Whether a word is begun behind the byte; none where the byte can't stand there.
+fn after_byte(begun: bool, c: u8) -> Option<bool>
+    ensures { result ≡ after_byte begun c }
+{
+    if c == b' ' {
+        return if begun { Some(false) } else { None };
+    }
+    if is_plain_char(c) { Some(true) } else { None }
+}
+
 // Whether the text is one or more words with single blanks between.
 fn are_words(text: &[u8]) -> bool
     ensures { result ≡ are_words text.now }
 {
     let mut begun = false;
     for c in text {
-        if *c == b' ' {
-            if !begun {
-                return false;
-            }
-            begun = false;
-        } else if is_plain_char(*c) {
-            begun = true;
-        } else {
-            return false;
+        match after_byte(begun, *c) {
+            Some(next) => begun = next,
+            None => return false,
         }
     }
     begun

@@ -2,8 +2,8 @@
 
 ghost use Rattle.android_out.specs.Laws.{BlocksJoin, TextsRead, ReadOnce, FragmentsRead, OwnNamesApart, SheetsDenote};
 
-/// What a text says, read alone, it says before any other text too, so that between its frame a file says what its texts say, one
-/// after another. Bytes are one file at most.
+/// What a text says, read alone, it says before any other text too, so that between its frame a file says what its texts
+/// say, one after another. Bytes are one file at most.
 pub fn reading_laws()
     ensures join { BlocksJoin }
     ensures sheet { TextsRead }

@@ -1,5 +1,5 @@
-//! Resource files: what Android is given for a token's value (values resources: colors, dimensions, integers, items and strings), and
-//! how such a file is read.
+//! Resource files: what Android is given for a token's value (values resources: colors, dimensions, integers, items and
+//! strings), and how such a file is read.
 #![tactic(auto)]
 
 mod content;

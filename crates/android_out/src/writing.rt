@@ -100,11 +100,12 @@ fn written(alloc: Global, cfg: &Config, name: Bytes, typed: &Typed<'_>) -> Resul
     }
 }
 
-/// The names and elements of a token in a resource file (values resources of Android). A value of which Android has no such
-/// resource gives no name and a comment: a colour without bytes, a duration that is no whole number of milliseconds, a weight
-/// that is not whole, a family that is not plain words, and all kinds but the seven with elements.
+/// The names and elements of a token in a resource file (values resources of Android). A value of which Android has no
+/// such resource gives no name and a comment: a colour without bytes, a duration that is no whole number of milliseconds
+/// within 32 bits, a weight that is not whole, a family that is not plain words, and the kinds without elements.
 ///
-/// The value is one that a token can have.
+/// The value is one that a token can have. The text is read as the elements of the names where the path is one that a token
+/// can have.
 pub fn fragment(
     alloc: Global,
     path: &Path<'_>,

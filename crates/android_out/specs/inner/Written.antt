@@ -1,5 +1,5 @@
 -- What a fragment of given values is, and how its lines grow.
-use Rattle.std.specs.Prelude.{◌≡◌, ℕ, ◌==◌, Bool, true, false, List, [], ◌∷◌, ◌++◌, codes, if◌then◌else◌}
+use Rattle.std.specs.Prelude.{Bool, List, None, Option, Some, [], codes, false, if◌then◌else◌, true, ℕ, ◌++◌, ◌==◌, ◌∷◌, ◌≡◌}
 use Rattle.transforms.specs.declared.sheet.Frag.{Frag}
 use Rattle.android_out.specs.Element.{Values, value_names, Tag, tag_name, attributes}
 use Rattle.android_out.specs.PlatformValue.{is_plain_char}
@@ -17,7 +17,15 @@ start_text tag name = codes "  <" ++ (tag_name tag ++ (attributes tag ++ (codes 
 abbrev pub end_text : Tag → List ℕ
 end_text tag = codes "</" ++ (tag_name tag ++ codes ">\n")
 
+-- whether a word is begun behind a byte, or none where the byte can't stand there
+abbrev pub after_byte : Bool → ℕ → Option Bool
+after_byte begun c = if c == 32 then (if begun then Some false else None) else (if is_plain_char c then Some true else None)
+
+abbrev pub when_some : (Bool → Bool) → Option Bool → Bool
+when_some f None = false
+when_some f (Some begun) = f begun
+
 -- words with single blanks between, where a word is begun or none is
 abbrev pub words_from : Bool → List ℕ → Bool
 words_from begun [] = begun
-words_from begun (c ∷ t) = if c == 32 then (if begun then words_from false t else false) else (if is_plain_char c then words_from true t else false)
+words_from begun (c ∷ t) = when_some (λ b. words_from b t) (after_byte begun c)
