@@ -3,8 +3,8 @@ use Rattle.std.proofs.Common.{◌≡◌, ℕ, List, [], ◌∷◌, ◌++◌, map
 use Rattle.std.proofs.lemmas.List.{map-append}
 use Rattle.std.specs.List.{flat_map, AllByRecursion}
 use Rattle.ring.specs.Routes.{In, AreApart}
-use Rattle.resolver_doc.specs.Document.{SetData, ItemData, set_item, modifier_item}
-use Rattle.permutations.specs.Laws.{HasContextsApart, NamesAreApart}
+use Rattle.resolver_doc.specs.Document.{SetData, ItemData, set_item, modifier_item, HasContextsApart}
+use Rattle.permutations.specs.Laws.{NamesAreApart}
 use Rattle.permutations.specs.Name.{Choice, name_of}
 use Rattle.permutations.specs.Permutation.{Pick, context_pick, picks, choices, permutation}
 use Rattle.permutations.proofs.NamesTell.{names_tell_choices}

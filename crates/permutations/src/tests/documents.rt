@@ -27,9 +27,9 @@ fn comma(out: &mut Bytes, i: usize) -> Result<(), NoMemory> {
 fn contexts(out: &mut Bytes, count: usize) -> Result<(), NoMemory> {
     for i in 0..count {
         comma(out, i)?;
-        out.append(b"\"c")?;
+        out.append(br#""c"#)?;
         number(out, i)?;
-        out.append(b"\":[]")?;
+        out.append(br#"":[]"#)?;
     }
     Ok(())
 }
@@ -37,9 +37,9 @@ fn contexts(out: &mut Bytes, count: usize) -> Result<(), NoMemory> {
 fn modifiers(out: &mut Bytes, count: usize, each: usize) -> Result<(), NoMemory> {
     for i in 0..count {
         comma(out, i)?;
-        out.append(b"{\"type\":\"modifier\",\"name\":\"m")?;
+        out.append(br#"{"type":"modifier","name":"m"#)?;
         number(out, i)?;
-        out.append(b"\",\"contexts\":{")?;
+        out.append(br#"","contexts":{"#)?;
         contexts(out, each)?;
         out.append(b"}}")?;
     }
@@ -57,9 +57,9 @@ fn sources(out: &mut Bytes, count: usize) -> Result<(), NoMemory> {
 fn references(out: &mut Bytes, set: usize, count: usize) -> Result<(), NoMemory> {
     for i in 0..count {
         comma(out, i)?;
-        out.append(b"{\"$ref\":\"#/sets/s")?;
+        out.append(br##"{"$ref":"#/sets/s"##)?;
         number(out, set)?;
-        out.append(b"\"}")?;
+        out.append(br#""}"#)?;
     }
     Ok(())
 }
@@ -79,9 +79,9 @@ fn set_sources(
 fn sets(out: &mut Bytes, count: usize, each: usize, last: usize) -> Result<(), NoMemory> {
     for i in 0..count {
         comma(out, i)?;
-        out.append(b"\"s")?;
+        out.append(br#""s"#)?;
         number(out, i)?;
-        out.append(b"\":{\"sources\":[")?;
+        out.append(br#"":{"sources":["#)?;
         let is_last = i + 1 == count;
         set_sources(out, i + 1, each, is_last.then_some(last))?;
         out.append(b"]}")?;
@@ -90,22 +90,22 @@ fn sets(out: &mut Bytes, count: usize, each: usize, last: usize) -> Result<(), N
 }
 
 fn order_of_modifiers(out: &mut Bytes, count: usize, each: usize) -> Result<(), NoMemory> {
-    out.append(b"{\"version\":\"2025.10\",\"resolutionOrder\":[")?;
+    out.append(br#"{"version":"2025.10","resolutionOrder":["#)?;
     modifiers(out, count, each)?;
     out.append(b"]}")
 }
 
 fn one_set(out: &mut Bytes, count: usize) -> Result<(), NoMemory> {
-    out.append(b"{\"version\":\"2025.10\",\"resolutionOrder\":[")?;
-    out.append(b"{\"type\":\"set\",\"name\":\"s\",\"sources\":[")?;
+    out.append(br#"{"version":"2025.10","resolutionOrder":["#)?;
+    out.append(br#"{"type":"set","name":"s","sources":["#)?;
     sources(out, count)?;
     out.append(b"]}]}")
 }
 
 fn many_sets(out: &mut Bytes, count: usize, each: usize, last: usize) -> Result<(), NoMemory> {
-    out.append(b"{\"version\":\"2025.10\",\"sets\":{")?;
+    out.append(br#"{"version":"2025.10","sets":{"#)?;
     sets(out, count, each, last)?;
-    out.append(b"},\"resolutionOrder\":[{\"$ref\":\"#/sets/s0\"}]}")
+    out.append(br##"},"resolutionOrder":[{"$ref":"#/sets/s0"}]}"##)
 }
 
 /// The document's text.
