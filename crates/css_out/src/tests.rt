@@ -121,10 +121,23 @@ fn is_written(
     }
 }
 
-#[test]
-fn values_have_their_lines(rt: HostRuntime) -> Result<(), Fail> {
+/// Compares the lines of each row of a table of values of the kind, and counts the rows.
+fn rows_hold(rt: &(impl AllocGlobal + Abort), kind: Kind, rows: &str) -> Result<u32, Fail> {
     let path = path(rt.alloc(), "t")?;
     let config = Config::plain(rt.alloc());
+    let mut count = 0u32;
+    for row in rows.lines() {
+        if row.is_empty() {
+            continue;
+        }
+        assert!(rt; is_written(rt.alloc(), &path, &config, kind, row)?, "{row}");
+        count = count.saturating_add(1);
+    }
+    Ok(count)
+}
+
+#[test]
+fn values_have_their_lines(rt: HostRuntime) -> Result<(), Fail> {
     let mut count = 0u32;
     for (kind, rows) in [
         (Kind::Dimension, table::DIMENSIONS),
@@ -141,13 +154,7 @@ fn values_have_their_lines(rt: HostRuntime) -> Result<(), Fail> {
         (Kind::Gradient, table::GRADIENTS),
         (Kind::Typography, table::TYPOGRAPHIES),
     ] {
-        for row in rows.lines() {
-            if row.is_empty() {
-                continue;
-            }
-            assert!(rt; is_written(rt.alloc(), &path, &config, kind, row)?, "{row}");
-            count = count.saturating_add(1);
-        }
+        count = count.saturating_add(rows_hold(&rt, kind, rows)?);
     }
     assert_eq!(rt; count, 155);
     Ok(())
@@ -251,7 +258,7 @@ fn later_families_are_looked_at(rt: HostRuntime) -> Result<(), Fail> {
 fn sheet_has_its_frame(rt: HostRuntime) -> Result<(), Fail> {
     let alloc = rt.alloc();
     let config = Config::plain(alloc);
-    let mut sheet = Sheet::start(alloc, FRAME)?;
+    let mut sheet = Sheet::start(alloc, frame())?;
     for name in ["a", "b"] {
         let path = path(alloc, name)?;
         let value = Plain::Num("1");
@@ -269,7 +276,8 @@ fn sheet_has_its_frame(rt: HostRuntime) -> Result<(), Fail> {
 
 #[test]
 fn laws_are_called(_rt: HostRuntime) -> Result<(), Fail> {
-    sheet_laws();
+    reading_laws();
     fragment_laws();
+    sheet_laws();
     Ok(())
 }
