@@ -14,3 +14,4 @@ pub mod CountSteps
 pub mod InPlace
 pub mod Limits
 pub mod NamesApart
+pub mod InlineParts

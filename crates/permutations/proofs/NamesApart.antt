@@ -11,12 +11,12 @@ use Rattle.permutations.proofs.NamesTell.{names_tell_choices}
 use Rattle.permutations.proofs.SetRoutes.{in_either}
 
 -- an element of a mapped list comes from one of the list
-record ComesFrom {A B : Type 0} (f : A → B) (xs : List A) (y : B) : Type 0 where
+pub record ComesFrom {A B : Type 0} (f : A → B) (xs : List A) (y : B) : Type 0 where
   pub from : A
   pub there : In from xs
   pub is : y ≡ f from
 
-in_map : {A B : Type 0} (f : A → B) (xs : List A) (y : B) → In y (map f xs) → ComesFrom f xs y
+pub in_map : {A B : Type 0} (f : A → B) (xs : List A) (y : B) → In y (map f xs) → ComesFrom f xs y
 in_map f [] y i = absurd i
 in_map f (x ∷ xs) y (inl e) = record { from = x; there = inl refl; is = e }
 in_map f (x ∷ xs) y (inr i) = (let c = in_map f xs y i in record { from = c.from; there = inr c.there; is = c.is })

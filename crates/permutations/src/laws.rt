@@ -1,6 +1,6 @@
 // Laws of the definitions alone, for the layers above.
 
-ghost use Rattle.permutations.specs.Laws.{NamesAreApart, SetsComeToTheirSources};
+ghost use Rattle.permutations.specs.Laws.{InlinesArePart, NamesAreApart, SetsComeToTheirSources};
 ghost use Rattle.permutations.specs.Name.{NamesTellChoices};
 
 /// The name of a permutation tells which context is chosen for each modifier. Where the contexts of each modifier have
@@ -10,7 +10,9 @@ pub fn name_laws()
     ensures apart { NamesAreApart }
 {}
 
-/// Where no sets name each other in a ring, a set comes to what its sources come to.
+/// Where no sets name each other in a ring, a set comes to what its sources come to. Tokens among the sources of a document's
+/// permutations are parts of the document.
 pub fn source_laws()
-    ensures { SetsComeToTheirSources }
+    ensures sets { SetsComeToTheirSources }
+    ensures parts { InlinesArePart }
 {}
