@@ -1,0 +1,8 @@
+use Rattle.json_out.proofs.SheetsRead.{members_read, read_once}
+use Rattle.json_out.proofs.laws.reading_laws.Goals as goal
+
+pub returns-clause-sheet : goal.returns-clause-sheet
+returns-clause-sheet c = members_read
+
+pub returns-clause-once : goal.returns-clause-once
+returns-clause-once c = read_once

@@ -1,0 +1,6 @@
+use Rattle.json_out.proofs.Appending.{five}
+use Rattle.json_out.proofs.values.CurveSpell.spell.Goals as goal
+
+pub returns : goal.returns
+returns c = five _ _ _ _ _ _ _ _ _ _ _
+    c.in_ok-spell_behind.ensures c.in_ok-spell_behind-2.ensures c.in_ok-spell_behind-3.ensures c.in_ok-spell_behind-4.ensures c.in_ok-append.ensures.ok

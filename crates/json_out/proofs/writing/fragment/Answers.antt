@@ -1,0 +1,13 @@
+use Rattle.std.proofs.Common.{ℕ, List, sym, subst}
+use Rattle.json_out.specs.Properties.{extras_view}
+use Rattle.json_out.specs.Sheets.{IsReadAsMember}
+use Rattle.json_out.proofs.TokensRead.{fragment_read}
+use Rattle.json_out.proofs.writing.fragment.Goals as goal
+
+pub returns-clause-reads : goal.returns-clause-reads
+returns-clause-reads c = λ typed.
+    let path = c.args.path.now in
+    let v = c.args.typed.now in
+    let e = extras_view c.args.extras.now in
+    let P : List ℕ → Type 0 = λ text. IsReadAsMember path v e text in
+    subst P (sym c.in_ok-body.ensures) (fragment_read path v e typed c.are_bytes.ensures)

@@ -1,0 +1,166 @@
+//! Members of tokens against those of an independent writer.
+
+mod reading;
+mod table;
+mod tokens;
+
+use crate::*;
+use composite_rules::{Typed, check};
+use json_span::Plain;
+use name_path::{Kind, Path};
+use reading::plain;
+use std::alloc::Global;
+use std::test::Fail;
+use tk_io::{Bytes, NoMemory, Text};
+use token_tree::Mark;
+use tokens::{Row, RowMark, TOKENS};
+use transforms::Sheet;
+use type_rules::ValueFault;
+
+fn path<'s>(alloc: Global, names: &[&'s str]) -> Result<Path<'s>, NoMemory> {
+    let mut path = Path::new(alloc);
+    for name in names {
+        path.push(Text::of(*name))?;
+    }
+    Ok(path)
+}
+
+fn typed<'s>(alloc: Global, kind: Kind, plain: &Plain<'s>) -> Result<Option<Typed<'s>>, NoMemory> {
+    match check(alloc, kind, plain) {
+        Ok(typed) => Ok(Some(typed)),
+        Err(ValueFault::Broken { .. }) => Ok(None),
+        Err(ValueFault::NoMemory) => Err(NoMemory),
+    }
+}
+
+fn alone<'s>() -> Extras<'s> {
+    Extras {
+        description: None,
+        extensions: None,
+        mark: Mark::No,
+    }
+}
+
+/// Whether the value of a row, under the path `t`, has the row's text.
+fn is_written(alloc: Global, path: &Path<'_>, kind: Kind, row: &str) -> Result<bool, NoMemory> {
+    let Some((text, wanted)) = row.split_once('|') else {
+        return Ok(false);
+    };
+    let value = plain(alloc, text)?;
+    let Some(typed) = typed(alloc, kind, &value)? else {
+        return Ok(false);
+    };
+    let frag = fragment(alloc, path, &typed, &alone())?;
+    let mut member = Bytes::new(alloc);
+    member.append(b"  \"t\": {\"$type\": \"")?;
+    member.append(kind.name().as_bytes())?;
+    member.append(b"\", \"$value\": ")?;
+    member.append(wanted.as_bytes())?;
+    member.append(b"}")?;
+    Ok(frag.body.as_slice() == member.as_slice() && frag.names.is_empty())
+}
+
+#[test]
+fn values_have_their_texts(rt: HostRuntime) -> Result<(), Fail> {
+    let path = path(rt.alloc(), &["t"])?;
+    let mut count = 0u32;
+    for (kind, rows) in [
+        (Kind::Dimension, table::DIMENSIONS),
+        (Kind::Duration, table::DURATIONS),
+        (Kind::Number, table::NUMBERS),
+        (Kind::CubicBezier, table::CURVES),
+        (Kind::FontFamily, table::FAMILIES),
+        (Kind::FontWeight, table::WEIGHTS),
+        (Kind::Color, table::COLORS),
+        (Kind::StrokeStyle, table::STROKE_STYLES),
+        (Kind::Border, table::BORDERS),
+        (Kind::Transition, table::TRANSITIONS),
+        (Kind::Shadow, table::SHADOWS),
+        (Kind::Gradient, table::GRADIENTS),
+        (Kind::Typography, table::TYPOGRAPHIES),
+    ] {
+        for row in rows.lines() {
+            if row.is_empty() {
+                continue;
+            }
+            assert!(rt; is_written(rt.alloc(), &path, kind, row)?, "{row}");
+            count = count.saturating_add(1);
+        }
+    }
+    assert_eq!(rt; count, 99);
+    Ok(())
+}
+
+fn mark<'s>(mark: RowMark) -> Mark<'s> {
+    match mark {
+        RowMark::No => Mark::No,
+        RowMark::Yes => Mark::Yes,
+        RowMark::Because(reason) => Mark::Because(Text::of(reason)),
+    }
+}
+
+/// Whether the token of a row has the row's member.
+fn is_token_written(alloc: Global, row: &Row) -> Result<bool, NoMemory> {
+    let path = path(alloc, row.path)?;
+    let Some(kind) = Kind::named(row.kind) else {
+        return Ok(false);
+    };
+    let value = plain(alloc, row.value)?;
+    let Some(typed) = typed(alloc, kind, &value)? else {
+        return Ok(false);
+    };
+    let extras = Extras {
+        description: row.description,
+        extensions: row.extensions,
+        mark: mark(row.mark),
+    };
+    let frag = fragment(alloc, &path, &typed, &extras)?;
+    Ok(frag.body.as_slice() == row.member.as_bytes() && frag.names.is_empty())
+}
+
+#[test]
+fn tokens_have_their_members(rt: HostRuntime) -> Result<(), Fail> {
+    for row in TOKENS {
+        assert!(rt; is_token_written(rt.alloc(), &row)?, "{}", row.member);
+    }
+    Ok(())
+}
+
+/// Sheets of no, one and two tokens.
+#[test]
+fn sheets_have_their_frame(rt: HostRuntime) -> Result<(), Fail> {
+    let alloc = rt.alloc();
+    for (names, wanted) in [
+        ("", "{\n}\n"),
+        (
+            "a",
+            "{\n  \"a\": {\"$type\": \"number\", \"$value\": 1}\n}\n",
+        ),
+        (
+            "a b",
+            "{\n  \"a\": {\"$type\": \"number\", \"$value\": 1},\n  \"b\": {\"$type\": \"number\", \"$value\": 1}\n}\n",
+        ),
+    ] {
+        let mut sheet = Sheet::start(alloc, frame())?;
+        for name in names.split(' ') {
+            if name.is_empty() {
+                continue;
+            }
+            let path = path(alloc, &[name])?;
+            if let Some(typed) = typed(alloc, Kind::Number, &Plain::Num("1"))? {
+                sheet.add(&fragment(alloc, &path, &typed, &alone())?)?;
+            }
+        }
+        let text = sheet.finish()?;
+        assert_eq!(rt; text.as_slice(), wanted.as_bytes());
+    }
+    Ok(())
+}
+
+#[test]
+fn laws_are_called(_rt: HostRuntime) -> Result<(), Fail> {
+    reading_laws();
+    fragment_laws();
+    sheet_laws();
+    Ok(())
+}
