@@ -1,0 +1,12 @@
+pub mod Appended
+pub mod Arguments
+pub mod BlocksJoin
+pub mod FiveLines
+pub mod Numbers
+pub mod OneReading
+pub mod OwnNamesApart
+pub mod Runs
+pub mod SheetsDenote
+pub mod SpelledIsRead
+pub mod TextsRead
+pub mod ValuesSpellable

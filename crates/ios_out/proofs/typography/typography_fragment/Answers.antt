@@ -1,0 +1,17 @@
+use Rattle.std.proofs.Common.{◌++◌, ap, ◌∙◌}
+use Rattle.ios_out.specs.Constant.{number}
+use Rattle.ios_out.specs.PlatformValue.{length_type, size_end, spacing_end}
+use Rattle.ios_out.specs.Spelling.{line_text}
+use Rattle.ios_out.proofs.FiveLines.{five_texts, five_names}
+use Rattle.ios_out.proofs.typography.typography_fragment.Goals as goal
+
+pub returns : goal.returns
+returns c =
+    let name = c.args.name.now in
+    record {
+      names = five_names _ _ _ _ _ _ _ _ _ _ _ c.new.ensures c.in_ok-add.ensures.names c.in_ok-add_number.ensures.names c.in_ok-add_number-2.ensures.names
+          c.in_ok-add_number-3.ensures.names c.in_ok-add_number-4.ensures.names;
+      body = five_texts _ _ _ _ _ _ _ _ _ _ _ c.new-2.ensures c.in_ok-add.ensures.body
+          (c.in_ok-add_number.ensures.body ∙ ap (λ x. c.add.new.lines.body ++ line_text (name ++ size_end, number length_type x)) c.points-size.ensures) c.in_ok-add_number-2.ensures.body
+          (c.in_ok-add_number-3.ensures.body ∙ ap (λ x. c.add_number-2.new.lines.body ++ line_text (name ++ spacing_end, number length_type x)) c.points-spacing.ensures) c.in_ok-add_number-4.ensures.body;
+    }

@@ -1,0 +1,156 @@
+//! Constants on lines of their own.
+
+ghost use Rattle.std.specs.Prelude.{◌≡◌, ◌∷◌, [], ◌++◌, codes, OnOk};
+ghost use Rattle.std.specs.List.{flat_map};
+ghost use Rattle.ios_out.specs.Constant.{over_255, number, string, made};
+ghost use Rattle.ios_out.specs.PlatformValue.{text_type};
+ghost use Rattle.ios_out.specs.Spelling.{quantity_text, argument_text, escape, content_text, line_text};
+ghost use Rattle.ios_out.specs.inner.View.{quantity_view, argument_view, content_view};
+
+use crate::content::{Argument, Content, Quantity};
+use dec_fix::Dec;
+use tk_io::{Bytes, NoMemory};
+
+fn append_byte(out: &mut Bytes, byte: u8) -> Result<(), NoMemory>
+    ensures { OnOk result (out.new ≡ out.old ++ quantity_text (over_255 byte)) }
+{
+    Dec::whole(u16::from(byte)).write_point(out)?;
+    out.append(b"/255.0")?;
+    Ok(())
+}
+
+fn append_quantity(out: &mut Bytes, quantity: &Quantity) -> Result<(), NoMemory>
+    ensures { OnOk result (out.new ≡ out.old ++ quantity_text (quantity_view quantity.now)) }
+{
+    match quantity {
+        Quantity::Number(number) => number.write_point(out),
+        Quantity::Byte(byte) => append_byte(out, *byte),
+    }
+}
+
+fn append_labelled(out: &mut Bytes, label: &str, quantity: &Quantity) -> Result<(), NoMemory>
+    ensures { OnOk result (out.new ≡ out.old ++ (label.now ++ (codes ": " ++ quantity_text (quantity_view quantity.now)))) }
+{
+    out.append(label.as_bytes())?;
+    out.append(b": ")?;
+    append_quantity(out, quantity)?;
+    Ok(())
+}
+
+fn append_argument(out: &mut Bytes, argument: &Argument) -> Result<(), NoMemory>
+    ensures { OnOk result (out.new ≡ out.old ++ argument_text (argument_view argument.now)) }
+{
+    match argument {
+        Argument::Labelled(label, quantity) => append_labelled(out, label, quantity),
+        Argument::Bare(quantity) => append_quantity(out, quantity),
+    }
+}
+
+// A comma and a blank before an argument.
+fn append_further(out: &mut Bytes, argument: &Argument) -> Result<(), NoMemory>
+    ensures { OnOk result (out.new ≡ out.old ++ (codes ", " ++ argument_text (argument_view argument.now))) }
+{
+    out.append(b", ")?;
+    append_argument(out, argument)?;
+    Ok(())
+}
+
+fn append_escape(out: &mut Bytes, c: u8) -> Result<(), NoMemory>
+    ensures { OnOk result (out.new ≡ out.old ++ escape c) }
+{
+    if c == b'"' || c == b'\\' {
+        return out.append(&[b'\\', c]);
+    }
+    out.append(&[c])
+}
+
+fn append_escaped(out: &mut Bytes, text: &[u8]) -> Result<(), NoMemory>
+    ensures { OnOk result (out.new ≡ out.old ++ flat_map escape text.now) }
+{
+    for c in text {
+        append_escape(out, *c)?;
+    }
+    Ok(())
+}
+
+fn append_number(out: &mut Bytes, type_name: &str, value: &Dec) -> Result<(), NoMemory>
+    ensures { OnOk result (out.new ≡ out.old ++ content_text (number type_name.now value.now)) }
+{
+    out.append(b": ")?;
+    out.append(type_name.as_bytes())?;
+    out.append(b" = ")?;
+    value.write_point(out)?;
+    Ok(())
+}
+
+fn append_string(out: &mut Bytes, text: &str) -> Result<(), NoMemory>
+    ensures { OnOk result (out.new ≡ out.old ++ content_text (string text_type text.now)) }
+{
+    out.append(b": String = \"")?;
+    append_escaped(out, text.as_bytes())?;
+    out.append(b"\"")?;
+    Ok(())
+}
+
+fn append_made(
+    out: &mut Bytes,
+    maker: &str,
+    first: &Argument,
+    second: &Argument,
+    third: &Argument,
+    fourth: &Argument,
+) -> Result<(), NoMemory>
+    ensures { OnOk result (out.new ≡ out.old ++ content_text (made maker.now
+        (argument_view first.now ∷ argument_view second.now ∷ argument_view third.now ∷ argument_view fourth.now ∷ []))) }
+{
+    out.append(b" = ")?;
+    out.append(maker.as_bytes())?;
+    out.append(b"(")?;
+    append_argument(out, first)?;
+    append_further(out, second)?;
+    append_further(out, third)?;
+    append_further(out, fourth)?;
+    out.append(b")")?;
+    Ok(())
+}
+
+/// Appends the constant of this name, which is a number of a type, on a line of its own.
+pub(crate) fn append_number_line(
+    out: &mut Bytes,
+    name: &[u8],
+    type_name: &str,
+    value: &Dec,
+) -> Result<(), NoMemory>
+    ensures { OnOk result (out.new ≡ out.old ++ line_text (name.now, number type_name.now value.now)) }
+{
+    out.append(b"  public static let ")?;
+    out.append(name)?;
+    append_number(out, type_name, value)?;
+    out.append(b"\n")?;
+    Ok(())
+}
+
+impl Content<'_> {
+    fn append_rest(&self, out: &mut Bytes) -> Result<(), NoMemory>
+        ensures { OnOk result (out.new ≡ out.old ++ content_text (content_view self.now)) }
+    {
+        match self {
+            Content::Number(type_name, value) => append_number(out, type_name, value),
+            Content::Text(text) => append_string(out, text),
+            Content::Made(maker, first, second, third, fourth) => {
+                append_made(out, maker, first, second, third, fourth)
+            }
+        }
+    }
+
+    /// Appends the constant of this name on a line of its own.
+    pub(crate) fn append_line(&self, name: &[u8], out: &mut Bytes) -> Result<(), NoMemory>
+        ensures { OnOk result (out.new ≡ out.old ++ line_text (name.now, content_view self.now)) }
+    {
+        out.append(b"  public static let ")?;
+        out.append(name)?;
+        self.append_rest(out)?;
+        out.append(b"\n")?;
+        Ok(())
+    }
+}

@@ -1,0 +1,232 @@
+//! Constants of tokens against those of an independent writer.
+
+ghost use Rattle.std.specs.Prelude.{IfOk};
+ghost use Rattle.composite_rules.specs.Sound.{IsTyped};
+
+mod reading;
+mod table;
+
+use crate::*;
+use composite_rules::{Typed, check, value_laws};
+use json_span::Plain;
+use name_path::{Kind, Path};
+use reading::plain;
+use std::alloc::Global;
+use std::process::Abort;
+use std::test::Fail;
+use tk_io::{Bytes, NoMemory, Text};
+use transforms::{Config, Frag, Names, Sheet, read_config};
+use type_rules::ValueFault;
+
+fn typed<'s>(alloc: Global, kind: Kind, plain: &Plain<'s>) -> Result<Typed<'s>, ValueFault<'s>>
+    ensures { IfOk result (λ v. IsTyped v) }
+{
+    value_laws();
+    check(alloc, kind, plain)
+}
+
+fn path<'s>(alloc: Global, text: &'s str) -> Result<Path<'s>, NoMemory> {
+    let mut path = Path::new(alloc);
+    for name in text.split('.') {
+        path.push(Text::of(name))?;
+    }
+    Ok(path)
+}
+
+fn config(alloc: Global, prefix: &str, base: &str) -> Result<Config, Fail> {
+    let text = format!(in alloc; "prefix = '{prefix}'\nrem_base = {base}\n")?;
+    match read_config(alloc, text.as_str()) {
+        Ok(config) => Ok(config),
+        Err(_) => Err(Fail::from(NoMemory)),
+    }
+}
+
+/// The names, each with a newline behind it.
+fn listed(alloc: Global, names: &Names) -> Result<Bytes, NoMemory> {
+    let mut out = Bytes::new(alloc);
+    for name in names.as_slice() {
+        out.append(name.as_slice())?;
+        out.append(b"\n")?;
+    }
+    Ok(out)
+}
+
+/// The name of a constant.
+fn name_in(line: &str) -> Option<&str> {
+    let behind = line.strip_prefix("public static let ")?;
+    let (name, _) = behind.split_once(' ')?;
+    match name.strip_suffix(':') {
+        Some(typed) => Some(typed),
+        None => Some(name),
+    }
+}
+
+/// Whether the fragment has these lines, and the names of their constants.
+fn has_lines(alloc: Global, frag: &Frag, lines: &str) -> Result<bool, NoMemory> {
+    let mut body = Bytes::new(alloc);
+    let mut names = Bytes::new(alloc);
+    for line in lines.split('|') {
+        body.append(b"  ")?;
+        body.append(line.as_bytes())?;
+        body.append(b"\n")?;
+        if let Some(name) = name_in(line) {
+            names.append(name.as_bytes())?;
+            names.append(b"\n")?;
+        }
+    }
+    let declared = listed(alloc, &frag.names)?;
+    Ok(frag.body.as_slice() == body.as_slice() && declared.as_slice() == names.as_slice())
+}
+
+/// Whether the value has the lines.
+fn is_written(
+    alloc: Global,
+    path: &Path<'_>,
+    config: &Config,
+    kind: Kind,
+    row: &str,
+) -> Result<bool, NoMemory> {
+    let Some((text, lines)) = row.split_once('|') else {
+        return Ok(false);
+    };
+    let value = plain(alloc, text)?;
+    match typed(alloc, kind, &value) {
+        Ok(typed) => {
+            let frag = fragment(alloc, path, &typed, config)?;
+            has_lines(alloc, &frag, lines)
+        }
+        Err(ValueFault::Broken { .. }) => Ok(false),
+        Err(ValueFault::NoMemory) => Err(NoMemory),
+    }
+}
+
+#[test]
+fn values_have_their_lines(rt: HostRuntime) -> Result<(), Fail> {
+    let path = path(rt.alloc(), "t")?;
+    let config = Config::plain(rt.alloc());
+    let mut count = 0u32;
+    for (kind, rows) in [
+        (Kind::Color, table::COLORS),
+        (Kind::Dimension, table::DIMENSIONS),
+        (Kind::Duration, table::DURATIONS),
+        (Kind::Number, table::NUMBERS),
+        (Kind::FontWeight, table::WEIGHTS),
+        (Kind::FontFamily, table::FAMILIES),
+        (Kind::CubicBezier, table::CURVES),
+        (Kind::Typography, table::TYPOGRAPHIES),
+    ] {
+        for row in rows.lines() {
+            if row.is_empty() {
+                continue;
+            }
+            assert!(rt; is_written(rt.alloc(), &path, &config, kind, row)?, "{row}");
+            count = count.saturating_add(1);
+        }
+    }
+    assert_eq!(rt; count, 111);
+    Ok(())
+}
+
+/// Whether the token of a row has the row's lines: a path, a prefix, the pixels of a rem, a kind, and a row of values.
+fn is_token_written(alloc: Global, row: &str) -> Result<bool, Fail> {
+    let mut parts = row.splitn(5, '|');
+    let (Some(name), Some(prefix), Some(base)) = (parts.next(), parts.next(), parts.next()) else {
+        return Ok(false);
+    };
+    let (Some(kind), Some(value)) = (parts.next(), parts.next()) else {
+        return Ok(false);
+    };
+    let Some(kind) = Kind::named(kind) else {
+        return Ok(false);
+    };
+    let path = path(alloc, name)?;
+    let config = config(alloc, prefix, base)?;
+    Ok(is_written(alloc, &path, &config, kind, value)?)
+}
+
+#[test]
+fn tokens_have_their_lines(rt: HostRuntime) -> Result<(), Fail> {
+    let mut count = 0u32;
+    for row in table::TOKENS.lines() {
+        if row.is_empty() {
+            continue;
+        }
+        assert!(rt; is_token_written(rt.alloc(), row)?, "{row}");
+        count = count.saturating_add(1);
+    }
+    assert_eq!(rt; count, 22);
+    Ok(())
+}
+
+/// A file of two tokens.
+#[test]
+fn file_has_its_frame(rt: HostRuntime) -> Result<(), Fail> {
+    let alloc = rt.alloc();
+    let config = Config::plain(alloc);
+    let mut sheet = Sheet::start(alloc, frame())?;
+    for name in ["a", "b"] {
+        let path = path(alloc, name)?;
+        let value = Plain::Num("1");
+        if let Ok(typed) = typed(alloc, Kind::FontWeight, &value) {
+            sheet.add(&fragment(alloc, &path, &typed, &config)?)?;
+        }
+    }
+    let text = sheet.finish()?;
+    let expected = r#"import UIKit
+
+public enum Tokens {
+  public static let a: Double = 1.0
+  public static let b: Double = 1.0
+}
+"#;
+    assert!(rt; text.as_slice() == expected.as_bytes());
+    Ok(())
+}
+
+const FAMILIES: [(&str, &str); 12] = [
+    (r#"a"b"#, r#"public static let t: String = "a\"b""#),
+    (r"a\b", r#"public static let t: String = "a\\b""#),
+    (r#"\""#, r#"public static let t: String = "\\\"""#),
+    ("'", r#"public static let t: String = "'""#),
+    ("}", r#"public static let t: String = "}""#),
+    (
+        "\u{a0}\u{fffd}\u{10ffff}",
+        "public static let t: String = \"\u{a0}\u{fffd}\u{10ffff}\"",
+    ),
+    ("\t", "// omitted t"),
+    ("a\nb", "// omitted t"),
+    ("\u{1f}", "// omitted t"),
+    ("\u{7f}", "// omitted t"),
+    ("\u{fffe}", "// omitted t"),
+    ("x\u{ffff}", "// omitted t"),
+];
+
+/// Whether a family has the line.
+fn is_family_written(alloc: Global, family: &'static str, line: &str) -> Result<bool, Fail> {
+    let path = path(alloc, "t")?;
+    let config = Config::plain(alloc);
+    let value = Plain::Str(Text::of(family));
+    match typed(alloc, Kind::FontFamily, &value) {
+        Ok(typed) => {
+            let frag = fragment(alloc, &path, &typed, &config)?;
+            Ok(has_lines(alloc, &frag, line)?)
+        }
+        Err(_) => Ok(false),
+    }
+}
+
+#[test]
+fn families_are_escaped_or_omitted(rt: HostRuntime) -> Result<(), Fail> {
+    for (family, line) in FAMILIES {
+        assert!(rt; is_family_written(rt.alloc(), family, line)?, "{line}");
+    }
+    Ok(())
+}
+
+#[test]
+fn laws_are_called(_rt: HostRuntime) -> Result<(), Fail> {
+    reading_laws();
+    fragment_laws();
+    sheet_laws();
+    Ok(())
+}

@@ -1,0 +1,109 @@
+//! The five constants of a typography.
+
+ghost use Rattle.std.specs.Prelude.{◌≡◌, ◌∷◌, [], ◌++◌, OnOk, IfOk};
+ghost use Rattle.composite_rules.specs.Sound.{IsTypography};
+ghost use Rattle.ios_out.specs.Constant.{number};
+ghost use Rattle.ios_out.specs.PlatformValue.{five_values};
+ghost use Rattle.ios_out.specs.Spelling.{line_text};
+ghost use Rattle.ios_out.specs.inner.View.{content_view};
+ghost use Rattle.ios_out.specs.inner.Written.{IsFragment};
+
+use crate::content::{Content, points};
+use crate::line::append_number_line;
+use composite_rules::Typography;
+use dec_fix::Dec;
+use std::alloc::Global;
+use tk_io::{Bytes, NoMemory};
+use transforms::{Config, Frag, Names};
+
+fn ended(alloc: Global, name: &[u8], ending: &str) -> Result<Bytes, NoMemory>
+    ensures { IfOk result (λ b. b ≡ name.now ++ ending.now) }
+{
+    let mut ended = Bytes::new(alloc);
+    ended.append(name)?;
+    ended.append(ending.as_bytes())?;
+    Ok(ended)
+}
+
+// Adds the constant of the name with this ending.
+fn add(
+    alloc: Global,
+    lines: &mut Frag,
+    name: &[u8],
+    ending: &str,
+    content: &Content<'_>,
+) -> Result<(), NoMemory>
+    ensures names { OnOk result (lines.new.names ≡ lines.old.names ++ (name.now ++ ending.now) ∷ []) }
+    ensures body { OnOk result (lines.new.body ≡ lines.old.body ++ line_text (name.now ++ ending.now, content_view content.now)) }
+{
+    let name = ended(alloc, name, ending)?;
+    content.append_line(name.as_slice(), &mut lines.body)?;
+    lines.names.push(name)?;
+    Ok(())
+}
+
+// Adds the constant of the name with this ending, a number of a type.
+fn add_number(
+    alloc: Global,
+    lines: &mut Frag,
+    name: &[u8],
+    ending: &str,
+    type_name: &str,
+    value: &Dec,
+) -> Result<(), NoMemory>
+    ensures names { OnOk result (lines.new.names ≡ lines.old.names ++ (name.now ++ ending.now) ∷ []) }
+    ensures body { OnOk result (lines.new.body ≡ lines.old.body ++ line_text (name.now ++ ending.now, number type_name.now value.now)) }
+{
+    let name = ended(alloc, name, ending)?;
+    append_number_line(&mut lines.body, name.as_slice(), type_name, value)?;
+    lines.names.push(name)?;
+    Ok(())
+}
+
+/// The five names and constants; the family is the one that is given.
+pub(crate) fn typography_fragment(
+    alloc: Global,
+    cfg: &Config,
+    name: &[u8],
+    value: &Typography<'_>,
+    family: &Content<'_>,
+) -> Result<Frag, NoMemory>
+    requires { IsTypography value.now }
+    ensures { IfOk result (IsFragment name.now (five_values cfg.now name.now value.now (content_view family.now))) }
+{
+    let mut lines = Frag {
+        names: Names::new(alloc),
+        body: Bytes::new(alloc),
+    };
+    let size = points(cfg, &value.size);
+    let spacing = points(cfg, &value.spacing);
+    let lengths = "CGFloat";
+    let numbers = "Double";
+    add(alloc, &mut lines, name, "_font_family", family)?;
+    add_number(alloc, &mut lines, name, "_font_size", lengths, &size)?;
+    add_number(
+        alloc,
+        &mut lines,
+        name,
+        "_font_weight",
+        numbers,
+        &value.weight,
+    )?;
+    add_number(
+        alloc,
+        &mut lines,
+        name,
+        "_letter_spacing",
+        lengths,
+        &spacing,
+    )?;
+    add_number(
+        alloc,
+        &mut lines,
+        name,
+        "_line_height",
+        numbers,
+        &value.line_height,
+    )?;
+    Ok(lines)
+}

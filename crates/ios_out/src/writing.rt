@@ -1,0 +1,123 @@
+//! The fragment of a token.
+
+ghost use Rattle.std.specs.Prelude.{◌≡◌, ◌<◌, ◌^◌, [], ◌∷◌, IfOk};
+ghost use Rattle.transforms.specs.View.{frame_view};
+ghost use Rattle.composite_rules.specs.Sound.{IsTyped, IsTypography};
+ghost use Rattle.ios_out.specs.PlatformValue.{unless_omitted, family_content, swift_values};
+ghost use Rattle.ios_out.specs.Spelling.{fragment_names, fragment_text};
+ghost use Rattle.ios_out.specs.Sheets.{swift_frame, IsNamed, IsReadAsValues};
+ghost use Rattle.ios_out.specs.inner.View.{content_view};
+ghost use Rattle.ios_out.specs.inner.Written.{IsFragment};
+
+use crate::content::{Content, simple_content};
+use crate::family::family_content;
+use crate::typography::typography_fragment;
+use composite_rules::{Typed, Typography};
+use name_path::Path;
+use std::alloc::Global;
+use tk_io::{Bytes, NoMemory};
+use transforms::{Config, Frag, Frame, Names, Platform, name_for};
+
+/// What stands around the fragments of a file: an enum without cases, which holds the constants.
+pub const FRAME: Frame = Frame {
+    head: b"import UIKit\n\npublic enum Tokens {\n",
+    glue: b"",
+    last: b"",
+    tail: b"}\n",
+};
+
+/// The frame, in which files are read.
+pub fn frame() -> Frame
+    ensures { frame_view result ≡ swift_frame }
+{
+    FRAME
+}
+
+fn omitted(alloc: Global, name: &[u8]) -> Result<Frag, NoMemory>
+    ensures { IfOk result (IsFragment name.now []) }
+{
+    let mut body = Bytes::new(alloc);
+    body.append(b"  // omitted ")?;
+    body.append(name)?;
+    body.append(b"\n")?;
+    Ok(Frag {
+        names: Names::new(alloc),
+        body,
+    })
+}
+
+fn one_line(alloc: Global, name: Bytes, content: &Content<'_>) -> Result<Frag, NoMemory>
+    ensures { IfOk result (IsFragment name ((name, content_view content.now) ∷ [])) }
+{
+    let mut body = Bytes::new(alloc);
+    content.append_line(name.as_slice(), &mut body)?;
+    let mut names = Names::new(alloc);
+    names.push(name)?;
+    Ok(Frag { names, body })
+}
+
+fn five_lines(
+    alloc: Global,
+    cfg: &Config,
+    name: &[u8],
+    value: &Typography<'_>,
+) -> Result<Frag, NoMemory>
+    requires { IsTypography value.now }
+    ensures { IfOk result (IsFragment name.now (unless_omitted cfg.now name.now value.now (family_content value.now.family))) }
+{
+    let Some(family) = family_content(value.family.as_slice()) else {
+        return omitted(alloc, name);
+    };
+    typography_fragment(alloc, cfg, name, value, &family)
+}
+
+// The points of a rem are held in a byte.
+fn has_base(cfg: &Config)
+    ensures { cfg.now.rem_base < 2 ^ 8 }
+{
+    let _base = cfg.rem_base;
+}
+
+fn written(alloc: Global, cfg: &Config, name: Bytes, typed: &Typed<'_>) -> Result<Frag, NoMemory>
+    requires { IsTyped typed.now }
+    ensures { IfOk result (IsFragment name (swift_values cfg.now name typed.now)) }
+{
+    match typed {
+        Typed::Simple(simple) => match simple_content(cfg, simple) {
+            Some(content) => one_line(alloc, name, &content),
+            None => omitted(alloc, name.as_slice()),
+        },
+        Typed::Typography(value) => five_lines(alloc, cfg, name.as_slice(), value),
+        Typed::StrokeStyle(_)
+        | Typed::Border(_)
+        | Typed::Transition(_)
+        | Typed::Shadow(_)
+        | Typed::Gradient(_) => omitted(alloc, name.as_slice()),
+    }
+}
+
+/// The names and constants of a token in Swift, each `public static let` on a line of its own: lengths in points as `CGFloat`,
+/// durations in seconds as `TimeInterval`, numbers and weights as `Double`, the first family as `String`, colours as `UIColor` and
+/// curves as `CAMediaTimingFunction`. A value of which Swift has no such constant gives no name and a comment: a colour that is
+/// neither in sRGB nor Display P3 with all components and has no `hex`, a family that can't be printed, and all kinds but the eight
+/// with constants.
+///
+/// The value is one that a token can have.
+pub fn fragment(
+    alloc: Global,
+    path: &Path<'_>,
+    typed: &Typed<'_>,
+    cfg: &Config,
+) -> Result<Frag, NoMemory>
+    requires typed { IsTyped typed.now }
+    ensures names { IfOk result (λ f. f.names ≡ fragment_names cfg.now path.now typed.now) }
+    ensures body { IfOk result (λ f. f.body ≡ fragment_text cfg.now path.now typed.now) }
+    ensures base { cfg.now.rem_base < 2 ^ 8 }
+    ensures named { IfOk result (λ f. IsNamed cfg.now path.now) }
+    ensures reads { IfOk result (λ f. IsReadAsValues cfg.now path.now typed.now f.body) }
+{
+    has_base(cfg);
+    let name = name_for(alloc, Platform::Swift, path, cfg)?;
+    let fragment = written(alloc, cfg, name, typed)?;
+    Ok(fragment)
+}
