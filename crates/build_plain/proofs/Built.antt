@@ -1,63 +1,79 @@
--- Files have one outcome, and what a text's answer makes of them.
-use Rattle.std.proofs.Common.{◌≡◌, ◌≢◌, ◌∙◌, inl, inr, ℕ, Bool, true, false, List, [], ◌∷◌, Option, Some, None, option_map, ap, sym, subst, ◌+◌, arith}
-use Rattle.std.specs.FinMap as map
-use Rattle.std.specs.Prelude.{MatchBool}
-use Rattle.json_span.proofs.OneAnswer.{one_answer}
-use Rattle.json_span.specs.Answer.{Answer, IsAnswer, shows, flawed, stops}
-use Rattle.json_span.specs.Flaw.{equal_names, too_deep}
-use Rattle.json_span.specs.Tree.{Placed}
-use Rattle.token_tree.specs.Shape.{Break, shape_breaks, shape_of}
-use Rattle.token_tree.specs.Tree.{Group}
-use Rattle.group_inherit.proofs.OneAnswer.{one_flat, one_break, sound_unbroken}
-use Rattle.build_plain.specs.Out.{FilesData, Builds, BuildsText, BuildsAnswer, BuildsShape, BuildsTree, IsMergeCount, TextMerges, answer_merges, has_plan, tokens_path, broken_text, refused, sheet_of}
-use Rattle.build_plain.specs.Sheet.{sheet_text}
+-- What is built of files, by their configuration.
+use Rattle.std.proofs.Common.{◌≡◌, ℕ, ◌+◌, ◌≤◌, Bool, true, false, Some, None, Result, Ok, Err, refl, sym, subst, ap, ◌∙◌, arith}
+use Rattle.std.specs.FinMap as finite
+use Rattle.std.specs.Prelude.{MatchBool, length, if◌then◌else◌}
+use Rattle.transforms.specs.Config.{Settings}
+use Rattle.transforms.specs.declared.config.ConfigFault.{ConfigFault}
+use Rattle.transforms.specs.declared.config.ConfigFault.TheVariants.{Toml, Key, NoMemory}
+use Rattle.build_plain.specs.Refusal.{FilesData, text_at}
+use Rattle.build_plain.specs.Breaks.{tokens_path}
+use Rattle.build_plain.specs.Out.{Builds, BuildsUnder, OnSome, config_path, config_reports, refused_plan, has_resolver, settings_of}
+use Rattle.build_plain.specs.Work.{Work, work, text_count, count_under, parse_count, TextWork, WorkUnder, IsWork, Counters, counters, RiseBy, RiseWithin}
+use Rattle.build_plain.specs.inner.Making.{IsConfigFault}
+use Rattle.build_plain.proofs.Assembled.{at_rest}
 
-abbrev Out : Type 0
-Out = Option FilesData
+abbrev Plan : Type 0
+Plan = Result Settings ConfigFault
 
-one_tree : (text : List ℕ) (tree : Group) (a b : Out) → BuildsTree text tree a → BuildsTree text tree b → a ≡ b
-one_tree text tree a b (inl (f, some, is, makes)) (inl (g, some_too, is_too, makes_too)) = makes ∙ (ap (λ e. Some (refused (broken_text text e))) (one_break tree f g some some_too is is_too) ∙ sym makes_too)
-one_tree text tree a b (inl (f, some, is, makes)) (inr (flat, sound, is_too, makes_too)) = absurd (sound_unbroken tree f sound some is)
-one_tree text tree a b (inr (flat, sound, is, makes)) (inl (g, some, is_too, makes_too)) = absurd (sound_unbroken tree g sound some is_too)
-one_tree text tree a b (inr (flat, sound, is, makes)) (inr (other, sound_too, is_too, makes_too)) = makes ∙ (ap (λ f. option_map sheet_of (sheet_text f)) (one_flat tree flat other is is_too) ∙ sym makes_too)
+module _ (files : FilesData) where
+  of_plan : (plan : Plan) (o : FilesData) → has_resolver files ≡ false → settings_of files ≡ plan → BuildsUnder files plan o → Builds files (Some o)
+  of_plan plan o none same made =
+      let P : Bool → Type 0 = λ b. MatchBool b (Some o ≡ None) (OnSome (Some o) (BuildsUnder files (settings_of files))) in
+      subst P (sym none) (subst (λ (r : Plan). BuildsUnder files r o) (sym same) made)
 
-one_shape : (text : List ℕ) (n : Placed) (bs : List Break) (a b : Out) → BuildsShape text n bs a → BuildsShape text n bs b → a ≡ b
-one_shape text n [] a b left right = one_tree text (shape_of tokens_path text n) a b left right
-one_shape text n (x ∷ xs) a b left right = left ∙ sym right
+  pub built : (settings : Settings) (o : FilesData) → has_resolver files ≡ false → settings_of files ≡ Ok settings → BuildsUnder files (Ok settings) o → Builds files (Some o)
+  built settings o none same made = of_plan (Ok settings) o none same made
 
-one_made : (text : List ℕ) (answer : Answer) (a b : Out) → BuildsAnswer text answer a → BuildsAnswer text answer b → a ≡ b
-one_made text (shows n) a b left right = one_shape text n (shape_breaks n) a b left right
-one_made text (flawed (equal_names start end)) a b left right = left ∙ sym right
-one_made text (flawed (too_deep start end)) a b left right = left ∙ sym right
-one_made text (stops at) a b left right = left ∙ sym right
+  pub built_config : (broken : ConfigFault) (o : FilesData) → has_resolver files ≡ false → IsConfigFault files broken → refused_plan files (config_reports (length (text_at files config_path)) broken) o
+      → Builds files (Some o)
+  built_config Toml o none is made = of_plan (Err Toml) o none is made
+  built_config (Key key) o none is made = of_plan (Err (Key key)) o none is made
+  built_config NoMemory o none is made = absurd made
 
-one_of : (text : Option (List ℕ)) (a b : Out) → BuildsText text a → BuildsText text b → a ≡ b
-one_of None a b left right = left ∙ sym right
-one_of (Some text) a b (first, is, makes) (second, is_too, makes_too) =
-    let same = one_answer text first second is is_too in
-    one_made text second a b (subst (λ x. BuildsAnswer text x a) same makes) makes_too
+  count_is : (plan : Plan) → has_resolver files ≡ false → settings_of files ≡ plan → parse_count files ≡ count_under files plan
+  count_is plan none same = ap (λ (b : Bool). if b then 0 else count_under files (settings_of files)) none ∙ ap (λ (r : Plan). count_under files r) same
 
-one_where : (planned : Bool) (text : Option (List ℕ)) (a b : Out) → MatchBool planned (a ≡ None) (BuildsText text a) → MatchBool planned (b ≡ None) (BuildsText text b) → a ≡ b
-one_where true text a b left right = left ∙ sym right
-one_where false text a b left right = one_of text a b left right
+  pub counted : (settings : Settings) (m n : ℕ) → has_resolver files ≡ false → settings_of files ≡ Ok settings → n ≡ m + text_count (finite.get files tokens_path) → n ≡ m + parse_count files
+  counted settings m n none same is = is ∙ ap (λ k. m + k) (sym (count_is (Ok settings) none same))
 
--- files have one outcome
-pub one_outcome : (files : FilesData) (a b : Out) → Builds files a → Builds files b → a ≡ b
-one_outcome files a b left right = one_where (has_plan files) (map.get files tokens_path) a b left right
+  pub counted_within : (settings : Settings) (m n : ℕ) → has_resolver files ≡ false → settings_of files ≡ Ok settings → n ≡ m + text_count (finite.get files tokens_path) → n ≤ m + parse_count files
+  counted_within settings m n none same is = omega (arith, counted settings m n none same is)
 
--- what is made of the answer is made of the files
-pub built : (files : FilesData) (text : List ℕ) (answer : Answer) (out : Out) → has_plan files ≡ false → Some text ≡ map.get files tokens_path → IsAnswer text answer → BuildsAnswer text answer out → Builds files out
-built files text answer out plan found is makes = rw (plan, sym found) (answer, is, makes)
+  work_of : (plan : Plan) (w : Work) → has_resolver files ≡ false → settings_of files ≡ plan → WorkUnder files plan w → IsWork files w
+  work_of plan w none same is =
+      let P : Bool → Type 0 = λ b. MatchBool b (w ≡ work 0 0) (WorkUnder files (settings_of files) w) in
+      subst P (sym none) (subst (λ (r : Plan). WorkUnder files r w) (sym same) is)
 
--- the trees that are made flat by the answer are those of the files
-pub merged_by : (files : FilesData) (text : List ℕ) (answer : Answer) (n : ℕ) → has_plan files ≡ false → Some text ≡ map.get files tokens_path → IsAnswer text answer → IsMergeCount files n → n ≡ answer_merges answer
-merged_by files text answer n plan found is h =
-    let (other, is_other, counted) = subst (λ t. TextMerges t n) (sym found) (subst (λ p. MatchBool p (n ≡ 0) (TextMerges (map.get files tokens_path) n)) plan h) in
-    counted ∙ ap answer_merges (one_answer text other answer is_other is)
+  of_work : (plan : Plan) (w : Work) → has_resolver files ≡ false → settings_of files ≡ plan → IsWork files w → WorkUnder files plan w
+  of_work plan w none same is =
+      let P : Bool → Type 0 = λ b. MatchBool b (w ≡ work 0 0) (WorkUnder files (settings_of files) w) in
+      subst (λ (r : Plan). WorkUnder files r w) same (subst P none is)
 
--- a value without a break of shape makes what its tree makes
-pub shaped : (text : List ℕ) (n : Placed) (tree : Group) (out : Out) → shape_breaks n ≡ [] → tree ≡ shape_of tokens_path text n → BuildsTree text tree out → BuildsShape text n (shape_breaks n) out
-shaped text n tree out sound same makes = subst (λ bs. BuildsShape text n bs out) (sym sound) (subst (λ t. BuildsTree text t out) same makes)
+  pub worked : (settings : Settings) (before after : Counters) → has_resolver files ≡ false → settings_of files ≡ Ok settings → RiseBy (TextWork (finite.get files tokens_path)) before after
+      → RiseBy (IsWork files) before after
+  worked settings before after none same r = record { done = r.done; is = work_of (Ok settings) r.done none same r.is; merges_rise = r.merges_rise; evals_rise = r.evals_rise }
 
-pub none_more : (m n : ℕ) → n ≡ 0 → m ≡ m + n
-none_more m n is = omega (arith, is)
+  pub worked_within : (settings : Settings) (before after : Counters) → has_resolver files ≡ false → settings_of files ≡ Ok settings → RiseWithin (TextWork (finite.get files tokens_path)) before after
+      → RiseWithin (IsWork files) before after
+  worked_within settings before after none same within w is = within w (of_work (Ok settings) w none same is)
+
+  no_count : (plan : Plan) (m : ℕ) → has_resolver files ≡ false → settings_of files ≡ plan → count_under files plan ≡ 0 → m ≡ m + parse_count files
+  no_count plan m none same zero = omega (arith, count_is plan none same, zero)
+
+  pub nothing_read : (broken : ConfigFault) (o : FilesData) (m : ℕ) → has_resolver files ≡ false → IsConfigFault files broken → refused_plan files (config_reports (length (text_at files config_path)) broken) o
+      → m ≡ m + parse_count files
+  nothing_read Toml o m none is made = no_count (Err Toml) m none is refl
+  nothing_read (Key key) o m none is made = no_count (Err (Key key)) m none is refl
+  nothing_read NoMemory o m none is made = absurd made
+
+  pub nothing_done : (broken : ConfigFault) (o : FilesData) (m e : ℕ) → has_resolver files ≡ false → IsConfigFault files broken → refused_plan files (config_reports (length (text_at files config_path)) broken) o
+      → RiseBy (IsWork files) (counters m e) (counters m e)
+  nothing_done Toml o m e none is made = at_rest (IsWork files) m e (work_of (Err Toml) (work 0 0) none is refl)
+  nothing_done (Key key) o m e none is made = at_rest (IsWork files) m e (work_of (Err (Key key)) (work 0 0) none is refl)
+  nothing_done NoMemory o m e none is made = absurd made
+
+  -- nothing is done for a resolver
+  pub nothing_planned : (m e : ℕ) → has_resolver files ≡ true → RiseBy (IsWork files) (counters m e) (counters m e)
+  nothing_planned m e there =
+      let P : Bool → Type 0 = λ b. MatchBool b (work 0 0 ≡ work 0 0) (WorkUnder files (settings_of files) (work 0 0)) in
+      at_rest (IsWork files) m e (subst P (sym there) refl)

@@ -1,5 +1,11 @@
+pub mod Assembled
+pub mod Bodies
 pub mod Built
+pub mod Comes
+pub mod Entries
 pub mod FileMaps
-pub mod Printed
+pub mod OneCells
+pub mod OneOutputs
 pub mod Refusals
-pub mod Sheets
+pub mod Reports
+pub mod Sides

@@ -1,5 +1,7 @@
-pub mod Laws
-pub mod Out
-pub mod Pixels
 pub mod Refusal
-pub mod Sheet
+pub mod Cell
+pub mod Breaks
+pub mod Out
+pub mod Work
+pub mod Laws
+pub mod inner

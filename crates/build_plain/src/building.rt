@@ -1,26 +1,31 @@
 // Building the outputs of files.
-ghost use Rattle.std.specs.Prelude.{◌≡◌, ◌≢◌, ◌+◌, ◌≤◌, ◌++◌, ℕ, Some, None, Err, IfOk, codes, option_map};
+ghost use Rattle.std.specs.Prelude.{◌≡◌, ◌≢◌, ◌+◌, ◌≤◌, ◌∷◌, [], codes, length, Some, None, Ok, Err, IfOk, OnOk, option_map};
 ghost use Rattle.std.specs.FinMap as map;
 ghost use Rattle.json_span.specs.View.{node_view};
 ghost use Rattle.token_tree.specs.Promise.{StandsIn};
 ghost use Rattle.token_tree.specs.Shape.{shape_breaks};
 ghost use Rattle.token_tree.specs.Shown.{group_view};
 ghost use Rattle.group_inherit.specs.declared.fault.TreeFault.TheVariants.{NoMemory as OutOfMemory};
-ghost use Rattle.build_plain.specs.Out.{Builds, BuildsShape, BuildsTree, IsMergeCount, broken_text, has_plan, parse_count, shape_merges, tokens_path, sheet_of, refused_by};
-ghost use Rattle.build_plain.specs.Refusal.{refusal_text, count_line};
-ghost use Rattle.build_plain.specs.Sheet.{sheet_text};
+ghost use Rattle.build_plain.specs.Refusal.{report, report_text, counted};
+ghost use Rattle.build_plain.specs.Breaks.{InTokens, InTree, InShape, InText, tokens_path, tree_reports};
+ghost use Rattle.build_plain.specs.Out.{Builds, BuildsUnder, Gives, has_resolver, one_output, verdict};
+ghost use Rattle.build_plain.specs.Work.{parse_count, text_count, IsWork, TreeWork, ShapeWork, TextWork, counters, RiseBy, RiseWithin};
 
+use crate::cells::cells_of;
+use crate::config::{config_of, refused_config};
 use crate::files::Files;
-use crate::refusal::{Rule, append_count_line, append_place_line, append_ring_lines, refusal_text};
-use crate::sheet::css;
-use group_inherit::{FileSpan, Flat, TreeFault, flatten};
-use json_span::{JsonFault, Node, read};
+use crate::outcome::{one_output, outputs_of};
+use crate::refusal::{append_count, append_lost_group, append_ring_groups, refuse, refuse_span};
+use crate::rule::Rule;
+use group_inherit::{Flat, TreeFault, flatten, one_answer};
+use json_span::{JsonFault, Node, json_laws, read};
 use std::alloc::Global;
 use std::sync::ledger::Ledger;
 use tk_io::{Bytes, NoMemory, Outputs, Steps};
 use token_tree::{Group, ShapeFault, shape};
+use transforms::Config;
 
-/// The file that is built so far.
+/// The file of all tokens.
 const TOKENS: &str = "tokens.json";
 
 /// Why nothing was built.
@@ -43,132 +48,176 @@ impl From<NoMemory> for BuildStop {
     }
 }
 
-fn has_plan(files: &Files<'_>) -> bool
-    ensures { result ≡ has_plan files.now }
+fn has_resolver(files: &Files<'_>) -> bool
+    ensures { result ≡ has_resolver files.now }
 {
-    files.get("tokc.toml").is_some() || files.get("resolver.json").is_some()
+    files.get("resolver.json").is_some()
 }
 
-fn one_output(alloc: Global, path: &str, body: Bytes) -> Result<Outputs, NoMemory>
-    ensures { IfOk result (λ o. o ≡ map.insert map.empty path.now body) }
-{
-    let mut outputs = Outputs::new(alloc);
-    outputs.insert(path, body)?;
-    Ok(outputs)
-}
-
-// One output: a refusal at a span of `tokens.json`.
+// One output: the refusal of a rule that is broken at a span of the token file.
 fn refused(
     alloc: Global,
+    files: &Files<'_>,
     rule: Rule,
-    text: &str,
     start: usize,
     end: usize,
 ) -> Result<Outputs, NoMemory>
-    ensures { IfOk result (λ o. o ≡ refused_by rule text.now start end) }
+    ensures { IfOk result (λ o. o ≡ one_output (codes "default/REFUSED") (report_text files.now (report rule tokens_path start end []))) }
 {
-    let body = refusal_text(alloc, rule, TOKENS, text, start, end)?;
+    let body = refuse(alloc, files, rule, TOKENS, start, end)?;
     one_output(alloc, "default/REFUSED", body)
 }
 
-// What is printed of a rule of extension that is broken at a span.
-fn refusal_at(alloc: Global, rule: Rule, text: &str, span: &FileSpan<'_>) -> Result<Bytes, NoMemory>
-    ensures { IfOk result (λ b. b ≡ refusal_text rule span.now.file text.now span.now.start span.now.end) }
-{
-    refusal_text(alloc, rule, span.file, text, span.start, span.end)
-}
-
 // What is printed of a rule of extension that the whole tree breaks.
-fn refusal_of_tree(alloc: Global, rule: Rule, text: &str, count: u64) -> Result<Bytes, NoMemory>
-    ensures { IfOk result (λ b. b ≡ refusal_text rule tokens_path text.now 0 0 ++ count_line count) }
+fn count_text(alloc: Global, files: &Files<'_>, rule: Rule, count: u64) -> Result<Bytes, NoMemory>
+    ensures { IfOk result (λ b. b ≡ report_text files.now (report rule tokens_path 0 0 (counted count ∷ []))) }
 {
-    let mut out = refusal_text(alloc, rule, TOKENS, text, 0, 0)?;
-    append_count_line(&mut out, count)?;
+    let mut out = refuse(alloc, files, rule, TOKENS, 0, 0)?;
+    append_count(&mut out, count)?;
     Ok(out)
 }
 
 // What is printed of a tree that breaks a rule of extension.
-fn broken_text(alloc: Global, text: &str, fault: &TreeFault<'_>) -> Result<Bytes, NoMemory>
-    ensures { IfOk result (λ b. (b ≡ broken_text text.now fault.now) × (fault.now ≢ OutOfMemory)) }
+fn tree_text(alloc: Global, files: &Files<'_>, fault: &TreeFault<'_>) -> Result<Bytes, NoMemory>
+    ensures { IfOk result (λ b. option_map (report_text files.now) (verdict (tree_reports fault.now)) ≡ Some b) }
 {
     match fault {
         TreeFault::ExtendsTarget(group, span) => {
-            let mut out = refusal_at(alloc, Rule::ExtendsTarget, text, span)?;
-            append_place_line(&mut out, group)?;
+            let mut out = refuse_span(alloc, files, Rule::ExtendsTarget, span)?;
+            append_lost_group(&mut out, group)?;
             Ok(out)
         }
         TreeFault::ExtendsCycle(ring, span) => {
-            let mut out = refusal_at(alloc, Rule::ExtendsCycle, text, span)?;
-            append_ring_lines(&mut out, ring)?;
+            let mut out = refuse_span(alloc, files, Rule::ExtendsCycle, span)?;
+            append_ring_groups(&mut out, ring)?;
             Ok(out)
         }
-        TreeFault::TooManyTokens(count) => refusal_of_tree(alloc, Rule::ExtendsCount, text, *count),
-        TreeFault::TooHigh(height) => refusal_of_tree(alloc, Rule::ExtendsHeight, text, *height),
+        TreeFault::TooManyTokens(count) => count_text(alloc, files, Rule::ExtendsCount, *count),
+        TreeFault::TooHigh(height) => count_text(alloc, files, Rule::ExtendsHeight, *height),
         TreeFault::NoMemory => Err(NoMemory),
     }
 }
 
-// One output: the style sheet of a flat tree.
-fn sheet_of(alloc: Global, flat: &Flat<'_>) -> Result<Outputs, BuildStop>
-    ensures ok { IfOk result (λ o. Some o ≡ option_map sheet_of (sheet_text flat.now)) }
-    ensures not_yet { result ≡ Err BuildStop.NotYet → sheet_text flat.now ≡ None }
+// The outputs of a flat tree.
+fn build_flat<'s, N: Ledger>(
+    alloc: Global,
+    files: &Files<'s>,
+    flat: &Flat<'s>,
+    cfg: &Config,
+    evals: &mut Steps<N>,
+) -> Result<Outputs, NoMemory>
+    ensures ok { IfOk result (Gives files.now (InTokens cfg.now flat.now)) }
+    ensures steps { OnOk result (evals.new ≡ evals.old + length (map.entries flat.now)) }
+    ensures at_most { evals.new ≤ evals.old + length (map.entries flat.now) }
 {
-    let Some(body) = css(alloc, flat)? else {
-        return Err(BuildStop::NotYet);
-    };
-    Ok(one_output(alloc, "default/tokens.css", body)?)
+    let cells = cells_of(alloc, flat, cfg, evals)?;
+    outputs_of(alloc, files, flat, cells.as_slice())
 }
 
 // The outputs of a tree.
-fn build_tree<'s, M: Ledger>(
+fn build_tree<'s, M: Ledger, N: Ledger>(
     alloc: Global,
-    text: &str,
+    files: &Files<'s>,
     tree: &Group<'s>,
+    cfg: &Config,
     merges: &mut Steps<M>,
-) -> Result<Outputs, BuildStop>
-    ensures ok { IfOk result (λ o. BuildsTree text.now (group_view tree.now) (Some o)) }
-    ensures not_yet { result ≡ Err BuildStop.NotYet → BuildsTree text.now (group_view tree.now) None }
-    ensures merges { merges.new ≡ merges.old + 1 }
+    evals: &mut Steps<N>,
+) -> Result<Outputs, NoMemory>
+    ensures ok { IfOk result (Gives files.now (InTree cfg.now (group_view tree.now))) }
+    ensures work { OnOk result (RiseBy (TreeWork (group_view tree.now)) (counters merges.old evals.old) (counters merges.new evals.new)) }
+    ensures at_most { RiseWithin (TreeWork (group_view tree.now)) (counters merges.old evals.old) (counters merges.new evals.new) }
 {
+    one_answer();
     match flatten(alloc, tree, merges) {
-        Ok(flat) => sheet_of(alloc, &flat),
+        Ok(flat) => build_flat(alloc, files, &flat, cfg, evals),
         Err(fault) => {
-            let body = broken_text(alloc, text, &fault)?;
-            Ok(one_output(alloc, "default/REFUSED", body)?)
+            let body = tree_text(alloc, files, &fault)?;
+            one_output(alloc, "default/REFUSED", body)
         }
     }
 }
 
 // The outputs of a file's value.
-fn build_root<'s, M: Ledger>(
+fn build_root<'s, M: Ledger, N: Ledger>(
     alloc: Global,
+    files: &Files<'s>,
     text: &'s str,
     root: &Node<'s>,
+    cfg: &Config,
     merges: &mut Steps<M>,
-) -> Result<Outputs, BuildStop>
+    evals: &mut Steps<N>,
+) -> Result<Outputs, NoMemory>
     requires { StandsIn text.now (node_view root.now) }
-    ensures ok { IfOk result (λ o. BuildsShape text.now (node_view root.now) (shape_breaks (node_view root.now)) (Some o)) }
-    ensures not_yet { result ≡ Err BuildStop.NotYet → BuildsShape text.now (node_view root.now) (shape_breaks (node_view root.now)) None }
-    ensures merges { result ≢ Err BuildStop.NoMemory → merges.new ≡ merges.old + shape_merges (shape_breaks (node_view root.now)) }
-    ensures at_most { merges.new ≤ merges.old + shape_merges (shape_breaks (node_view root.now)) }
+    ensures ok { IfOk result (Gives files.now (InShape cfg.now text.now (node_view root.now) (shape_breaks (node_view root.now)))) }
+    ensures work { OnOk result (RiseBy (ShapeWork text.now (node_view root.now) (shape_breaks (node_view root.now)))
+        (counters merges.old evals.old) (counters merges.new evals.new)) }
+    ensures at_most { RiseWithin (ShapeWork text.now (node_view root.now) (shape_breaks (node_view root.now)))
+        (counters merges.old evals.old) (counters merges.new evals.new) }
 {
     match shape(alloc, TOKENS, text, root) {
-        Ok(tree) => build_tree(alloc, text, &tree, merges),
+        Ok(tree) => build_tree(alloc, files, &tree, cfg, merges, evals),
         Err(ShapeFault::Broken(rule, start, end)) => {
-            Ok(refused(alloc, Rule::Shape(rule), text, start, end)?)
+            refused(alloc, files, Rule::Shape(rule), start, end)
         }
-        Err(ShapeFault::NoMemory) => Err(BuildStop::NoMemory),
+        Err(ShapeFault::NoMemory) => Err(NoMemory),
     }
 }
 
-/// The outputs of the files, for the one permutation `default`: `default/tokens.css` for a token file whose tokens are
-/// all dimensions in pixels under names of lower-case letters and digits, and `default/REFUSED` where `tokens.json` is
-/// absent, or breaks a rule of JSON, of shape or of extension. Each file that is read is one step of `parses`, and each
-/// tree that is made flat is one of `merges`.
+// The outputs of the token file's text.
+fn build_text<'s, L: Ledger, M: Ledger, N: Ledger>(
+    alloc: Global,
+    files: &Files<'s>,
+    text: &'s str,
+    cfg: &Config,
+    parses: &mut Steps<L>,
+    merges: &mut Steps<M>,
+    evals: &mut Steps<N>,
+) -> Result<Outputs, NoMemory>
+    ensures ok { IfOk result (Gives files.now (InText cfg.now (Some text.now))) }
+    ensures parses { parses.new ≡ parses.old + 1 }
+    ensures work { OnOk result (RiseBy (TextWork (Some text.now)) (counters merges.old evals.old) (counters merges.new evals.new)) }
+    ensures at_most { RiseWithin (TextWork (Some text.now)) (counters merges.old evals.old) (counters merges.new evals.new) }
+{
+    json_laws();
+    match read(alloc, text, parses) {
+        Ok(root) => build_root(alloc, files, text, &root, cfg, merges, evals),
+        Err(JsonFault::Syntax(at)) => refused(alloc, files, Rule::JsonSyntax, at, at),
+        Err(JsonFault::Dup(start, end)) => {
+            refused(alloc, files, Rule::JsonDuplicate, start, end)
+        }
+        Err(JsonFault::Deep(start, end)) => refused(alloc, files, Rule::JsonDepth, start, end),
+        Err(JsonFault::NoMemory) => Err(NoMemory),
+    }
+}
+
+// The outputs of the one permutation of files without a resolver.
+fn build_default<'s, L: Ledger, M: Ledger, N: Ledger>(
+    alloc: Global,
+    files: &Files<'s>,
+    cfg: &Config,
+    parses: &mut Steps<L>,
+    merges: &mut Steps<M>,
+    evals: &mut Steps<N>,
+) -> Result<Outputs, NoMemory>
+    ensures ok { IfOk result (BuildsUnder files.now (Ok cfg.now)) }
+    ensures parses { parses.new ≡ parses.old + text_count (map.get files.now tokens_path) }
+    ensures work { OnOk result (RiseBy (TextWork (map.get files.now tokens_path)) (counters merges.old evals.old) (counters merges.new evals.new)) }
+    ensures at_most { RiseWithin (TextWork (map.get files.now tokens_path)) (counters merges.old evals.old) (counters merges.new evals.new) }
+{
+    match files.get(TOKENS) {
+        Some(text) => build_text(alloc, files, text, cfg, parses, merges, evals),
+        None => refused(alloc, files, Rule::FileMissing, 0, 0),
+    }
+}
+
+/// The outputs of the files, for the one permutation `default` of files without a resolver: `default/tokens.css`, or
+/// `default/REFUSED` with the first rule that is broken: `tokens.json` is absent, or breaks a rule of JSON, of shape or of
+/// extension; a token, the first in path order, breaks a rule of references, of kinds or of values; or two tokens have one
+/// name. Where `tokc.toml` is refused, the one output is `REFUSED`. The file that is read is one step of `parses`, a tree
+/// that is made flat is one of `merges`, and each token of a flat tree is one of `evals`.
 ///
 /// # Errors
-/// `NotYet` exactly where `tokc.toml` or `resolver.json` is there, or `tokens.json` has a flat tree with another token.
-/// `NoMemory`.
+/// `NotYet` exactly where `resolver.json` is there. `NoMemory`.
 pub fn build<'s, L: Ledger, M: Ledger, N: Ledger>(
     alloc: Global,
     files: &Files<'s>,
@@ -178,29 +227,18 @@ pub fn build<'s, L: Ledger, M: Ledger, N: Ledger>(
 ) -> Result<Outputs, BuildStop>
     ensures ok { IfOk result (λ o. Builds files.now (Some o)) }
     ensures not_yet { result ≡ Err BuildStop.NotYet → Builds files.now None }
-    ensures parses { parses.new ≡ parses.old + parse_count files.now }
-    ensures merges { (n : ℕ) → IsMergeCount files.now n → result ≢ Err BuildStop.NoMemory → merges.new ≡ merges.old + n }
-    // Where memory runs out, the tree may not have been made flat.
-    ensures at_most { (n : ℕ) → IsMergeCount files.now n → merges.new ≤ merges.old + n }
-    ensures evals { evals.new ≡ evals.old }
+    ensures parses { result ≢ Err BuildStop.NoMemory → parses.new ≡ parses.old + parse_count files.now }
+    ensures work { result ≢ Err BuildStop.NoMemory
+        → RiseBy (IsWork files.now) (counters merges.old evals.old) (counters merges.new evals.new) }
+    // Where memory runs out, less may have been done.
+    ensures no_more { parses.new ≤ parses.old + parse_count files.now }
+    ensures at_most { RiseWithin (IsWork files.now) (counters merges.old evals.old) (counters merges.new evals.new) }
 {
-    if has_plan(files) {
+    if has_resolver(files) {
         return Err(BuildStop::NotYet);
     }
-    let Some(text) = files.get(TOKENS) else {
-        return Ok(refused(alloc, Rule::FileMissing, "", 0, 0)?);
-    };
-    match read(alloc, text, parses) {
-        Ok(root) => build_root(alloc, text, &root, merges),
-        Err(JsonFault::Syntax(at)) => Ok(refused(alloc, Rule::JsonSyntax, text, at, at)?),
-        Err(JsonFault::Dup(start, end)) => Ok(refused(
-            alloc,
-            Rule::JsonDuplicate,
-            text,
-            start,
-            end,
-        )?),
-        Err(JsonFault::Deep(start, end)) => Ok(refused(alloc, Rule::JsonDepth, text, start, end)?),
-        Err(JsonFault::NoMemory) => Err(BuildStop::NoMemory),
+    match config_of(alloc, files) {
+        Ok(cfg) => Ok(build_default(alloc, files, &cfg, parses, merges, evals)?),
+        Err(fault) => Ok(refused_config(alloc, files, &fault)?),
     }
 }

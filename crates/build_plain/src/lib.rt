@@ -2,14 +2,20 @@
 #![tactic(auto)]
 
 mod building;
+mod cells;
+mod config;
 mod files;
 mod laws;
-mod pixels;
+mod outcome;
 mod refusal;
+mod rule;
 mod sheet;
 #[cfg(test)]
 mod tests;
+mod token_cell;
+mod verdict;
 
 pub use building::{BuildStop, build};
 pub use files::Files;
-pub use laws::{each_printed, one_build, printed_trees};
+pub use laws::one_build;
+pub use token_cell::{CellRule, TokenCell, cell};

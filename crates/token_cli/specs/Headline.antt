@@ -1,6 +1,6 @@
 -- What is written for a script: commit after commit, the output files that a build from nothing of the files then present
 -- would change.
-use Rattle.std.specs.Prelude.{◌≡◌, ◌<◌, ◌≤◌, ◌⊎◌, ℕ, suc, Bool, List, ◌++◌, length, codes, Option, Some, None, is_some, IfSome}
+use Rattle.std.specs.Prelude.{◌≡◌, ◌<◌, ◌≤◌, ◌⊎◌, ℕ, suc, Bool, ◌||◌, List, ◌++◌, length, codes, Option, Some, None, is_some, IfSome}
 use Rattle.std.specs.FinMap as map
 use Rattle.std.specs.List.{slice_get}
 use Rattle.std.specs.Io.KnownBytes.{Appends, IsAtEnd}
@@ -39,9 +39,9 @@ pub record AreCommits (es : List EventData) (held : List Held) (deltas : List De
 abbrev pub last_held : List Held → Held
 last_held held = held_at map.empty held (length held)
 
--- a refusal is held
+-- a refusal is held: of the files' plan, or of their one permutation
 abbrev pub is_refused : Held → Bool
-is_refused held = is_some (map.get held (codes "default/REFUSED"))
+is_refused held = is_some (map.get held (codes "REFUSED")) || is_some (map.get held (codes "default/REFUSED"))
 
 -- the stream up to the end of these commits
 abbrev pub commits_so_far : List Delta → List ℕ

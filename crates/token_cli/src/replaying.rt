@@ -3,17 +3,21 @@ ghost use Rattle.std.specs.Prelude.{◌≡◌, ◌≤◌, [], ◌∷◌, ◌++�
 ghost use Rattle.edit_script.specs.Files.{whole, without_commits};
 ghost use Rattle.edit_script.specs.Shown.{event_of};
 ghost use Rattle.token_cli.specs.Ending.{Writes};
-ghost use Rattle.token_cli.specs.Headline.{events_for};
+ghost use Rattle.token_cli.specs.Headline.{events_for, is_refused};
 
 use crate::stop::Stop;
 use crate::words::Command;
 use crate::workspace::Workspace;
 use edit_script::{Event, Events, Line, write_line};
 use std::alloc::Global;
-use tk_io::{NoMemory, Sink};
+use tk_io::{NoMemory, Outputs, Sink};
 
-/// The path of a refusal.
-const REFUSED: &str = "default/REFUSED";
+// Whether a refusal is held.
+fn is_refused(held: &Outputs) -> bool
+    ensures { result ≡ is_refused held.now }
+{
+    held.get("REFUSED").is_some() || held.get("default/REFUSED").is_some()
+}
 
 // Adds the event unless it is a commit.
 fn add_edit<'s>(edits: &mut Events<'s>, event: &Event<'s>) -> Result<(), NoMemory>
@@ -53,7 +57,7 @@ fn replay<K: Sink>(alloc: Global, events: &Events<'_>, out: &mut K) -> Result<bo
         }
     }
     write_line(out, &Line::Done(workspace.commits))?;
-    Ok(workspace.held.get(REFUSED).is_some())
+    Ok(is_refused(&workspace.held))
 }
 
 /// Writes the stream of what the command makes of the events, and says whether a refusal is held at its end.

@@ -1,54 +1,54 @@
-use Rattle.std.proofs.Common.{ℕ, ◌≡◌, ◌+◌, Some, None, sym, subst, ap, ◌∙◌, refl, arith}
-use Rattle.std.proofs.lemmas.Result.{IfOk-weaker}
-use Rattle.json_span.specs.Answer.{shows, flawed, stops, IsRefusal}
-use Rattle.json_span.specs.Flaw.{equal_names, too_deep}
-use Rattle.json_span.specs.Parts.{itself}
-use Rattle.json_span.specs.View.{node_view}
-use Rattle.build_plain.specs.Out.{Builds, shape_merges}
-use Rattle.build_plain.proofs.Built.{built, merged_by, none_more}
+use Rattle.std.proofs.Common.{sym}
+use Rattle.build_plain.specs.Work.{IsWork}
+use Rattle.build_plain.proofs.Built.{built, built_config, counted, counted_within, worked, worked_within, nothing_read, nothing_done, nothing_planned}
+use Rattle.build_plain.proofs.Assembled.{no_rise}
 use Rattle.build_plain.proofs.building.build.Goals as goal
 
-pub build_root-requires : goal.build_root-requires
-build_root-requires g c = record { root = node_view c.in-Ok.root; shown = c.in-Ok.ensures.found.0; flawless = c.in-Ok.ensures.found.1; part = itself }
+pub returns-in_ok-build_default-in-Ok-clause-ok : goal.returns-in_ok-build_default-in-Ok-clause-ok
+returns-in_ok-build_default-in-Ok-clause-ok g c =
+    built c.args.files.now c.in-Ok.cfg c.in_ok-build_default-in-Ok.field-0 (sym c.if-has_resolver.ensures) c.in-Ok.ensures.ok c.in_ok-build_default-in-Ok.ensures.ok
 
-pub returns-in-Ok-clause-ok : goal.returns-in-Ok-clause-ok
-returns-in-Ok-clause-ok g c =
-    IfOk-weaker c.build_root.result _ (λ o. Builds c.args.files.now (Some o))
-    (λ o is. built c.args.files.now c.in-Some.text.now (shows (node_view c.in-Ok.root)) (Some o) (sym c.if-has_plan.ensures) c.in-Some.ensures c.in-Ok.ensures.found is)
-    c.build_root.ensures.ok
+pub returns-in_ok-build_default-in-Ok-clause-parses : goal.returns-in_ok-build_default-in-Ok-clause-parses
+returns-in_ok-build_default-in-Ok-clause-parses g c some =
+    counted c.args.files.now c.in-Ok.cfg c.args.parses.now c.build_default.new.parses (sym c.if-has_resolver.ensures) c.in-Ok.ensures.ok c.build_default.ensures.parses
 
-pub returns-in-Ok-clause-not_yet : goal.returns-in-Ok-clause-not_yet
-returns-in-Ok-clause-not_yet g c stop =
-    built c.args.files.now c.in-Some.text.now (shows (node_view c.in-Ok.root)) None (sym c.if-has_plan.ensures) c.in-Some.ensures c.in-Ok.ensures.found (c.build_root.ensures.not_yet stop)
+pub returns-in_ok-build_default-in-Ok-clause-work : goal.returns-in_ok-build_default-in-Ok-clause-work
+returns-in_ok-build_default-in-Ok-clause-work g c some =
+    worked c.args.files.now c.in-Ok.cfg _ _ (sym c.if-has_resolver.ensures) c.in-Ok.ensures.ok c.in_ok-build_default-in-Ok.ensures.work
 
-pub returns-in-Ok-clause-merges : goal.returns-in-Ok-clause-merges
-returns-in-Ok-clause-merges g c n is some =
-    c.build_root.ensures.merges some ∙ ap (λ k. c.args.merges.now + k) (sym (merged_by c.args.files.now c.in-Some.text.now (shows (node_view c.in-Ok.root)) n (sym c.if-has_plan.ensures) c.in-Some.ensures c.in-Ok.ensures.found is))
+pub returns-in_ok-build_default-in-Ok-clause-no_more : goal.returns-in_ok-build_default-in-Ok-clause-no_more
+returns-in_ok-build_default-in-Ok-clause-no_more g c =
+    counted_within c.args.files.now c.in-Ok.cfg c.args.parses.now c.build_default.new.parses (sym c.if-has_resolver.ensures) c.in-Ok.ensures.ok c.build_default.ensures.parses
 
-pub returns-in-Ok-clause-at_most : goal.returns-in-Ok-clause-at_most
-returns-in-Ok-clause-at_most g c n is =
-    omega (arith, c.build_root.ensures.at_most, merged_by c.args.files.now c.in-Some.text.now (shows (node_view c.in-Ok.root)) n (sym c.if-has_plan.ensures) c.in-Some.ensures c.in-Ok.ensures.found is)
+pub returns-in_ok-build_default-in-Ok-clause-at_most : goal.returns-in_ok-build_default-in-Ok-clause-at_most
+returns-in_ok-build_default-in-Ok-clause-at_most g c =
+    worked_within c.args.files.now c.in-Ok.cfg _ _ (sym c.if-has_resolver.ensures) c.in-Ok.ensures.ok c.build_default.ensures.at_most
 
-pub returns-in_ok-refused-in-Err-Syntax-clause-ok : goal.returns-in_ok-refused-in-Err-Syntax-clause-ok
-returns-in_ok-refused-in-Err-Syntax-clause-ok g c =
-    built c.args.files.now c.in-Some.text.now (stops c.in-Err-Syntax.at) (Some c.in_ok-refused-in-Err-Syntax.field-0) (sym c.if-has_plan.ensures) c.in-Some.ensures (subst (IsRefusal c.in-Some.text.now) c.in-Err-Syntax.field-0-is c.in-Err-Syntax.ensures.refused) (ap Some c.in_ok-refused-in-Err-Syntax.ensures)
+pub returns-in_err-build_default-in-Ok-clause-no_more : goal.returns-in_err-build_default-in-Ok-clause-no_more
+returns-in_err-build_default-in-Ok-clause-no_more g c =
+    counted_within c.args.files.now c.in-Ok.cfg c.args.parses.now c.build_default.new.parses (sym c.if-has_resolver.ensures) c.in-Ok.ensures.ok c.build_default.ensures.parses
 
-pub returns-in_ok-refused-in-Err-Syntax-clause-merges : goal.returns-in_ok-refused-in-Err-Syntax-clause-merges
-returns-in_ok-refused-in-Err-Syntax-clause-merges g c n is some =
-    none_more c.args.merges.now n (merged_by c.args.files.now c.in-Some.text.now (stops c.in-Err-Syntax.at) n (sym c.if-has_plan.ensures) c.in-Some.ensures (subst (IsRefusal c.in-Some.text.now) c.in-Err-Syntax.field-0-is c.in-Err-Syntax.ensures.refused) is)
+pub returns-in_err-build_default-in-Ok-clause-at_most : goal.returns-in_err-build_default-in-Ok-clause-at_most
+returns-in_err-build_default-in-Ok-clause-at_most g c =
+    worked_within c.args.files.now c.in-Ok.cfg _ _ (sym c.if-has_resolver.ensures) c.in-Ok.ensures.ok c.build_default.ensures.at_most
 
-pub returns-in_ok-refused-in-Err-Dup-clause-ok : goal.returns-in_ok-refused-in-Err-Dup-clause-ok
-returns-in_ok-refused-in-Err-Dup-clause-ok g c =
-    built c.args.files.now c.in-Some.text.now (flawed (equal_names c.in-Err-Dup.start c.in-Err-Dup.end)) (Some c.in_ok-refused-in-Err-Dup.field-0) (sym c.if-has_plan.ensures) c.in-Some.ensures (subst (IsRefusal c.in-Some.text.now) c.in-Err-Dup.field-0-is c.in-Err-Dup.ensures.refused) (ap Some c.in_ok-refused-in-Err-Dup.ensures)
+pub returns-in_ok-refused_config-in-Err-clause-ok : goal.returns-in_ok-refused_config-in-Err-clause-ok
+returns-in_ok-refused_config-in-Err-clause-ok g c =
+    built_config c.args.files.now c.in-Err.fault c.in_ok-refused_config-in-Err.field-0 (sym c.if-has_resolver.ensures) c.in-Err.ensures.refused c.in_ok-refused_config-in-Err.ensures
 
-pub returns-in_ok-refused-in-Err-Dup-clause-merges : goal.returns-in_ok-refused-in-Err-Dup-clause-merges
-returns-in_ok-refused-in-Err-Dup-clause-merges g c n is some =
-    none_more c.args.merges.now n (merged_by c.args.files.now c.in-Some.text.now (flawed (equal_names c.in-Err-Dup.start c.in-Err-Dup.end)) n (sym c.if-has_plan.ensures) c.in-Some.ensures (subst (IsRefusal c.in-Some.text.now) c.in-Err-Dup.field-0-is c.in-Err-Dup.ensures.refused) is)
+pub returns-in_ok-refused_config-in-Err-clause-parses : goal.returns-in_ok-refused_config-in-Err-clause-parses
+returns-in_ok-refused_config-in-Err-clause-parses g c some =
+    nothing_read c.args.files.now c.in-Err.fault c.in_ok-refused_config-in-Err.field-0 c.args.parses.now (sym c.if-has_resolver.ensures) c.in-Err.ensures.refused c.in_ok-refused_config-in-Err.ensures
 
-pub returns-in_ok-refused-in-Err-Deep-clause-ok : goal.returns-in_ok-refused-in-Err-Deep-clause-ok
-returns-in_ok-refused-in-Err-Deep-clause-ok g c =
-    built c.args.files.now c.in-Some.text.now (flawed (too_deep c.in-Err-Deep.start c.in-Err-Deep.end)) (Some c.in_ok-refused-in-Err-Deep.field-0) (sym c.if-has_plan.ensures) c.in-Some.ensures (subst (IsRefusal c.in-Some.text.now) c.in-Err-Deep.field-0-is c.in-Err-Deep.ensures.refused) (ap Some c.in_ok-refused-in-Err-Deep.ensures)
+pub returns-in_ok-refused_config-in-Err-clause-work : goal.returns-in_ok-refused_config-in-Err-clause-work
+returns-in_ok-refused_config-in-Err-clause-work g c some =
+    nothing_done c.args.files.now c.in-Err.fault c.in_ok-refused_config-in-Err.field-0 c.args.merges.now c.args.evals.now (sym c.if-has_resolver.ensures) c.in-Err.ensures.refused c.in_ok-refused_config-in-Err.ensures
 
-pub returns-in_ok-refused-in-Err-Deep-clause-merges : goal.returns-in_ok-refused-in-Err-Deep-clause-merges
-returns-in_ok-refused-in-Err-Deep-clause-merges g c n is some =
-    none_more c.args.merges.now n (merged_by c.args.files.now c.in-Some.text.now (flawed (too_deep c.in-Err-Deep.start c.in-Err-Deep.end)) n (sym c.if-has_plan.ensures) c.in-Some.ensures (subst (IsRefusal c.in-Some.text.now) c.in-Err-Deep.field-0-is c.in-Err-Deep.ensures.refused) is)
+pub returns-in_ok-refused_config-in-Err-clause-at_most : goal.returns-in_ok-refused_config-in-Err-clause-at_most
+returns-in_ok-refused_config-in-Err-clause-at_most g c = no_rise (IsWork c.args.files.now) c.args.merges.now c.args.evals.now
+
+pub returns-in_err-refused_config-in-Err-clause-at_most : goal.returns-in_err-refused_config-in-Err-clause-at_most
+returns-in_err-refused_config-in-Err-clause-at_most g c = no_rise (IsWork c.args.files.now) c.args.merges.now c.args.evals.now
+
+pub returns-then-has_resolver-clause-work : goal.returns-then-has_resolver-clause-work
+returns-then-has_resolver-clause-work g c some = nothing_planned c.args.files.now c.args.merges.now c.args.evals.now (sym c.if-has_resolver.ensures)

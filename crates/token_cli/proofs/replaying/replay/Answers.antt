@@ -1,10 +1,9 @@
 use Rattle.std.proofs.Common.{◌∙◌, ◌≤◌, ◌+◌, ap, sym, subst, arith, length}
-use Rattle.std.specs.Option.{is_some}
 use Rattle.edit_script.specs.Shown.{event_of}
 use Rattle.token_cli.specs.Views.{state_of}
 use Rattle.token_cli.specs.declared.stop.Stop.TheVariants as stop
 use Rattle.token_cli.specs.declared.workspace.Workspace.{Workspace}
-use Rattle.token_cli.proofs.Places.{at_none, some_shown}
+use Rattle.token_cli.proofs.Places.{at_none}
 use Rattle.token_cli.proofs.Standing.{Stands, stands_first, stands_more, count_taken}
 use Rattle.token_cli.proofs.Stops.{writes_err}
 use Rattle.token_cli.proofs.Endings.{part_first, ends_at, ends_whole, ends_cut}
@@ -64,5 +63,5 @@ pub returns-clause-written : goal.returns-clause-written
 returns-clause-written g c =
     let es = c.args.events.now in
     let done : length es ≤ c.loop-i.i = omega (arith, c.loop-i-test.false, c.len-i-end.ensures) in
-    ends_whole es c.loop-i.i (state_of c.loop-i.workspace) (g.K.Sink.written c.args.out.now) (g.K.Sink.written c.loop-i.out) (g.K.Sink.written c.write_line-2.new.out) c.is_some.result done c.loop-i.invariant.0 c.in_ok-write_line-2.ensures.whole
-    (ap is_some (sym c.get.ensures) ∙ (some_shown (λ b. b.now) c.get.result ∙ sym c.is_some.ensures))
+    ends_whole es c.loop-i.i (state_of c.loop-i.workspace) (g.K.Sink.written c.args.out.now) (g.K.Sink.written c.loop-i.out) (g.K.Sink.written c.write_line-2.new.out) c.is_refused.result done c.loop-i.invariant.0 c.in_ok-write_line-2.ensures.whole
+    (sym c.is_refused.ensures)
