@@ -14,7 +14,8 @@ use Rattle.group_inherit.specs.declared.fault.TreeFault.{TreeFault}
 use Rattle.group_inherit.specs.declared.fault.TreeFault.TheVariants as fault
 use Rattle.alias_ref.specs.Laws.{Flat}
 use Rattle.transforms.specs.Config.{Settings}
-use Rattle.build_plain.specs.Refusal.{FilesData, Report, report, report_text}
+use Rattle.tk_io.specs.FilesData.{FilesData}
+use Rattle.build_plain.specs.Refusal.{Report, report, report_text}
 use Rattle.build_plain.specs.Cell.{AreCells}
 use Rattle.build_plain.specs.Breaks.{tokens_path, missing, tree_reports, token_reports, shape_report, InTokens, InTree, InShape, InAnswer, InText}
 use Rattle.build_plain.specs.Out.{Gives, outputs_by, one_output, verdict}

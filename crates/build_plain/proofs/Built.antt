@@ -5,7 +5,8 @@ use Rattle.std.specs.Prelude.{MatchBool, length, if◌then◌else◌}
 use Rattle.transforms.specs.Config.{Settings}
 use Rattle.transforms.specs.declared.config.ConfigFault.{ConfigFault}
 use Rattle.transforms.specs.declared.config.ConfigFault.TheVariants.{Toml, Key, NoMemory}
-use Rattle.build_plain.specs.Refusal.{FilesData, text_at}
+use Rattle.tk_io.specs.FilesData.{FilesData}
+use Rattle.build_plain.specs.Refusal.{text_at}
 use Rattle.build_plain.specs.Breaks.{tokens_path}
 use Rattle.build_plain.specs.Out.{Builds, BuildsUnder, OnSome, config_path, config_reports, refused_plan, has_resolver, settings_of}
 use Rattle.build_plain.specs.Work.{Work, work, text_count, count_under, parse_count, TextWork, WorkUnder, IsWork, Counters, counters, RiseBy, RiseWithin}

@@ -1,11 +1,17 @@
+pub mod Accepted
 pub mod Assembled
 pub mod Bodies
 pub mod Built
 pub mod Comes
 pub mod Entries
 pub mod FileMaps
+pub mod LinkedTokens
 pub mod OneCells
 pub mod OneOutputs
+pub mod PlainPaths
+pub mod RealBreaks
 pub mod Refusals
 pub mod Reports
+pub mod SheetDenotes
 pub mod Sides
+pub mod TokenPaths

@@ -13,7 +13,8 @@ use Rattle.alias_ref.specs.Laws.{Flat}
 use Rattle.transforms.specs.Config.{Settings}
 use Rattle.transforms.specs.declared.config.ConfigFault.{ConfigFault}
 use Rattle.transforms.specs.declared.config.ConfigFault.TheVariants as config
-use Rattle.build_plain.specs.Refusal.{FilesData, Report}
+use Rattle.tk_io.specs.FilesData.{FilesData}
+use Rattle.build_plain.specs.Refusal.{Report}
 use Rattle.build_plain.specs.Breaks.{tokens_path, tree_reports, token_reports, InTokens, InTree, InShape, InAnswer, InText, Finds}
 use Rattle.build_plain.specs.Out.{outputs_by, verdict, refused_plan, BuildsUnder, OnSome, Builds, has_resolver, settings_of}
 use Rattle.build_plain.specs.Work.{Work, work, TreeWork, ShapeWork, AnswerWork, TextWork, WorkUnder, IsWork}

@@ -3,7 +3,8 @@ use Rattle.std.proofs.Common.{◌≡◌, ℕ, List, [], ◌++◌, ap, sym, ◌�
 use Rattle.std.proofs.lemmas.List.{append-nil}
 use Rattle.std.proofs.lemmas.List.Folds.{flat_map-map}
 use Rattle.name_path.specs.declared.place.Place.{Place}
-use Rattle.build_plain.specs.Refusal.{FilesData, Detail, ring_group, ring_place, detail_line, detail_lines, refusal_text, report, report_text, text_at}
+use Rattle.tk_io.specs.FilesData.{FilesData}
+use Rattle.build_plain.specs.Refusal.{Detail, ring_group, ring_place, detail_line, detail_lines, refusal_text, report, report_text, text_at}
 use Rattle.build_plain.specs.declared.rule.Rule.{Rule}
 
 module _ (files : FilesData) (rule : Rule) (file : List ℕ) (start end : ℕ) where

@@ -20,7 +20,8 @@ use Rattle.transforms.specs.Clash.{Taken, first_taken, with_names}
 use Rattle.transforms.specs.Config.{Settings}
 use Rattle.transforms.specs.declared.platform.Platform.{Platform}
 use Rattle.transforms.specs.declared.platform.Platform.TheVariants.{Css}
-use Rattle.build_plain.specs.Refusal.{FilesData, Report, report, lost_group, ring_group, counted, of_token, at_place, ring_place, other_token, on_platform}
+use Rattle.tk_io.specs.FilesData.{FilesData}
+use Rattle.build_plain.specs.Refusal.{Report, report, lost_group, ring_group, counted, of_token, at_place, ring_place, other_token, on_platform}
 use Rattle.build_plain.specs.Cell.{TokenPath, TokenBreak, token_break, AreCells}
 use Rattle.build_plain.specs.declared.token_cell.TokenCell.{TokenCell}
 use Rattle.build_plain.specs.declared.token_cell.TokenCell.TheVariants.{Refused, Made}

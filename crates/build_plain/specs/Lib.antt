@@ -3,5 +3,6 @@ pub mod Cell
 pub mod Breaks
 pub mod Out
 pub mod Work
+pub mod Denotes
 pub mod Laws
 pub mod inner

@@ -6,7 +6,8 @@ use Rattle.transforms.specs.Sheet.{sheet_text}
 use Rattle.transforms.specs.declared.config.ConfigFault.{ConfigFault}
 use Rattle.transforms.specs.declared.config.ConfigFault.TheVariants as config
 use Rattle.css_out.specs.Sheets.{css_frame}
-use Rattle.build_plain.specs.Refusal.{FilesData, Report, report, report_text, of_key, text_at}
+use Rattle.tk_io.specs.FilesData.{FilesData}
+use Rattle.build_plain.specs.Refusal.{Report, report, report_text, of_key, text_at}
 use Rattle.build_plain.specs.Breaks.{Finding, Finds}
 use Rattle.build_plain.specs.declared.token_cell.TokenCell.{TokenCell}
 use Rattle.build_plain.specs.declared.token_cell.TokenCell.TheVariants.{Refused, Made}

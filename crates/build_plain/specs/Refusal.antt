@@ -3,7 +3,7 @@ use Rattle.std.specs.Prelude.{ℕ, ◌+◌, ◌==◌, not, List, [], ◌++◌, t
 use Rattle.std.specs.FinMap as finite
 use Rattle.std.specs.Fmt.{decimal}
 use Rattle.std.specs.List.{suffix_len}
-use Rattle.tk_io.specs.Order.{text_cmp}
+use Rattle.tk_io.specs.FilesData.{FilesData}
 use Rattle.json_span.specs.Spelling.{string_text}
 use Rattle.name_path.specs.Reference.{pointer_text, path_text, place_text}
 use Rattle.name_path.specs.declared.place.Place.{Place}
@@ -18,10 +18,6 @@ use Rattle.build_plain.specs.declared.token_cell.CellRule.{CellRule}
 use Rattle.build_plain.specs.declared.token_cell.CellRule.TheVariants.{Ref, Value}
 use Rattle.build_plain.specs.declared.rule.Rule.{Rule}
 use Rattle.build_plain.specs.declared.rule.Rule.TheVariants as rule
-
--- texts by their paths, and bytes by theirs
-abbrev pub FilesData : Type 0
-FilesData = finite.FinMap text_cmp (List ℕ)
 
 -- The names of rules.
 

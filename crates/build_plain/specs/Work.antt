@@ -11,7 +11,7 @@ use Rattle.group_inherit.specs.declared.fault.TreeFault.TheVariants as fault
 use Rattle.alias_ref.specs.Laws.{Flat}
 use Rattle.transforms.specs.Config.{Settings}
 use Rattle.transforms.specs.declared.config.ConfigFault.{ConfigFault}
-use Rattle.build_plain.specs.Refusal.{FilesData}
+use Rattle.tk_io.specs.FilesData.{FilesData}
 use Rattle.build_plain.specs.Breaks.{tokens_path}
 use Rattle.build_plain.specs.Out.{has_resolver, settings_of}
 

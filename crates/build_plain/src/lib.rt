@@ -17,5 +17,5 @@ mod verdict;
 
 pub use building::{BuildStop, build};
 pub use files::Files;
-pub use laws::one_build;
+pub use laws::{breaks_are_real, one_build, sheets_denote};
 pub use token_cell::{CellRule, TokenCell, cell};

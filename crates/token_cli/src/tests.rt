@@ -14,7 +14,7 @@ struct Case {
     status: Status,
 }
 
-static CASES: [Case; 20] = [
+static CASES: [Case; 22] = [
     Case {
         word: "build",
         script: b"tokc-script 1\nput tokens.json 70\n{\"space\":{\"$type\":\"dimension\",\"s\":{\"$value\":{\"value\":4,\"unit\":\"px\"}}}}\n",
@@ -129,17 +129,31 @@ static CASES: [Case; 20] = [
     },
     Case {
         word: "replay",
-        script: b"tokc-script 1\nput tokens.json 2\n{}\ncommit\nput tokc.toml 0\n\ncommit\n",
+        script: b"tokc-script 1\nput tokens.json 2\n{}\ncommit\nput resolver.json 2\n{}\ncommit\n",
         written: "tokc-stream 1\ncommit 1\nfile default/tokens.css 10\n:root {\n}\n\n",
         said: "tokc: not built yet\n",
         status: Status::NotYet,
     },
     Case {
-        word: "build",
-        script: b"tokc-script 1\nput tokens.json 34\n{\"$type\":\"color\",\"a\":{\"$value\":1}}\n",
-        written: "tokc-stream 1\n",
-        said: "tokc: not built yet\n",
-        status: Status::NotYet,
+        word: "replay",
+        script: b"tokc-script 1\nput tokens.json 102\n{\"a\":{\"$value\":\"{b}\"},\"b\":{\"$value\":\"{c}\"},\"c\":{\"$type\":\"dimension\",\"$value\":{\"value\":4,\"unit\":\"px\"}}}\ncommit\nput tokens.json 102\n{\"a\":{\"$value\":\"{b}\"},\"b\":{\"$value\":\"{c}\"},\"c\":{\"$type\":\"dimension\",\"$value\":{\"value\":5,\"unit\":\"px\"}}}\ncommit\nput tokc.toml 14\nprefix = \"ds\"\n\ncommit\nput tokc.toml 11\ncolour = 1\n\ncommit\n",
+        written: "tokc-stream 1\ncommit 1\nfile default/tokens.css 56\n:root {\n  --a: var(--b);\n  --b: var(--c);\n  --c: 4px;\n}\n\ncommit 2\nfile default/tokens.css 56\n:root {\n  --a: var(--b);\n  --b: var(--c);\n  --c: 5px;\n}\n\ncommit 3\nfile default/tokens.css 71\n:root {\n  --ds-a: var(--ds-b);\n  --ds-b: var(--ds-c);\n  --ds-c: 5px;\n}\n\ncommit 4\nfile REFUSED 71\nrule config-key\nfile tokc.toml\nline 1 column 1\nbytes 0 11\nkey \"colour\"\n\ngone default/tokens.css\ndone 4\n",
+        said: "",
+        status: Status::Refused,
+    },
+    Case {
+        word: "replay",
+        script: b"tokc-script 1\nput tokens.json 60\n{\"a\":{\"$type\":\"dimension\",\"$value\":{\"value\":4,\"unit\":\"em\"}}}\ncommit\nput tokens.json 61\n {\"a\":{\"$type\":\"dimension\",\"$value\":{\"value\":4,\"unit\":\"em\"}}}\ncommit\n",
+        written: "tokc-stream 1\ncommit 1\nfile default/REFUSED 100\nrule dimension-unit\nfile tokens.json\nline 1 column 54\nbytes 53 57\ntoken \"a\"\nplace \"#/a/$value/unit\"\n\ncommit 2\nfile default/REFUSED 100\nrule dimension-unit\nfile tokens.json\nline 1 column 55\nbytes 54 58\ntoken \"a\"\nplace \"#/a/$value/unit\"\n\ndone 2\n",
+        said: "",
+        status: Status::Refused,
+    },
+    Case {
+        word: "replay",
+        script: b"tokc-script 1\nput tokens.json 64\n{\"a\":{\"$value\":\"{b}\"},\"b\":{\"$value\":\"{c}\"},\"c\":{\"$value\":\"{a}\"}}\ncommit\n",
+        written: "tokc-stream 1\ncommit 1\nfile default/REFUSED 146\nrule alias-cycle\nfile tokens.json\nline 1 column 16\nbytes 15 20\ntoken \"a\"\nplace \"#/a/$value\"\nring \"#/a/$value\"\nring \"#/b/$value\"\nring \"#/c/$value\"\n\ndone 1\n",
+        said: "",
+        status: Status::Refused,
     },
     Case {
         word: "build",
@@ -167,7 +181,7 @@ fn check(
 ) -> Result<(), Fail> {
     let mut words = Vec::new(alloc);
     words.push(String::from_str(alloc, case.word)?)?;
-    let mut room = [0u8; 1000];
+    let mut room = [0u8; 2000];
     let mut error_room = [0u8; 100];
     let mut src = MemSource::new(case.script, read_fails);
     let mut out = MemSink::new(&[], 1000, &mut room);

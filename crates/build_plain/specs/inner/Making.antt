@@ -5,7 +5,7 @@ use Rattle.composite_rules.specs.declared.typed.Typed.{Typed}
 use Rattle.transforms.specs.Config.{Settings}
 use Rattle.transforms.specs.declared.config.ConfigFault.{ConfigFault}
 use Rattle.transforms.specs.declared.config.ConfigFault.TheVariants.{Toml, Key, NoMemory}
-use Rattle.build_plain.specs.Refusal.{FilesData}
+use Rattle.tk_io.specs.FilesData.{FilesData}
 use Rattle.build_plain.specs.Cell.{TokenPath, IsCssOf}
 use Rattle.build_plain.specs.Out.{settings_of}
 use Rattle.build_plain.specs.declared.token_cell.TokenCell.{TokenCell}
