@@ -1,5 +1,5 @@
 -- Where files have no break, the sheet of their cells denotes the values of their tokens.
-use Rattle.std.proofs.Common.{◌≡◌, ◌≢◌, ℕ, List, [], ◌∷◌, Option, Some, None, inl, inr, refl, sym, ap, subst, ◌∙◌}
+use Rattle.std.proofs.Common.{◌≡◌, ◌≢◌, ℕ, List, [], ◌∷◌, Option, Some, None, inl, inr, refl, sym}
 use Rattle.std.specs.FinMap as finite
 use Rattle.json_span.specs.Answer.{Answer, IsAnswer, shows, flawed, stops}
 use Rattle.json_span.specs.Flaw.{equal_names, too_deep}

@@ -1,16 +1,14 @@
 -- What is told of a token's break holds.
-use Rattle.std.proofs.Common.{◌≡◌, ℕ, List, Some, None, Ok, Err, refl, sym, ap, subst, ◌∙◌}
-use Rattle.name_path.specs.declared.place.Place.{Place}
+use Rattle.std.proofs.Common.{◌≡◌, Some, Err, refl, sym, ap, subst, ◌∙◌}
 use Rattle.alias_ref.specs.Answer.{IsFirstBreak, in_walk, kind_missing}
-use Rattle.alias_ref.specs.Asking.{IsRing}
 use Rattle.alias_ref.specs.Laws.{Flat, RingsAreReal, BreaksAreReal as RefBreaksAreReal}
 use Rattle.alias_ref.specs.Visits.{Break as RefBreak, walk_break, breaks}
 use Rattle.alias_ref.specs.Written.{whole, written_in}
 use Rattle.alias_ref.specs.declared.fault.RefRule.{RefRule}
 use Rattle.alias_ref.specs.declared.fault.RefRule.TheVariants as reference
 use Rattle.type_rules.specs.declared.fault.ValueRule.{ValueRule}
-use Rattle.build_plain.specs.Cell.{TokenPath, TokenBreak, of_reference, of_value, IsTokenBreak, by_reference, by_value}
-use Rattle.build_plain.specs.Laws.{IsReal, BreaksValue}
+use Rattle.build_plain.specs.Cell.{TokenPath, TokenBreak, of_reference, IsTokenBreak, by_reference, by_value}
+use Rattle.build_plain.specs.Laws.{IsReal}
 use Rattle.build_plain.specs.declared.token_cell.CellRule.{CellRule}
 use Rattle.build_plain.specs.declared.token_cell.CellRule.TheVariants.{Ref, Value}
 

@@ -1,5 +1,5 @@
 -- What the tokens of a flat tree come to: the value that each has, the rule that it breaks first, and what it gives to each platform.
-use Rattle.std.specs.Prelude.{◌≡◌, ℕ, List, [], map, true, Ok, Err, None, Some}
+use Rattle.std.specs.Prelude.{◌≡◌, ℕ, List, [], Ok, Err, None, Some}
 use Rattle.std.specs.List.{AllZip}
 use Rattle.json_span.specs.PlainView.{Value as Plain}
 use Rattle.name_path.specs.declared.kind.Kind.{Kind}

@@ -69,9 +69,11 @@ fn is_answered(alloc: Global, row: &Row<'_>) -> Result<bool, NoMemory> {
     let mut out = MemSink::new(&[], usize::MAX, room.as_mut_slice());
     let mut err = MemSink::new(&[], usize::MAX, &mut error_room);
     let ended = run(alloc, words.as_slice(), &mut src, &mut out, &mut err);
-    Ok(ended.number() as usize == row.status
-        && out.written() == row.stream
-        && err.written().is_empty())
+    Ok(
+        ended.number() as usize == row.status
+            && out.written() == row.stream
+            && err.written().is_empty(),
+    )
 }
 
 fn tell_number<K: Sink>(out: &mut K, number: usize) -> Result<(), Failed> {

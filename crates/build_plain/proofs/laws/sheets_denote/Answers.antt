@@ -1,5 +1,5 @@
 use Rattle.build_plain.proofs.Accepted.{files_denote}
-use Rattle.build_plain.proofs.SheetDenotes.{Laws, sheet_denotes}
+use Rattle.build_plain.proofs.SheetDenotes.{sheet_denotes}
 use Rattle.build_plain.proofs.laws.sheets_denote.Goals as goal
 
 pub returns-clause-cells : goal.returns-clause-cells
