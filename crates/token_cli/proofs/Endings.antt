@@ -8,7 +8,7 @@ use Rattle.std.specs.Io.KnownBytes.{Appends}
 use Rattle.tk_io.specs.Writing.{AppendsFront, AppendsPart}
 use Rattle.edit_script.specs.Script.{EventData, commit}
 use Rattle.edit_script.specs.Files.{commit_count}
-use Rattle.edit_script.specs.Delta.{Held, Delta, AreDeltas}
+use Rattle.edit_script.specs.Delta.{Held, Delta}
 use Rattle.edit_script.specs.Stream.{line_text, stream_of}
 use Rattle.edit_script.specs.declared.line.Line.TheVariants.{StreamHead, Done}
 use Rattle.edit_script.proofs.Deltas.{stream_is}

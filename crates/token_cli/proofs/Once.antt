@@ -1,17 +1,17 @@
 -- A stream of which a part was written, and not all, was not written whole.
-use Rattle.std.proofs.Common.{◌≡◌, ◌∙◌, ◌⊎◌, inl, inr, ◌<◌, ◌≤◌, ◌+◌, ℕ, zero, suc, Bool, List, [], ◌∷◌, ◌++◌, length, take, Option, Some, None, ap, sym, subst, refl, arith, length-append}
+use Rattle.std.proofs.Common.{◌≡◌, ◌∙◌, inl, inr, ◌<◌, ◌≤◌, ◌+◌, ℕ, zero, suc, Bool, List, [], ◌∷◌, ◌++◌, length, take, Option, Some, None, ap, sym, subst, refl, arith, length-append}
 use Rattle.std.proofs.KnownBytes.{Appends-nil}
 use Rattle.std.specs.Io.KnownBytes.{Appends}
-use Rattle.std.proofs.lemmas.Option.{none-some, same_Some}
+use Rattle.std.proofs.lemmas.Option.{none-some}
 use Rattle.std.specs.FinMap as map
 use Rattle.std.specs.List.{flat_map, slice_get}
 use Rattle.edit_script.specs.Script.{EventData}
-use Rattle.edit_script.specs.Files.{commit_count}
 use Rattle.edit_script.specs.Delta.{Held, Delta, AreDeltas}
 use Rattle.edit_script.specs.Stream.{commits_text, line_text, record_of, stream_of}
 use Rattle.edit_script.specs.declared.line.Line.TheVariants.{StreamHead, Commit, Done}
 use Rattle.edit_script.proofs.Deltas.{stream_is}
-use Rattle.token_cli.specs.Headline.{AreCommits, BuildsAt, WrotePart, WroteStream, commits_so_far, is_refused, last_held}
+use Rattle.build_plain.specs.Laws.{OneBuild}
+use Rattle.token_cli.specs.Headline.{AreCommits, WrotePart, WroteStream, commits_so_far, is_refused, last_held}
 use Rattle.token_cli.proofs.Streams.{one_deltas, one_held}
 
 taken_at : {A : Type 0} (n : ℕ) (xs : List A) (k : ℕ) (x : A) → slice_get (take n xs) k ≡ Some x → slice_get xs k ≡ Some x
@@ -53,11 +53,11 @@ some_end : (n : ℕ) → 0 < length (line_text (Done n))
 some_end n = omega arith
 
 -- the first commits of a script make less than its stream
-less_than_stream : (es : List EventData) (held others : List Held) (deltas changes : List Delta) → AreCommits es held deltas → AreCommits es others changes → length held < length others → length (commits_so_far deltas) < length (stream_of changes)
-less_than_stream es held others deltas changes left right below =
+less_than_stream : (one : OneBuild) (es : List EventData) (held others : List Held) (deltas changes : List Delta) → AreCommits es held deltas → AreCommits es others changes → length held < length others → length (commits_so_far deltas) < length (stream_of changes)
+less_than_stream one es held others deltas changes left right below =
     let n = length held in
     let within : n ≤ length others = omega (arith, below) in
-    let same : deltas ≡ take n changes = one_deltas es held (take n others) deltas (take n changes) left (first_commits n es others changes within right) (sym (taken_length n others within)) in
+    let same : deltas ≡ take n changes = one_deltas one es held (take n others) deltas (take n changes) left (first_commits n es others changes within right) (sym (taken_length n others within)) in
     let front : length (commits_so_far deltas) ≡ length (commits_so_far (take n changes)) = ap (λ ds. length (commits_so_far ds)) same in
     let last = line_text (Done (length changes)) in
     omega (arith, front, no_longer n 1 changes, some_end (length changes), ap length (stream_is changes), length-append (commits_so_far changes) last, length-append (line_text StreamHead) (commits_text 1 changes), length-append (line_text StreamHead) (commits_text 1 (take n changes)))
@@ -68,16 +68,16 @@ grew_less None new before front text e p q h = none-some before e
 grew_less (Some xs) None before front text e p q h = p
 grew_less (Some xs) (Some ys) before front text e p q h = omega (arith, ap length p, ap length q, length-append xs front, length-append xs text, h)
 
-pub part_or_whole : (es : List EventData) (refused : Bool) (old new : Option (List ℕ)) (before : List ℕ) → old ≡ Some before → WrotePart es old new → WroteStream es refused old new → ⊥
-part_or_whole es refused old new before told (held, deltas, commits, inl (below, front)) wrote =
+pub part_or_whole : (one : OneBuild) (es : List EventData) (refused : Bool) (old new : Option (List ℕ)) (before : List ℕ) → old ≡ Some before → WrotePart es old new → WroteStream es refused old new → ⊥
+part_or_whole one es refused old new before told (held, deltas, commits, inl (below, front)) wrote =
     let (others, changes, all, count, refusal, text) = wrote in
     let (done, rest, split, appended) = front in
     grew_less old new before done (stream_of changes) told appended text
-    (omega (arith, ap length split, length-append done rest, less_than_stream es held others deltas changes commits all (omega (arith, below, count))))
-part_or_whole es refused old new before told (held, deltas, commits, inr (whole, part)) wrote =
+    (omega (arith, ap length split, length-append done rest, less_than_stream one es held others deltas changes commits all (omega (arith, below, count))))
+part_or_whole one es refused old new before told (held, deltas, commits, inr (whole, part)) wrote =
     let (others, changes, all, count, refusal, text) = wrote in
     let (done, rest, split, some, appended) = part in
-    let same : deltas ≡ changes = one_deltas es held others deltas changes commits all (whole ∙ sym count) in
+    let same : deltas ≡ changes = one_deltas one es held others deltas changes commits all (whole ∙ sym count) in
     grew_less old new before done (stream_of changes) told appended text
     (omega (arith, ap length split, length-append done rest, some, ap (λ ds. length (stream_of ds)) same))
 
@@ -91,8 +91,8 @@ none_or_whole es refused old new before told same wrote =
     (omega (arith, ap length (stream_is changes), length-append (commits_so_far changes) last, some_end (length changes)))
 
 -- two whole streams of a script end alike
-pub one_end : (es : List EventData) (one two : Bool) (old new : Option (List ℕ)) → WroteStream es one old new → WroteStream es two old new → one ≡ two
-one_end es one two old new left right =
+pub one_end : (one : OneBuild) (es : List EventData) (x y : Bool) (old new : Option (List ℕ)) → WroteStream es x old new → WroteStream es y old new → x ≡ y
+one_end one es x y old new left right =
     let (held, deltas, commits, count, refusal, text) = left in
     let (others, changes, all, total, ending, text_too) = right in
-    sym refusal ∙ (ap (λ h. is_refused (last_held h)) (one_held es held others deltas changes commits all (count ∙ sym total)) ∙ ending)
+    sym refusal ∙ (ap (λ h. is_refused (last_held h)) (one_held one es held others deltas changes commits all (count ∙ sym total)) ∙ ending)

@@ -10,7 +10,7 @@ use Rattle.edit_script.specs.Files.{commit_count, up_to}
 use Rattle.edit_script.proofs.Readings.{one_reading}
 use Rattle.edit_script.proofs.Standing.{one_files}
 use Rattle.build_plain.specs.Out.{Builds}
-use Rattle.build_plain.proofs.Built.{one_outcome}
+use Rattle.build_plain.specs.Laws.{OneBuild}
 use Rattle.token_cli.specs.Ending.{status_of, whole_status}
 use Rattle.token_cli.specs.Headline.{OfScript, BuildsAt, WroteStream, events_for, most_bytes}
 use Rattle.token_cli.specs.declared.stop.Stop.{Stop}
@@ -119,14 +119,14 @@ below_some (x ∷ xs) zero h = (x, refl)
 below_some (x ∷ xs) (suc k) h = below_some xs k (omega arith)
 
 -- a commit that isn't built stands in no stream that was written whole
-pub not_whole : (es : List EventData) (k : ℕ) (refused : Bool) (old new : Option (List ℕ)) → suc k ≤ commit_count es → BuildsAt es (suc k) None → WroteStream es refused old new → ⊥
-not_whole es k refused old new within none wrote =
+pub not_whole : (one : OneBuild) (es : List EventData) (k : ℕ) (refused : Bool) (old new : Option (List ℕ)) → suc k ≤ commit_count es → BuildsAt es (suc k) None → WroteStream es refused old new → ⊥
+not_whole one es k refused old new within none wrote =
     let (held, deltas, commits, count, refusal, text) = wrote in
     let (out, here) = below_some held k (omega (arith, within, count)) in
     let (files, stand, builds) = commits.built k out here in
     let (others, stand_too, unbuilt) = none in
     let P : FilesData → Type 0 = λ f. Builds f (Some out) in
-    none-some out (one_outcome others None (Some out) unbuilt (subst P (one_files (up_to (suc k) es) files others stand stand_too) builds))
+    none-some out (one others None (Some out) unbuilt (subst P (one_files (up_to (suc k) es) files others stand stand_too) builds))
 
 -- the stream was written whole, so that is said
 pub whole_said : (r : Ended) (refused : Bool) → ((x : Bool) → r ≡ Ok x → x ≡ refused) → ((why : Stop) → r ≡ Err why → ⊥) → status_of r ≡ status_of (Ok refused)

@@ -5,6 +5,8 @@ ghost use Rattle.edit_script.specs.Files.{commit_count};
 ghost use Rattle.edit_script.specs.Delta.{Held, Delta};
 ghost use Rattle.token_cli.specs.Headline.{AreCommits};
 
+use build_plain::one_build;
+
 /// The events of a script decide the outputs at each of its commits and the changes between them, and so the whole stream.
 pub fn one_stream()
     ensures held { (es : List EventData) (held others : List Held) (deltas changes : List Delta)
@@ -13,4 +15,6 @@ pub fn one_stream()
     ensures deltas { (es : List EventData) (held others : List Held) (deltas changes : List Delta)
         → AreCommits es held deltas → AreCommits es others changes → length held ≡ length others
         → deltas ≡ changes }
-{}
+{
+    one_build();
+}

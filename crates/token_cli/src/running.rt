@@ -16,6 +16,7 @@ use crate::reporting::report;
 use crate::status::{Status, status_of};
 use crate::stop::Stop;
 use crate::words::{Command, command_of};
+use build_plain::one_build;
 use std::alloc::Global;
 use tk_io::{Sink, Source, read_all};
 
@@ -156,6 +157,7 @@ pub fn run<S: Source, K: Sink, E: Sink>(
         → Reports (E.written err.old) (E.written err.new) (E.faults err.old) (E.faults err.new)
         (error_text result 0) }
 {
+    one_build();
     let ended = main_job(alloc, words, src, out);
     report(err, ended);
     status_of(ended)

@@ -1,4 +1,4 @@
-use Rattle.std.proofs.Common.{◌∙◌, ◌≤◌, ◌+◌, ap, sym, subst, arith, length}
+use Rattle.std.proofs.Common.{◌≤◌, ◌+◌, ap, sym, subst, arith, length}
 use Rattle.edit_script.specs.Shown.{event_of}
 use Rattle.token_cli.specs.Views.{state_of}
 use Rattle.token_cli.specs.declared.stop.Stop.TheVariants as stop

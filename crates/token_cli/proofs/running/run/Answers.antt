@@ -54,7 +54,7 @@ returns-clause-unbuilt g c command script es k which told short reads within non
     let P : Status → Type 0 = λ s. (s ≡ status.NotYet) ⊎ (s ≡ status.NoMemory) in
     subst P (sym c.status_of.ensures)
     (not_built c.main_job-ended.result
-    (λ refused e. not_whole (events_for command es) k refused old new within none (of_events words left (Whole refused) command script es which told reads (h.wrote refused e).1))
+    (λ refused e. not_whole c.one_build.ensures.outputs (events_for command es) k refused old new within none (of_events words left (Whole refused) command script es which told reads (h.wrote refused e).1))
     (λ e. no_read (h.read_fault e).0)
     (λ e. no_write (h.write_fault e).0)
     (λ e. let long = taken 67108865 script left (g.S.Source.left c.main_job-ended.new.src) told (h.too_long e).0 in omega (arith, long, short))
@@ -112,7 +112,7 @@ returns-clause-all g c command script es before refused which told reads holds w
     let Part : List EventData → Type 0 = λ xs. WrotePart xs old new in
     let Until : List EventData → Type 0 = λ xs. WroteUntil xs old new in
     let none : new ≡ old → ⊥ = λ same. none_or_whole events refused old new before holds same wrote in
-    let part : OfScript words left Part → ⊥ = λ p. part_or_whole events refused old new before holds (of_events words left Part command script es which told reads p) wrote in
-    let until : OfScript words left Until → ⊥ = λ p. let (held, deltas, commits, within, unbuilt, text) = of_events words left Until command script es which told reads p in not_whole events (length held) refused old new (omega (arith, within)) unbuilt wrote in
-    c.status_of.ensures ∙ (whole_said r refused (λ x e. one_end events x refused old new (of_events words left (Whole x) command script es which told reads (h.wrote x e).1) wrote) (no_stop r (λ e. until (h.not_yet e).1) (λ at e. none (h.bad_script at e).0) (λ e. none (h.read_fault e).1) (λ e. part (h.write_fault e).1.1) (λ e. elim (h.memory e) [ inl same ↦ none same | inr p ↦ part p.1 ]) (λ e. none (h.too_long e).1))
+    let part : OfScript words left Part → ⊥ = λ p. part_or_whole c.one_build.ensures.outputs events refused old new before holds (of_events words left Part command script es which told reads p) wrote in
+    let until : OfScript words left Until → ⊥ = λ p. let (held, deltas, commits, within, unbuilt, text) = of_events words left Until command script es which told reads p in not_whole c.one_build.ensures.outputs events (length held) refused old new (omega (arith, within)) unbuilt wrote in
+    c.status_of.ensures ∙ (whole_said r refused (λ x e. one_end c.one_build.ensures.outputs events x refused old new (of_events words left (Whole x) command script es which told reads (h.wrote x e).1) wrote) (no_stop r (λ e. until (h.not_yet e).1) (λ at e. none (h.bad_script at e).0) (λ e. none (h.read_fault e).1) (λ e. part (h.write_fault e).1.1) (λ e. elim (h.memory e) [ inl same ↦ none same | inr p ↦ part p.1 ]) (λ e. none (h.too_long e).1))
     ∙ said refused)
