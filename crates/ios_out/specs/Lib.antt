@@ -1,4 +1,5 @@
 pub mod Lists
+pub mod Characters
 pub mod Constant
 pub mod PlatformValue
 pub mod Spelling

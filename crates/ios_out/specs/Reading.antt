@@ -7,6 +7,7 @@ use Rattle.std.specs.Str.{bytes_eq}
 use Rattle.dec_fix.specs.Decimal.{Decimal, is_negative}
 use Rattle.dec_fix.specs.Following.{number_at}
 use Rattle.transforms.specs.PlatformName.{is_identifier}
+use Rattle.ios_out.specs.Characters.{newline, blank_space, quote, right_bracket, comma_sign, hyphen, backslash}
 use Rattle.ios_out.specs.Constant.{Quantity, amount, over_255, Argument, labelled, bare, Content, number, string, made, Values}
 
 -- a number begins with a digit, or with `-` and a digit
@@ -16,7 +17,7 @@ starts_digit (c ∷ t) = is_ascii_digit c
 
 abbrev pub starts_number : List ℕ → Bool
 starts_number [] = false
-starts_number (c ∷ t) = is_ascii_digit c || ((c == 45) && starts_digit t)
+starts_number (c ∷ t) = is_ascii_digit c || ((c == hyphen) && starts_digit t)
 
 -- a number of any length, to the end
 abbrev pub alone : Decimal → List ℕ → Option Decimal
@@ -43,13 +44,13 @@ is_word [] = false
 is_word (c ∷ w) = is_ascii_alphabetic c && list_all is_ascii_alphanumeric w
 
 abbrev pub no_comma : ℕ → Bool
-no_comma c = not (c == 44)
+no_comma c = not (c == comma_sign)
 
 abbrev pub no_bracket : ℕ → Bool
-no_bracket c = not (c == 41)
+no_bracket c = not (c == right_bracket)
 
 abbrev pub no_newline : ℕ → Bool
-no_newline c = not (c == 10)
+no_newline c = not (c == newline)
 
 -- the text is this argument
 pub data IsArgument : List ℕ → Argument → Type 0 where
@@ -70,7 +71,7 @@ with_first c found = option_map (λ r. (c ∷ r.0, r.1)) found
 abbrev pub string_from : Bool → List ℕ → Option (List ℕ × List ℕ)
 string_from escaped [] = None
 string_from true (c ∷ t) = with_first c (string_from false t)
-string_from false (c ∷ t) = if c == 34 then Some ([], t) else (if c == 92 then string_from true t else with_first c (string_from false t))
+string_from false (c ∷ t) = if c == quote then Some ([], t) else (if c == backslash then string_from true t else with_first c (string_from false t))
 
 -- The text, which stands behind a constant's name, says this up to its line's end, and then goes on so.
 pub data Says : List ℕ → Content → List ℕ → Type 0 where
@@ -82,7 +83,7 @@ pub data Says : List ℕ → Content → List ℕ → Type 0 where
       → is_word maker ≡ true → list_all no_bracket inside ≡ true → AreArguments inside args → Says t (made maker args) rest
 
 abbrev pub is_blank : ℕ → Bool
-is_blank c = (c == 32) || (c == 10)
+is_blank c = (c == blank_space) || (c == newline)
 
 -- The constants of a text, read alone.
 pub data Block : List ℕ → Values → Type 0 where

@@ -6,6 +6,7 @@ use Rattle.transforms.specs.Config.{Settings}
 use Rattle.transforms.specs.PlatformName.{name_on}
 use Rattle.transforms.specs.declared.platform.Platform.TheVariants.{Swift}
 use Rattle.composite_rules.specs.declared.typed.Typed.{Typed}
+use Rattle.ios_out.specs.Characters.{quote, backslash}
 use Rattle.ios_out.specs.Constant.{Quantity, amount, over_255, Argument, labelled, bare, Content, number, string, made, Values, value_names}
 use Rattle.ios_out.specs.PlatformValue.{swift_values}
 
@@ -24,7 +25,7 @@ arguments_text (a ∷ b ∷ args) = argument_text a ++ (codes ", " ++ arguments_
 
 -- a `\` before `"` and `\`
 abbrev pub escape : ℕ → List ℕ
-escape c = if (c == 34) || (c == 92) then 92 ∷ c ∷ [] else c ∷ []
+escape c = if (c == quote) || (c == backslash) then backslash ∷ c ∷ [] else c ∷ []
 
 -- what stands behind a constant's name
 abbrev pub content_text : Content → List ℕ

@@ -40,7 +40,8 @@ fn color_of(
     blue: Quantity,
     alpha: Dec,
 ) -> Content<'static>
-    ensures { content_view result ≡ color_of label.now (quantity_view red) (quantity_view green) (quantity_view blue) alpha }
+    ensures { content_view result
+        ≡ color_of label.now (quantity_view red) (quantity_view green) (quantity_view blue) alpha }
 {
     Content::Made(
         "UIColor",
@@ -101,7 +102,8 @@ fn digits_color(alpha: Dec, digits: &[u8; 6]) -> Content<'static>
 
 fn hex_color(color: &Color) -> Option<Content<'static>>
     requires { IsColor color.now }
-    ensures { option_map content_view result ≡ option_and_then (digits_color color.now.alpha) color.now.hex }
+    ensures { option_map content_view result
+        ≡ option_and_then (digits_color color.now.alpha) color.now.hex }
 {
     match &color.hex {
         Some(digits) => Some(digits_color(color.alpha, digits)),

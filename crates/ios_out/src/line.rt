@@ -29,7 +29,8 @@ fn append_quantity(out: &mut Bytes, quantity: &Quantity) -> Result<(), NoMemory>
 }
 
 fn append_labelled(out: &mut Bytes, label: &str, quantity: &Quantity) -> Result<(), NoMemory>
-    ensures { OnOk result (out.new ≡ out.old ++ (label.now ++ (codes ": " ++ quantity_text (quantity_view quantity.now)))) }
+    ensures { OnOk result (out.new
+        ≡ out.old ++ (label.now ++ (codes ": " ++ quantity_text (quantity_view quantity.now)))) }
 {
     out.append(label.as_bytes())?;
     out.append(b": ")?;

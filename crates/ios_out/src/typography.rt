@@ -34,7 +34,8 @@ fn add(
     content: &Content<'_>,
 ) -> Result<(), NoMemory>
     ensures names { OnOk result (lines.new.names ≡ lines.old.names ++ (name.now ++ ending.now) ∷ []) }
-    ensures body { OnOk result (lines.new.body ≡ lines.old.body ++ line_text (name.now ++ ending.now, content_view content.now)) }
+    ensures body { OnOk result (lines.new.body
+        ≡ lines.old.body ++ line_text (name.now ++ ending.now, content_view content.now)) }
 {
     let name = ended(alloc, name, ending)?;
     content.append_line(name.as_slice(), &mut lines.body)?;
@@ -52,7 +53,8 @@ fn add_number(
     value: &Dec,
 ) -> Result<(), NoMemory>
     ensures names { OnOk result (lines.new.names ≡ lines.old.names ++ (name.now ++ ending.now) ∷ []) }
-    ensures body { OnOk result (lines.new.body ≡ lines.old.body ++ line_text (name.now ++ ending.now, number type_name.now value.now)) }
+    ensures body { OnOk result (lines.new.body
+        ≡ lines.old.body ++ line_text (name.now ++ ending.now, number type_name.now value.now)) }
 {
     let name = ended(alloc, name, ending)?;
     append_number_line(&mut lines.body, name.as_slice(), type_name, value)?;
@@ -69,7 +71,8 @@ pub(crate) fn typography_fragment(
     family: &Content<'_>,
 ) -> Result<Frag, NoMemory>
     requires { IsTypography value.now }
-    ensures { IfOk result (IsFragment name.now (five_values cfg.now name.now value.now (content_view family.now))) }
+    ensures { IfOk result (IsFragment name.now
+        (five_values cfg.now name.now value.now (content_view family.now))) }
 {
     let mut lines = Frag {
         names: Names::new(alloc),

@@ -63,7 +63,8 @@ fn five_lines(
     value: &Typography<'_>,
 ) -> Result<Frag, NoMemory>
     requires { IsTypography value.now }
-    ensures { IfOk result (IsFragment name.now (unless_omitted cfg.now name.now value.now (family_content value.now.family))) }
+    ensures { IfOk result (IsFragment name.now
+        (unless_omitted cfg.now name.now value.now (family_content value.now.family))) }
 {
     let Some(family) = family_content(value.family.as_slice()) else {
         return omitted(alloc, name);
