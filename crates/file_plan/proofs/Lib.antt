@@ -1,0 +1,3 @@
+pub mod OnePlans
+pub mod SoundPlans
+pub mod FoundPlans
