@@ -2,6 +2,7 @@ pub mod Appending
 pub mod ColorAppended
 pub mod ListsAppended
 pub mod NumbersRead
+pub mod NumbersSpell
 pub mod SheetsRead
 pub mod TokensRead
 pub mod ValuesDiffer

@@ -1,6 +1,10 @@
 -- What holds of every text, every token and every sheet.
 use Rattle.std.specs.Prelude.{◌≡◌, ℕ, List, map, Some, slice_range}
 use Rattle.std.specs.List.{AllByRecursion}
+use Rattle.grammar.specs.Grammar.{Derives, named}
+use Rattle.dec_fix.specs.Spelling.{Spells}
+use Rattle.json_span.specs.Grammar.{number}
+use Rattle.json_span.specs.Steered.{rules}
 use Rattle.json_span.specs.Tree.{Placed, start_of, end_of}
 use Rattle.json_span.specs.Reading.{Shows}
 use Rattle.json_span.specs.Parts.{IsPart}
@@ -14,7 +18,11 @@ use Rattle.json_out.specs.PlatformValue.{Member, typed_json}
 use Rattle.json_out.specs.Reading.{number_in, IsMember, Reads}
 use Rattle.json_out.specs.Properties.{ExtrasData, HaveValue}
 use Rattle.json_out.specs.Spelling.{fragment_text}
-use Rattle.json_out.specs.Sheets.{json_frame, AreBytes, IsReadAsMember, Cell, IsCell, sheet_bytes, sheet_members, Denotes}
+use Rattle.json_out.specs.Sheets.{json_frame, AreBytes, IsReadAsMember, Cell, IsSheet, sheet_bytes, sheet_members, Denotes}
+
+-- the number of a JSON number's text (RFC 8259 section 6) is the one that the text spells
+abbrev pub NumbersAreSpelled : Type 0
+NumbersAreSpelled = (text : List ℕ) → Derives rules (named number) text → Spells text (number_in text)
 
 -- between its braces a sheet is an object of what its texts are, one after another
 abbrev pub TextsRead : Type 0
@@ -45,4 +53,4 @@ ValuesDiffer = (v w : Typed) → kind_of v ≡ kind_of w → typed_json v ≡ ty
 
 -- a sheet's bytes denote the members of its tokens
 abbrev pub SheetsDenote : Type 0
-SheetsDenote = (cells : List Cell) → AllByRecursion IsCell cells → Denotes (sheet_bytes cells) (sheet_members cells)
+SheetsDenote = (cells : List Cell) → IsSheet cells → Denotes (sheet_bytes cells) (sheet_members cells)

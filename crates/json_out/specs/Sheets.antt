@@ -1,6 +1,6 @@
 -- Whole sheets: the texts of tokens, with a comma between, in braces.
 use Rattle.std.specs.Prelude.{◌≡◌, true, ℕ, List, [], map, codes, Option, Some, None}
-use Rattle.std.specs.List.{list_all}
+use Rattle.std.specs.List.{AllByRecursion, list_all}
 use Rattle.json_span.specs.Spelling.{are_bytes}
 use Rattle.token_tree.specs.declared.mark.Mark.{Mark}
 use Rattle.token_tree.specs.declared.mark.Mark.TheVariants.{No, Yes, Because}
@@ -77,6 +77,10 @@ pub record IsCell (c : Cell) : Type 0 where
   pub typed : IsTyped c.typed
   pub bytes : AreBytes c.path c.typed c.extras
   pub extensions : HaveValue c.extras.extensions c.extensions
+
+-- tokens that make a sheet
+abbrev pub IsSheet : List Cell → Type 0
+IsSheet cells = AllByRecursion IsCell cells
 
 -- the bytes of the sheet, and its members
 abbrev pub sheet_bytes : List Cell → List ℕ

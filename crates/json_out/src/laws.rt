@@ -1,9 +1,11 @@
 //! Laws of the definitions alone, for the layers above.
 
-ghost use Rattle.json_out.specs.Laws.{TextsRead, ReadOnce, FragmentsRead, SlicesStay, PathsApart, ValuesDiffer, SheetsDenote};
+ghost use Rattle.json_out.specs.Laws.{NumbersAreSpelled, TextsRead, ReadOnce, FragmentsRead, SlicesStay, PathsApart, ValuesDiffer, SheetsDenote};
 
-/// Texts that are members, one after another in the frame, are one object of these members. Bytes are one object at most.
+/// The number that is read of a JSON number's text is the one that the text spells (RFC 8259 section 6). Texts that are
+/// members, one after another in the frame, are one object of these members. Bytes are one object at most.
 pub fn reading_laws()
+    ensures numbers { NumbersAreSpelled }
     ensures sheet { TextsRead }
     ensures once { ReadOnce }
 {}
