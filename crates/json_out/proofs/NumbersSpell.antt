@@ -1,14 +1,14 @@
 -- The number of a JSON number's text is the one that the text spells.
-use Rattle.std.proofs.Common.{◌≡◌, ℕ, ◌+◌, ◌<◌, ◌≤◌, ◌&&◌, ◌⊎◌, inl, inr, Bool, true, false, List, [], ◌∷◌, ◌++◌, length, refl, sym, ◌∙◌, ap, subst, append-nil, arith, Option, Some, None}
-use Rattle.std.specs.Prelude.{option_map, slice_index, if◌then◌else◌}
+use Rattle.std.proofs.Common.{◌≡◌, ℕ, ◌&&◌, ◌⊎◌, inl, inr, Bool, true, false, List, [], ◌∷◌, ◌++◌, refl, sym, ◌∙◌, ap, subst, append-nil, arith, Option, Some}
+use Rattle.std.specs.Prelude.{option_map}
 use Rattle.std.specs.Char.{is_ascii_digit}
 use Rattle.std.specs.Str.{all_ascii_digits}
 use Rattle.std.proofs.lemmas.Bool.Decides.{nat_tests}
 use Rattle.grammar.specs.Grammar.{Reads, Derives, no_byte, one_byte, both, left, right, no_more, more, by_name, many, named, within}
 use Rattle.json_span.specs.Grammar.{number, digit, digits, int, frac, exp, either, optional, one}
 use Rattle.json_span.specs.Steered.{rules}
-use Rattle.dec_fix.specs.Decimal.{Decimal, IsSameNumber, signed, decimal_of}
-use Rattle.dec_fix.specs.Reading.{Split, size_of, places_of, text_decimal}
+use Rattle.dec_fix.specs.Decimal.{Decimal, IsSameNumber, decimal_of}
+use Rattle.dec_fix.specs.Reading.{size_of, places_of, text_decimal}
 use Rattle.dec_fix.specs.Spelling.{Sign, unsigned, plus, minus, Exponent, none, power, Parts, minus_text, fraction_text, sign_text, exponent_text, text_of, IsDigits, IsInt, IsExponent, IsNumber, number_of_parts, Spells}
 use Rattle.dec_fix.proofs.Grammar.{split, split_text, number_by_split}
 use Rattle.dec_fix.proofs.SameNumber.{decimal_of-same}

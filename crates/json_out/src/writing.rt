@@ -149,7 +149,8 @@ pub fn fragment(
 ) -> Result<Frag, NoMemory>
     ensures bytes { AreBytes path.now typed.now (extras_view extras.now) }
     ensures names { IfOk result (λ f. f.names ≡ []) }
-    ensures body { IfOk result (λ f. f.body ≡ fragment_text path.now typed.now (extras_view extras.now)) }
+    ensures body { IfOk result (λ f. f.body
+        ≡ fragment_text path.now typed.now (extras_view extras.now)) }
     ensures reads { IsTyped typed.now
         → IfOk result (λ f. IsReadAsMember path.now typed.now (extras_view extras.now) f.body) }
 {
