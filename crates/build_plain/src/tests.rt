@@ -14,6 +14,7 @@ use name_path::print_place;
 use std::alloc::Global;
 use std::marker::Brand;
 use std::process::Abort;
+use std::str;
 use std::sync::ledger::{Blank, Ledger};
 use std::test::Fail;
 use tk_io::{Bytes, NoMemory, Outputs, Steps};
@@ -175,10 +176,11 @@ fn configurations(rt: HostRuntime) -> Result<(), Fail> {
 }
 
 /// The ring of references that the first token of a file closes; none where it breaks no rule or another one.
-fn first_ring<L: Ledger>(alloc: Global, text: &str, page: Blank) -> Option<Bytes>
+fn first_ring<L: Ledger>(alloc: Global, text: &[u8], page: Blank) -> Option<Bytes>
     requires page { (page.name ≡ L.name) × (page.parts ≡ L.parts) × (0 < L.parts) }
 {
     let mut steps: Steps<L> = Steps::new(page);
+    let text = str::from_utf8(text).ok()?;
     let Ok(root) = read(alloc, text, &mut steps) else {
         return None;
     };
@@ -213,10 +215,14 @@ fn first_ring<L: Ledger>(alloc: Global, text: &str, page: Blank) -> Option<Bytes
     Some(out)
 }
 
+fn ring_of(alloc: Global, text: &str) -> Option<Bytes> {
+    first_ring::<Brand>(alloc, text.as_bytes(), Blank::new(1))
+}
+
 #[test]
 fn a_ring_of_three(rt: HostRuntime) -> Result<(), Fail> {
     let text = r##"{"a":{"$value":"{b}"},"b":{"$value":"{c}"},"c":{"$value":"{a}"}}"##;
-    let ring = first_ring::<Brand>(rt.alloc(), text, Blank::new(1)).expect(&rt, "a ring");
+    let ring = ring_of(rt.alloc(), text).expect(&rt, "a ring");
     assert_eq!(rt;
         ring.as_slice(),
         b"#/a/$value #/b/$value #/c/$value ".as_slice()
