@@ -1,0 +1,4 @@
+pub mod Added
+pub mod Laid
+pub mod Known
+pub mod OneMerge

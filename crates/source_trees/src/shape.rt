@@ -1,0 +1,81 @@
+// The shapes of files: groups and tokens.
+
+ghost use Rattle.std.specs.Prelude.{◌≡◌, ℕ, List, IfOk};
+ghost use Rattle.json_span.specs.View.{node_view};
+ghost use Rattle.token_tree.specs.Promise.{StandsIn};
+ghost use Rattle.source_trees.specs.Trees.{IsTreeOf, IsShapeFor, IsShapeAt};
+
+use crate::source::{SourceBreak, SourceFault};
+use crate::tree::Tree;
+use json_span::{JsonFault, Node};
+use std::alloc::Global;
+use tk_io::{NoMemory, TextMap};
+use token_tree::{Group, ShapeFault, shape};
+
+/// What the tree of a file, or an object in it, shows: groups and tokens, or the first rule that it breaks.
+#[derive(Drop)]
+pub enum FileShape<'s> {
+    Shows(Group<'s>),
+    Breaks(SourceBreak<'s>),
+}
+
+/// The shapes of files by their paths.
+pub type Shapes<'s> = TextMap<FileShape<'s>>;
+
+fn broken<'s>(fault: SourceFault, file: &'s str, start: usize, end: usize) -> FileShape<'s>
+    ensures { result ≡ FileShape.Breaks (record { fault = fault; file = file.entry; start = start; end = end }) }
+{
+    FileShape::Breaks(SourceBreak {
+        fault,
+        file,
+        start,
+        end,
+    })
+}
+
+/// What a value of the text shows.
+pub(crate) fn shape_at<'s>(
+    alloc: Global,
+    file: &'s str,
+    text: &'s str,
+    root: &Node<'s>,
+) -> Result<FileShape<'s>, NoMemory>
+    requires { StandsIn text.now (node_view root.now) }
+    ensures { IfOk result (IsShapeAt file.entry.now text.entry.now (node_view root.now)) }
+{
+    match shape(alloc, file, text, root) {
+        Ok(group) => Ok(FileShape::Shows(group)),
+        Err(ShapeFault::Broken(rule, start, end)) => {
+            Ok(broken(SourceFault::Shape(rule), file, start, end))
+        }
+        Err(ShapeFault::NoMemory) => Err(NoMemory),
+    }
+}
+
+// The break of a file that is no JSON text, or has a flaw.
+fn flaw_shape<'s>(file: &'s str, fault: &JsonFault) -> Result<FileShape<'s>, NoMemory>
+    ensures { IfOk result (λ shape. (text : List ℕ) → IsTreeOf text (Tree.Flawed fault.now) → IsShapeFor file.entry.now text shape) }
+{
+    match fault {
+        JsonFault::Syntax(at) => Ok(broken(SourceFault::Syntax, file, *at, *at)),
+        JsonFault::Dup(start, end) => Ok(broken(SourceFault::Duplicate, file, *start, *end)),
+        JsonFault::Deep(start, end) => Ok(broken(SourceFault::Depth, file, *start, *end)),
+        JsonFault::NoMemory => Err(NoMemory),
+    }
+}
+
+/// What the tree of a file shows.
+pub(crate) fn shape_of<'s>(
+    alloc: Global,
+    file: &'s str,
+    text: &'s str,
+    tree: &Tree<'s>,
+) -> Result<FileShape<'s>, NoMemory>
+    requires { IsTreeOf text.now tree.now }
+    ensures { IfOk result (IsShapeFor file.entry.now text.entry.now) }
+{
+    match tree {
+        Tree::Read(root) => shape_at(alloc, file, text, root),
+        Tree::Flawed(fault) => flaw_shape(file, fault),
+    }
+}
