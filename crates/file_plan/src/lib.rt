@@ -7,6 +7,8 @@ mod laws;
 mod plan;
 mod refusal;
 mod source;
+#[cfg(test)]
+mod tests;
 
 pub use laws::file_plan_laws;
 pub use plan::plan_of;

@@ -1,0 +1,153 @@
+// Plans of resolver documents, against an independent program.
+
+ghost use Rattle.std.specs.Prelude.{◌≡◌, ◌<◌};
+
+use crate::{PlanPerm, PlanRefusal, PlanSource, plan_of};
+use itoa::Buffer;
+use std::alloc::Global;
+use std::marker::Brand;
+use std::sync::ledger::{Blank, Ledger};
+use std::test::Fail;
+use tk_io::{Bytes, NoMemory, Steps};
+
+/// What is to come of a document, written out: its permutations with their sources, or the number of the refusal and its
+/// byte offsets.
+static PLANS: [(&str, &str); 11] = [
+    (
+        r##"{"version":"2025.10","resolutionOrder":[{"type":"set","name":"all","sources":[{"$ref":"a.json"},{}]}]}"##,
+        "default:[a.json 86 94][{ 96 98}];",
+    ),
+    (
+        r##"{"version":"2025.10","resolutionOrder":[{"type":"modifier","name":"m","contexts":{"a":[],"b":[{"$ref":"b"}]}}]}"##,
+        "m=a:;m=b:[b 102 105];",
+    ),
+    ("", "1 0 0"),
+    ("[1,]", "1 3 3"),
+    (r#"{"a":1,"a":2}"#, "2 7 10"),
+    (r#"{"version":"1","resolutionOrder":[]}"#, "4 11 14"),
+    (r#"{"version":"2025.10"}"#, "4 0 21"),
+    (
+        r##"{"version":"2025.10","sets":{"a":{"sources":[{"$ref":"#/sets/b"}]},"b":{"sources":[{"$ref":"#/sets/a"}]}},"resolutionOrder":[]}"##,
+        "4 91 101 a b",
+    ),
+    (
+        r##"{"version":"2025.10","resolutionOrder":[{"type":"set","name":"a","sources":[{"$ref":"#/sets/b"}]}]}"##,
+        "4 84 94",
+    ),
+    (r#"{"version":"2025.10","resolutionOrder":{}}"#, "4 39 41"),
+    (
+        r##"{"version":"2025.10","resolutionOrder":[{"type":"modifier","name":"0","contexts":{"a":[],"b":[]}},{"type":"modifier","name":"1","contexts":{"a":[],"b":[]}},{"type":"modifier","name":"2","contexts":{"a":[],"b":[]}},{"type":"modifier","name":"3","contexts":{"a":[],"b":[]}},{"type":"modifier","name":"4","contexts":{"a":[],"b":[]}},{"type":"modifier","name":"5","contexts":{"a":[],"b":[]}},{"type":"modifier","name":"6","contexts":{"a":[],"b":[]}}]}"##,
+        "5 39 446 128",
+    ),
+];
+
+fn number(out: &mut Bytes, n: usize) -> Result<(), NoMemory> {
+    out.append(b" ")?;
+    out.append(Buffer::new().format(n).as_bytes())
+}
+
+fn write_source(out: &mut Bytes, source: &PlanSource<'_>) -> Result<(), NoMemory> {
+    out.append(b"[")?;
+    match source {
+        PlanSource::File(name, start, end) => {
+            out.append(name.as_str().as_bytes())?;
+            number(out, *start)?;
+            number(out, *end)?;
+        }
+        PlanSource::Inline(node) => {
+            out.append(b"{")?;
+            number(out, node.start())?;
+            number(out, node.end())?;
+            out.append(b"}")?;
+        }
+    }
+    out.append(b"]")
+}
+
+fn write_permutation(out: &mut Bytes, perm: &PlanPerm<'_>) -> Result<(), NoMemory> {
+    out.append(perm.name.as_str().as_bytes())?;
+    out.append(b":")?;
+    for source in perm.sources.as_slice() {
+        write_source(out, source)?;
+    }
+    out.append(b";")
+}
+
+fn write_span(out: &mut Bytes, kind: &[u8], start: usize, end: usize) -> Result<(), NoMemory> {
+    out.append(kind)?;
+    number(out, start)?;
+    number(out, end)
+}
+
+fn write_count(out: &mut Bytes, count: u64) -> Result<(), NoMemory> {
+    out.append(b" ")?;
+    out.append(Buffer::new().format(count).as_bytes())
+}
+
+fn write_refusal(out: &mut Bytes, refusal: &PlanRefusal<'_>) -> Result<(), NoMemory> {
+    match refusal {
+        PlanRefusal::Syntax(at) => write_span(out, b"1", *at, *at),
+        PlanRefusal::Duplicate(start, end) => write_span(out, b"2", *start, *end),
+        PlanRefusal::Depth(start, end) => write_span(out, b"3", *start, *end),
+        PlanRefusal::Broken {
+            start,
+            end,
+            ring,
+            ..
+        } => {
+            write_span(out, b"4", *start, *end)?;
+            for name in ring.as_slice() {
+                out.append(b" ")?;
+                out.append(name.as_str().as_bytes())?;
+            }
+            Ok(())
+        }
+        PlanRefusal::TooMany { start, end, count } => {
+            write_span(out, b"5", *start, *end)?;
+            write_count(out, *count)
+        }
+        PlanRefusal::TooManySources { start, end, count } => {
+            write_span(out, b"6", *start, *end)?;
+            write_count(out, *count)
+        }
+        PlanRefusal::NoMemory => Err(NoMemory),
+    }
+}
+
+fn write_plan_by<L: Ledger>(
+    alloc: Global,
+    text: Option<&str>,
+    page: Blank,
+    out: &mut Bytes,
+) -> Result<(), NoMemory>
+    requires page { (page.name ≡ L.name) × (page.parts ≡ L.parts) × (0 < L.parts) }
+{
+    let mut parses: Steps<L> = Steps::new(page);
+    match plan_of(alloc, text, &mut parses) {
+        Ok(plan) => {
+            for perm in plan.as_slice() {
+                write_permutation(out, perm)?;
+            }
+            Ok(())
+        }
+        Err(refusal) => write_refusal(out, &refusal),
+    }
+}
+
+fn write_plan(alloc: Global, text: Option<&str>, out: &mut Bytes) -> Result<(), NoMemory> {
+    write_plan_by::<Brand>(alloc, text, Blank::new(1), out)
+}
+
+#[test]
+fn documents_are_planned(rt: HostRuntime) -> Result<(), Fail> {
+    let alloc = rt.alloc();
+    for (text, wanted) in &PLANS {
+        let mut out = Bytes::new(alloc);
+        write_plan(alloc, Some(text), &mut out)?;
+        assert!(rt; out.as_slice() == wanted.as_bytes(), "{text}");
+    }
+    let mut out = Bytes::new(alloc);
+    write_plan(alloc, None, &mut out)?;
+    assert!(rt; out.as_slice() == b"default:[tokens.json 0 0];".as_slice());
+    Ok(())
+}
