@@ -86,7 +86,7 @@ class Examples(Room):
             self.assertEqual(self.outputs(), tree(os.path.join(TOP, "examples", "acme", "expected")))
 
     def test_files_that_are_not_built_yet(self):
-        self.put({"tokens.json": '{"a":{"$type":"number","$value":1}}'})
+        self.put({"tokens.json": "{}", "resolver.json": "{}"})
         ran = self.tool("build", "tokens", "out")
         self.assertEqual((ran.status, ran.out), (3, ""))
         self.assertEqual(ran.err.splitlines(), ["tokc: not built yet", "tokc does not build these files yet; docs/MANUAL.md says under 'What is built so far' which it does"])
@@ -106,9 +106,11 @@ class Documents(Room):
     def document(self, *parts):
         return read(os.path.join(TOP, *parts)).decode()
 
-    def built(self, text):
-        """The style sheet, or the message, that a token file gives."""
-        self.put({"tokens.json": text})
+    def built(self, files):
+        """The style sheet, or the message, that these token files alone give."""
+        shutil.rmtree(self.at("tokens"))
+        os.mkdir(self.at("tokens"))
+        self.put(files)
         ran = self.tool("build", "tokens", "out")
         self.assertEqual(ran.status, 1 if ran.err else 0)
         return ran.err or self.outputs()["default/tokens.css"].decode()
@@ -120,10 +122,9 @@ class Documents(Room):
         for rule, section in sections:
             with self.subTest(rule=rule):
                 blocks = BLOCK.findall(section)
-                if rule == "file-missing":
-                    message = self.tool("build", "tokens", "out").err
-                else:
-                    message = self.built(blocks[0][1].rstrip("\n"))
+                kind, text = blocks[0]
+                files = {"json": {"tokens.json": text.rstrip("\n")}, "toml": {"tokens.json": "{}", "tokc.toml": text}, "text": {}}
+                message = self.built(files[kind])
                 self.assertEqual(message, blocks[-1][1])
                 self.assertIn(f": {rule}: ", message)
 
@@ -135,7 +136,7 @@ class Documents(Room):
             for (kind, given), (other, wanted) in zip(blocks, blocks[1:]):
                 if kind == "json" and other in ("css", "text"):
                     with self.subTest(name=name, given=given):
-                        self.assertEqual(self.built(given), wanted)
+                        self.assertEqual(self.built({"tokens.json": given}), wanted)
                         tried += 1
             self.assertGreater(tried, 0)
 
