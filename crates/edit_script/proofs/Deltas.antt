@@ -116,10 +116,10 @@ pub no_commits : (k : ℕ) → commits_text k [] ≡ []
 unfolding commits_text
 no_commits k = refl
 
-same_count : (k : ℕ) → k ≡ k + 0
+pub same_count : (k : ℕ) → k ≡ k + 0
 same_count k = omega arith
 
-next_count : (k n : ℕ) → k + 1 + n ≡ k + suc n
+pub next_count : (k n : ℕ) → k + 1 + n ≡ k + suc n
 next_count k n = omega arith
 
 grouped : (a b c d : List ℕ) → a ++ ((b ++ c) ++ d) ≡ ((a ++ b) ++ c) ++ d

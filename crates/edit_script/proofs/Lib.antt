@@ -5,4 +5,5 @@ pub mod Rising
 pub mod Segments
 pub mod Spelled
 pub mod Standing
+pub mod Stats
 pub mod Written

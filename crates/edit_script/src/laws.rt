@@ -7,8 +7,9 @@ ghost use Rattle.tk_io.specs.FilesData.{FilesData};
 ghost use Rattle.edit_script.specs.Delta.{Held, ChangeData, Delta, IsDelta, AreDeltas, applied, replayed, held_at};
 ghost use Rattle.edit_script.specs.Files.{AreFilesAfter, AreFilesAt, up_to, commit_count, whole};
 ghost use Rattle.edit_script.specs.Script.{EventData, put, del, commit, IsScript, IsScriptStop};
-ghost use Rattle.edit_script.specs.declared.line.Line.TheVariants.{StreamHead, Commit as CommitLine, Done};
+ghost use Rattle.edit_script.specs.declared.line.Line.TheVariants.{StreamHead, StatsHead, Commit as CommitLine, Done};
 ghost use Rattle.edit_script.specs.Shown.{Lined, with_line};
+ghost use Rattle.edit_script.specs.Stats.{short_line, short_lines, short_stats};
 ghost use Rattle.edit_script.specs.Stream.{commits_text, line_text, pieces_of, record_of, stream_of, stream_pieces};
 
 /// A script has at most one reading.
@@ -106,6 +107,16 @@ pub fn stream_parts()
         ++ flat_map record_of (map.entries d) }
     ensures end { (ds : List Delta)
         → stream_of ds ≡ line_text StreamHead ++ commits_text 1 ds ++ line_text (Done (length ds)) }
+{}
+
+/// The short statistics before their first commit, after one commit more, and at their end.
+pub fn stats_parts()
+    ensures none { (k : ℕ) → short_lines k [] ≡ [] }
+    ensures more { (k : ℕ) → (ds : List Delta) → (d : Delta)
+        → short_lines k (ds ++ d ∷ [])
+        ≡ short_lines k ds ++ line_text (short_line (k + length ds) (map.entries d)) }
+    ensures end { (ds : List Delta)
+        → short_stats ds ≡ line_text StatsHead ++ short_lines 1 ds ++ line_text (Done (length ds)) }
 {}
 
 /// The pieces of a record, and of a stream, one after another, are that record and that stream.

@@ -1,4 +1,4 @@
-// The lines of the stream that stand by themselves.
+// The lines of the stream and of the statistics that stand by themselves.
 ghost use Rattle.std.specs.Prelude.{◌≡◌, ◌+◌, ◌≤◌, ◌++◌, length, take, codes, OnOk, OnErr};
 ghost use Rattle.std.specs.Fmt.{decimal};
 ghost use Rattle.std.specs.Io.KnownBytes.{Appends};
@@ -9,13 +9,22 @@ ghost use Rattle.edit_script.specs.Stream.{line_text};
 use itoa::Buffer;
 use tk_io::{Failed, Sink, write_all};
 
-/// A line of the stream that is no part of a record.
+/// A line of the stream or of the statistics that is no part of a record.
 #[derive(Clone, Copy, Debug, PartialEq, Eq)]
 pub enum Line {
-    /// The header, `tokc-stream 1`.
+    /// The header of the stream, `tokc-stream 1`.
     StreamHead,
+    /// The header of the statistics, `tokc-stats 1`.
+    StatsHead,
     /// The line of this commit, counted from 1: `commit K`.
     Commit(u64),
+    /// The line of this commit in the short statistics, with the numbers of its `file` and `gone` records:
+    /// `commit K written D gone E`.
+    Short {
+        commit: u64,
+        written: u64,
+        gone: u64,
+    },
     /// The last line, with the number of commits: `done N`.
     Done(u64),
 }
@@ -33,10 +42,19 @@ pub fn write_line<K: Sink>(out: &mut K, line: &Line) -> Result<(), Failed>
 {
     match line {
         Line::StreamHead => write_all(out, b"tokc-stream 1\n"),
+        Line::StatsHead => write_all(out, b"tokc-stats 1\n"),
         Line::Commit(k) => write_numbered(out, b"commit ", *k),
+        Line::Short {
+            commit,
+            written,
+            gone,
+        } => write_short(out, *commit, *written, *gone),
         Line::Done(n) => write_numbered(out, b"done ", *n),
     }
 }
+
+// The most bytes of a line: those of the words of the short statistics, and of three numbers.
+const MOST: usize = 96;
 
 // Writes the word, the number and a line end as one piece.
 fn write_numbered<K: Sink>(out: &mut K, word: &[u8], number: u64) -> Result<(), Failed>
@@ -47,18 +65,43 @@ fn write_numbered<K: Sink>(out: &mut K, word: &[u8], number: u64) -> Result<(), 
         (word.now ++ decimal number ++ codes "\n")) }
     ensures cause { HasCause (K.faults out.old) (K.faults out.new) result }
 {
-    let mut buffer = Buffer::new();
-    let digits = buffer.format(number).as_bytes();
-    let mut piece = [0u8; 48];
-    let at = put_at(&mut piece, 0, word);
-    let end = put_at(&mut piece, at, digits);
+    let mut piece = [0u8; MOST];
+    let end = put_number(&mut piece, 0, word, number);
     let len = put_at(&mut piece, end, b"\n");
     write_all(out, &piece[..len])
 }
 
+// Writes the line of a commit in the short statistics as one piece.
+fn write_short<K: Sink>(out: &mut K, commit: u64, written: u64, gone: u64) -> Result<(), Failed>
+    ensures whole { OnOk result (Appends (K.written out.old) (K.written out.new)
+        (line_text (Line.Short commit written gone))) }
+    ensures part { OnErr result (AppendsPart (K.written out.old) (K.written out.new)
+        (line_text (Line.Short commit written gone))) }
+    ensures cause { HasCause (K.faults out.old) (K.faults out.new) result }
+{
+    let mut piece = [0u8; MOST];
+    let first = put_number(&mut piece, 0, b"commit ", commit);
+    let second = put_number(&mut piece, first, b" written ", written);
+    let third = put_number(&mut piece, second, b" gone ", gone);
+    let len = put_at(&mut piece, third, b"\n");
+    write_all(out, &piece[..len])
+}
+
+// Puts the word and the number into the piece at this place, and answers where they end.
+fn put_number(piece: &mut [u8; MOST], at: usize, word: &[u8], number: u64) -> usize
+    requires { at + length word.now + 20 ≤ 96 }
+    ensures bound { result ≤ at + length word.now + 20 }
+    ensures front { take result piece.new ≡ take at piece.old ++ word.now ++ decimal number }
+{
+    let mut buffer = Buffer::new();
+    let digits = buffer.format(number).as_bytes();
+    let middle = put_at(piece, at, word);
+    put_at(piece, middle, digits)
+}
+
 // Puts the bytes into the piece at this place, and answers where they end.
-fn put_at(piece: &mut [u8; 48], at: usize, bytes: &[u8]) -> usize
-    requires { at + length bytes.now ≤ 48 }
+fn put_at(piece: &mut [u8; MOST], at: usize, bytes: &[u8]) -> usize
+    requires { at + length bytes.now ≤ 96 }
     ensures end { result ≡ at + length bytes.now }
     ensures front { take result piece.new ≡ take at piece.old ++ bytes.now }
 {

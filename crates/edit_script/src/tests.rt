@@ -1,7 +1,8 @@
 // Scripts with what is read of them, and changes with the records that are written.
 use crate::record_line::{file_line, gone_line};
 use crate::{
-    Change, Changes, Event, Events, Line, ScriptStop, delta, read_script, write_change, write_line,
+    Change, Changes, Event, Events, Line, ScriptStop, delta, read_script, short_line, write_change,
+    write_line,
 };
 use std::alloc::Global;
 use std::process::Abort;
@@ -195,6 +196,28 @@ fn writes_lines_and_records(rt: HostRuntime) -> Result<(), Fail> {
     assert_eq!(rt;
         out.written(),
         b"tokc-stream 1\ncommit 1\ngone a.css\nfile b 2\nxy\ndone 18446744073709551615\n".as_slice()
+    );
+    Ok(())
+}
+
+#[test]
+fn writes_the_short_statistics(rt: HostRuntime) -> Result<(), Fail> {
+    let old = outputs_of(rt.alloc(), FEW)?;
+    let new = outputs_of(rt.alloc(), &[("a.css", "y"), ("a/z", ""), ("d.json", "{}")])?;
+    let changes = delta(rt.alloc(), &old, &new)?;
+    let mut room = [0u8; 200];
+    let mut out = MemSink::new(&[], 7, &mut room);
+    assert!(rt; write_line(&mut out, &Line::StatsHead).is_ok());
+    assert!(rt; write_line(&mut out, &short_line(1, &changes)).is_ok());
+    let most = Line::Short {
+        commit: 18446744073709551615,
+        written: 18446744073709551615,
+        gone: 0,
+    };
+    assert!(rt; write_line(&mut out, &most).is_ok());
+    assert_eq!(rt;
+        out.written(),
+        b"tokc-stats 1\ncommit 1 written 2 gone 1\ncommit 18446744073709551615 written 18446744073709551615 gone 0\n".as_slice()
     );
     Ok(())
 }

@@ -1,0 +1,24 @@
+use Rattle.std.proofs.Common.{◌≡◌, ◌∙◌, ◌+◌, ◌-◌, ℕ, List, length, map, ap, arith, sym, refl}
+use Rattle.edit_script.specs.Delta.{ChangeData}
+use Rattle.edit_script.specs.Shown.{Lined}
+use Rattle.edit_script.specs.Stats.{bare, gone_count, written_count, short_line}
+use Rattle.edit_script.specs.declared.line.Line.TheVariants.{Short}
+use Rattle.edit_script.proofs.Stats.{counts_whole, bare_length}
+use Rattle.edit_script.proofs.short.short_line.Goals as goal
+
+pub overflow_sub-result : goal.overflow_sub-result
+overflow_sub-result c =
+    let cs = c.args.changes.now in
+    omega (arith, c.gone_count-gone.ensures, c.len.ensures, counts_whole (bare cs), bare_length cs)
+
+-- what is left of all
+written : (cs : List Lined) (n g : ℕ) → n ≡ length cs → g ≡ gone_count (bare cs) → n - g ≡ written_count (bare cs)
+written cs n g e f = omega (arith, e, f, counts_whole (bare cs), bare_length cs)
+
+same_line : (k : ℕ) (cs : List Lined) (w g : ℕ) → w ≡ written_count (bare cs) → g ≡ gone_count (bare cs) → Short k w g ≡ short_line k (bare cs)
+same_line k cs w g e f = ap (λ x. Short k x g) e ∙ ap (λ x. Short k (written_count (bare cs)) x) f
+
+pub returns : goal.returns
+returns c =
+    let cs = c.args.changes.now in
+    same_line c.args.commit cs (c.len.result - c.gone_count-gone.result) c.gone_count-gone.result (written cs c.len.result c.gone_count-gone.result c.len.ensures c.gone_count-gone.ensures) c.gone_count-gone.ensures
