@@ -156,6 +156,7 @@ fn chain(alloc: Global, sets: usize, last: &str) -> Result<Bytes, NoMemory> {
     Ok(text)
 }
 
+// The time is linear in the sets, but with checks (as `rt try` builds) a set costs about 1.5 ms: so not more of them.
 #[test]
 fn long_chains_end(rt: HostRuntime) -> Result<(), Fail> {
     let alloc = rt.alloc();
