@@ -1,3 +1,5 @@
 pub mod OnePlans
 pub mod SoundPlans
 pub mod FoundPlans
+pub mod FileMaps
+pub mod FilesInUse

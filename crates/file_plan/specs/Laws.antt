@@ -1,11 +1,14 @@
--- Laws of plans.
-use Rattle.std.specs.Prelude.{◌≡◌, ℕ, List, map, Option, Some, None}
+-- Laws of plans, and of the files in use.
+use Rattle.std.specs.Prelude.{◌≡◌, ◌⊎◌, ℕ, List, map, Option, Some, None}
+use Rattle.std.specs.FinMap as finite
 use Rattle.ring.specs.Routes.{In, AreApart}
 use Rattle.json_span.specs.Flaw.{first_flaw}
 use Rattle.json_span.specs.Parts.{IsPart}
 use Rattle.json_span.specs.Reading.{Shows}
 use Rattle.json_span.specs.Tree.{Placed}
-use Rattle.permutations.specs.Permutation.{Permutation, inline}
+use Rattle.permutations.specs.Permutation.{Permutation, file, inline}
+use Rattle.tk_io.specs.FilesData.{FilesData}
+use Rattle.file_plan.specs.InUse.{resolver_path, files_in_use}
 use Rattle.file_plan.specs.Plan.{Planned, planned, Plans}
 
 -- files have one plan
@@ -28,3 +31,24 @@ InlinesStand = (text : Option (List ℕ)) (perms : List Permutation) → Plans t
 -- no two permutations have one name
 abbrev pub NamesAreApart : Type 0
 NamesAreApart = (text : Option (List ℕ)) (perms : List Permutation) → Plans text (planned perms) → AreApart (map (λ p. p.name) perms)
+
+-- a source of a permutation names the file
+pub record IsNamed (perms : List Permutation) (path : List ℕ) : Type 0 where
+  pub perm : Permutation
+  pub among : In perm perms
+  pub start : ℕ
+  pub end : ℕ
+  pub source : In (file path start end) perm.sources
+
+-- the file is the resolver document, or a source names it
+abbrev pub IsWanted : List Permutation → List ℕ → Type 0
+IsWanted perms path = (path ≡ resolver_path) ⊎ IsNamed perms path
+
+-- a file is in use exactly where it is there and is wanted
+pub record InUseWhereWanted (files : FilesData) (perms : List Permutation) (path text : List ℕ) : Type 0 where
+  pub there : finite.get (files_in_use files perms) path ≡ Some text → finite.get files path ≡ Some text
+  pub wanted : finite.get (files_in_use files perms) path ≡ Some text → IsWanted perms path
+  pub all : finite.get files path ≡ Some text → IsWanted perms path → finite.get (files_in_use files perms) path ≡ Some text
+
+abbrev pub WantedAreInUse : Type 0
+WantedAreInUse = (files : FilesData) (perms : List Permutation) (path text : List ℕ) → InUseWhereWanted files perms path text

@@ -1,3 +1,5 @@
+pub mod Trees
 pub mod Plan
 pub mod View
+pub mod InUse
 pub mod Laws

@@ -1,6 +1,6 @@
 // Laws of the definitions alone, for the layers above.
 
-ghost use Rattle.file_plan.specs.Laws.{InlinesStand, OnePlan, NamesAreApart};
+ghost use Rattle.file_plan.specs.Laws.{InlinesStand, OnePlan, NamesAreApart, WantedAreInUse};
 
 use json_span::json_laws;
 use permutations::{name_laws, source_laws};
@@ -19,3 +19,8 @@ pub fn file_plan_laws()
     name_laws();
     source_laws();
 }
+
+/// The files that are read for permutations are the resolver document and those that sources name, where they are there.
+pub fn in_use_laws()
+    ensures { WantedAreInUse }
+{}

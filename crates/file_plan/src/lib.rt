@@ -2,6 +2,7 @@
 //! or the first rule that the resolver document breaks.
 #![tactic(auto)]
 
+mod files;
 mod keeping;
 mod laws;
 mod plan;
@@ -9,8 +10,11 @@ mod refusal;
 mod source;
 #[cfg(test)]
 mod tests;
+mod tree;
 
-pub use laws::file_plan_laws;
+pub use files::Files;
+pub use laws::{file_plan_laws, in_use_laws};
 pub use plan::plan_of;
 pub use refusal::PlanRefusal;
 pub use source::{Plan, PlanPerm, PlanSource, PlanSources};
+pub use tree::{Tree, Trees, read_tree};

@@ -1,6 +1,6 @@
 //! The plan of files.
 
-ghost use Rattle.std.specs.Prelude.{◌≡◌, ◌+◌, ℕ, List, IfOk, IfErr, Some, option_map, unwrap_or};
+ghost use Rattle.std.specs.Prelude.{◌≡◌, ℕ, List, IfOk, IfErr, Option, Some, option_copied, option_map, unwrap_or};
 ghost use Rattle.json_span.specs.Tree.{Placed, start_of, end_of};
 ghost use Rattle.json_span.specs.View.{node_view};
 ghost use Rattle.json_span.specs.Answer.{IsRefusal as IsUnread};
@@ -8,18 +8,19 @@ ghost use Rattle.permutations.specs.Answer.{IsListFault};
 ghost use Rattle.resolver_doc.specs.Answer.{IsUnbroken, IsPlanFault};
 ghost use Rattle.resolver_doc.specs.Document.{resolver_of};
 ghost use Rattle.resolver_doc.specs.ResolverView.{resolver_view};
-ghost use Rattle.file_plan.specs.Plan.{OfDocument, Plans, default_plan, order_of, planned, text_count};
+ghost use Rattle.file_plan.specs.Plan.{OfDocument, Plans, default_plan, order_of, planned};
+ghost use Rattle.file_plan.specs.Trees.{IsRead, IsTreeOf};
 ghost use Rattle.file_plan.specs.View.{IsRefusal, plan_view};
 
 use crate::keeping::kept_plan;
 use crate::refusal::PlanRefusal;
 use crate::source::{Plan, PlanPerm, PlanSource, PlanSources};
-use json_span::{JsonFault, Node, read};
+use crate::tree::Tree;
+use json_span::{JsonFault, Node};
 use permutations::{ListFault, list};
 use resolver_doc::{PlanFault, Resolver, read_resolver};
 use std::alloc::Global;
-use std::sync::ledger::Ledger;
-use tk_io::{NoMemory, Steps, Text};
+use tk_io::{NoMemory, Text};
 
 // Where the order of a document stands.
 fn order_span(root: &Node<'_>) -> (usize, usize)
@@ -36,13 +37,13 @@ fn order_span(root: &Node<'_>) -> (usize, usize)
 }
 
 // Why a text that is not read has no plan.
-fn unread<'s>(fault: JsonFault) -> PlanRefusal<'s>
-    ensures { (text : List ℕ) → IsUnread text fault → IsRefusal (Plans (Some text)) result }
+fn unread<'s>(fault: &JsonFault) -> PlanRefusal<'s>
+    ensures { (text : List ℕ) → IsUnread text fault.now → IsRefusal (Plans (Some text)) result }
 {
     match fault {
-        JsonFault::Syntax(at) => PlanRefusal::Syntax(at),
-        JsonFault::Dup(start, end) => PlanRefusal::Duplicate(start, end),
-        JsonFault::Deep(start, end) => PlanRefusal::Depth(start, end),
+        JsonFault::Syntax(at) => PlanRefusal::Syntax(*at),
+        JsonFault::Dup(start, end) => PlanRefusal::Duplicate(*start, *end),
+        JsonFault::Deep(start, end) => PlanRefusal::Depth(*start, *end),
         JsonFault::NoMemory => PlanRefusal::NoMemory,
     }
 }
@@ -108,19 +109,16 @@ fn plan_of_document<'s>(alloc: Global, root: &Node<'s>) -> Result<Plan<'s>, Plan
     }
 }
 
-// The plan of a text of the resolver document.
-fn plan_of_text<'s, L: Ledger>(
-    alloc: Global,
-    text: &'s str,
-    parses: &mut Steps<L>,
-) -> Result<Plan<'s>, PlanRefusal<'s>>
-    ensures plan { IfOk result (λ plan. Plans (Some text.entry.now) (planned (plan_view plan))) }
-    ensures refused { IfErr result (IsRefusal (Plans (Some text.entry.now))) }
-    ensures parses { parses.new ≡ parses.old + 1 }
+// The plan of a resolver document by its tree.
+fn plan_of_tree<'s>(alloc: Global, tree: &Tree<'s>) -> Result<Plan<'s>, PlanRefusal<'s>>
+    ensures plan { (text : List ℕ) → IsTreeOf text tree.now
+        → IfOk result (λ plan. Plans (Some text) (planned (plan_view plan))) }
+    ensures refused { (text : List ℕ) → IsTreeOf text tree.now
+        → IfErr result (IsRefusal (Plans (Some text))) }
 {
-    match read(alloc, text, parses) {
-        Ok(root) => plan_of_document(alloc, &root),
-        Err(fault) => Err(unread(fault)),
+    match tree {
+        Tree::Read(root) => plan_of_document(alloc, root),
+        Tree::Flawed(fault) => Err(unread(fault)),
     }
 }
 
@@ -138,24 +136,22 @@ fn plan_by_default<'s>(alloc: Global) -> Result<Plan<'s>, NoMemory>
     Ok(plan)
 }
 
-/// The plan of files, by the text of their resolver document where they have one: the permutations that it lists, else one
-/// permutation `default` of `tokens.json`. The document is one step of `parses`, whatever is answered.
+/// The plan of files, by the tree of their resolver document where they have one: the permutations that it lists, else one
+/// permutation `default` of `tokens.json`. The plan borrows from the document's text alone.
 ///
 /// # Errors
 /// The first rule that the document breaks: [`PlanRefusal::Syntax`], [`PlanRefusal::Duplicate`], [`PlanRefusal::Depth`],
 /// [`PlanRefusal::Broken`], [`PlanRefusal::TooMany`], [`PlanRefusal::TooManySources`], in this order; or
 /// [`PlanRefusal::NoMemory`].
-pub fn plan_of<'s, L: Ledger>(
-    alloc: Global,
-    resolver: Option<&'s str>,
-    parses: &mut Steps<L>,
-) -> Result<Plan<'s>, PlanRefusal<'s>>
-    ensures plan { IfOk result (λ plan. Plans (option_map (λ t. t.now) resolver.entry) (planned (plan_view plan))) }
-    ensures refused { IfErr result (IsRefusal (Plans (option_map (λ t. t.now) resolver.entry))) }
-    ensures parses { parses.new ≡ parses.old + text_count (option_map (λ t. t.now) resolver.entry) }
+pub fn plan_of<'s>(alloc: Global, resolver: Option<&Tree<'s>>) -> Result<Plan<'s>, PlanRefusal<'s>>
+    // The plan by the text of which this is the tree.
+    ensures plan { (text : Option (List ℕ)) → IsRead text (option_copied resolver.entry)
+        → IfOk result (λ plan. Plans text (planned (plan_view plan))) }
+    ensures refused { (text : Option (List ℕ)) → IsRead text (option_copied resolver.entry)
+        → IfErr result (IsRefusal (Plans text)) }
 {
     match resolver {
-        Some(text) => plan_of_text(alloc, text, parses),
+        Some(tree) => plan_of_tree(alloc, tree),
         None => Ok(plan_by_default(alloc)?),
     }
 }

@@ -2,7 +2,7 @@
 
 ghost use Rattle.std.specs.Prelude.{◌≡◌, ◌<◌};
 
-use crate::{PlanPerm, PlanRefusal, PlanSource, plan_of};
+use crate::{Files, Plan, PlanPerm, PlanRefusal, PlanSource, plan_of, read_tree};
 use itoa::Buffer;
 use std::alloc::Global;
 use std::marker::Brand;
@@ -114,16 +114,11 @@ fn write_refusal(out: &mut Bytes, refusal: &PlanRefusal<'_>) -> Result<(), NoMem
     }
 }
 
-fn write_plan_by<L: Ledger>(
-    alloc: Global,
-    text: Option<&str>,
-    page: Blank,
+fn write_planned(
     out: &mut Bytes,
-) -> Result<(), NoMemory>
-    requires page { (page.name ≡ L.name) × (page.parts ≡ L.parts) × (0 < L.parts) }
-{
-    let mut parses: Steps<L> = Steps::new(page);
-    match plan_of(alloc, text, &mut parses) {
+    planned: Result<Plan<'_>, PlanRefusal<'_>>,
+) -> Result<(), NoMemory> {
+    match planned {
         Ok(plan) => {
             for perm in plan.as_slice() {
                 write_permutation(out, perm)?;
@@ -134,7 +129,23 @@ fn write_plan_by<L: Ledger>(
     }
 }
 
-fn write_plan(alloc: Global, text: Option<&str>, out: &mut Bytes) -> Result<(), NoMemory> {
+fn write_plan_by<L: Ledger>(
+    alloc: Global,
+    text: &[u8],
+    page: Blank,
+    out: &mut Bytes,
+) -> Result<(), NoMemory>
+    requires page { (page.name ≡ L.name) × (page.parts ≡ L.parts) × (0 < L.parts) }
+{
+    let mut parses: Steps<L> = Steps::new(page);
+    let Ok(text) = str::from_utf8(text) else {
+        return Err(NoMemory);
+    };
+    let tree = read_tree(alloc, text, &mut parses)?;
+    write_planned(out, plan_of(alloc, Some(&tree)))
+}
+
+fn write_plan(alloc: Global, text: &[u8], out: &mut Bytes) -> Result<(), NoMemory> {
     write_plan_by::<Brand>(alloc, text, Blank::new(1), out)
 }
 
@@ -143,11 +154,27 @@ fn documents_are_planned(rt: HostRuntime) -> Result<(), Fail> {
     let alloc = rt.alloc();
     for (text, wanted) in &PLANS {
         let mut out = Bytes::new(alloc);
-        write_plan(alloc, Some(text), &mut out)?;
+        write_plan(alloc, text.as_bytes(), &mut out)?;
         assert!(rt; out.as_slice() == wanted.as_bytes(), "{text}");
     }
     let mut out = Bytes::new(alloc);
-    write_plan(alloc, None, &mut out)?;
+    write_planned(&mut out, plan_of(alloc, None))?;
     assert!(rt; out.as_slice() == b"default:[tokens.json 0 0];".as_slice());
+    Ok(())
+}
+
+#[test]
+fn files_are_kept(rt: HostRuntime) -> Result<(), Fail> {
+    let alloc = rt.alloc();
+    let mut files = Files::new(alloc);
+    files.put("b.json", "{}")?;
+    files.put("a.json", "[]")?;
+    assert!(rt; files.len() == 2);
+    assert!(rt; files.get("a.json") == Some("[]"));
+    assert!(rt; files.entry("b.json") == Some(("b.json", "{}")));
+    assert!(rt; files.entry("c.json") == None);
+    assert!(rt; files.at(0) == Some(("a.json", "[]")));
+    files.del("a.json");
+    assert!(rt; files.at(0) == Some(("b.json", "{}")));
     Ok(())
 }

@@ -13,7 +13,7 @@ use Rattle.source_trees.specs.Laws.{SameMerged, OneMerge}
 use Rattle.source_trees.specs.Merging.{IsLaid}
 use Rattle.source_trees.specs.Sources.{Texts, HomeAt, BreakAt, break_at, answer_breaks, answer_trees, FoundIn, SourceFound, SourcesFound}
 
-abbrev Same : List BreakAt → List BreakAt → List Group → List Group → Type 0
+abbrev pub Same : List BreakAt → List BreakAt → List Group → List Group → Type 0
 Same bs cs ts us = (bs ≡ cs) × (ts ≡ us)
 
 found_one : (file text : List ℕ) (bs cs : List BreakAt) (ts us : List Group) → FoundIn file text bs ts → FoundIn file text cs us → Same bs cs ts us
@@ -30,7 +30,7 @@ source_one texts home (perm.file name start end) bs cs ts us f g = at (finite.ge
     at (Some text) x y = found_one name text bs cs ts us x y
 source_one texts home (perm.inline n) bs cs ts us f g = (f.0 ∙ sym g.0, f.1 ∙ sym g.1)
 
-sources_one : (texts : Texts) (home : HomeAt) (ss : List TokenSource) (bs cs : List BreakAt) (ts us : List Group) → SourcesFound texts home ss bs ts → SourcesFound texts home ss cs us → Same bs cs ts us
+pub sources_one : (texts : Texts) (home : HomeAt) (ss : List TokenSource) (bs cs : List BreakAt) (ts us : List Group) → SourcesFound texts home ss bs ts → SourcesFound texts home ss cs us → Same bs cs ts us
 sources_one texts home [] bs cs ts us f g = (f.0 ∙ sym g.0, f.1 ∙ sym g.1)
 sources_one texts home (s ∷ ss) bs cs ts us (b, bs', t, ts', f, fs, eb, et) (c, cs', u, us', g, gs, ec, eu) =
     let here = source_one texts home s b c t u f g in

@@ -1,7 +1,6 @@
 -- Laws of shapes and sources.
-use Rattle.std.specs.Prelude.{◌≡◌, ℕ, List, Some}
+use Rattle.std.specs.Prelude.{◌≡◌, List}
 use Rattle.std.specs.FinMap as finite
-use Rattle.std.specs.List.{AllByRecursion}
 use Rattle.ring.specs.Routes.{In}
 use Rattle.tk_io.specs.Order.{text_cmp}
 use Rattle.source_trees.specs.declared.shape.FileShape.{FileShape}
@@ -11,23 +10,15 @@ use Rattle.source_trees.specs.declared.laying.Merged.TheVariants.{Tree, Broken}
 use Rattle.source_trees.specs.Merging.{AreKnown, IsMergedOf}
 use Rattle.source_trees.specs.View.{break_view}
 use Rattle.source_trees.specs.Sources.{Texts, HomeAt}
-use Rattle.permutations.specs.Permutation as perm
-use Rattle.permutations.specs.Permutation.{TokenSource}
-use Rattle.source_trees.specs.Trees.{FileAt, AreShapesOf}
+use Rattle.permutations.specs.Permutation.{TokenSource, Permutation}
+use Rattle.tk_io.specs.FilesData.{FilesData}
+use Rattle.file_plan.specs.InUse.{files_in_use}
+use Rattle.source_trees.specs.Trees.{AreShapesIn}
 
--- the files are there with these texts
-abbrev pub AreThere : Texts → List FileAt → Type 0
-AreThere texts files = (path text : List ℕ) → In (path, text) files → finite.get texts path ≡ Some text
-
--- a file that is there and is named is one of these
-abbrev pub IsCovered : Texts → List FileAt → TokenSource → Type 0
-IsCovered texts files (perm.file name start end) = (text : List ℕ) → finite.get texts name ≡ Some text → In (name, text) files
-IsCovered texts files (perm.inline n) = Unit {0}
-
--- where the shapes are those of files that are there, and these are all that are named, the sources are known
+-- where the shapes are those of the files in use, the sources of each permutation are known
 abbrev pub ShapesKnown : Type 0
-ShapesKnown = (texts : Texts) (files : List FileAt) (shapes : finite.FinMap text_cmp FileShape) (sources : List TokenSource)
-    → AreShapesOf files shapes → AreThere texts files → AllByRecursion (IsCovered texts files) sources → AreKnown texts shapes sources
+ShapesKnown = (files : FilesData) (perms : List Permutation) (shapes : finite.FinMap text_cmp FileShape)
+    → AreShapesIn (files_in_use files perms) shapes → (p : Permutation) → In p perms → AreKnown files shapes p.sources
 
 -- the same tree, or the same break
 abbrev pub SameMerged : Merged → Merged → Type 0

@@ -1,6 +1,9 @@
 pub mod Sources
 pub mod View
 pub mod Trees
+pub mod Reading
 pub mod Merging
 pub mod Merges
+pub mod MergedTokens
 pub mod Laws
+pub mod inner

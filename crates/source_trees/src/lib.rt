@@ -8,13 +8,15 @@ mod laying;
 mod merge;
 mod reading;
 mod shape;
+mod shapes;
 mod source;
-mod tree;
+#[cfg(test)]
+mod tests;
 
-pub use laws::{one_merge, shapes_known};
+pub use laws::{merged_tokens, one_merge, shapes_known};
 pub use laying::{Merged, merged_sources};
 pub use merge::{Merge, Merges, merge_of};
-pub use reading::{FilesRead, read_files};
+pub use reading::read_named;
 pub use shape::{FileShape, Shapes};
+pub use shapes::shapes_of;
 pub use source::{Home, SourceBreak, SourceFault};
-pub use tree::{Tree, Trees, read_tree};

@@ -1,58 +1,117 @@
 // Files that are read, each once.
 
-ghost use Rattle.std.specs.Prelude.{◌≡◌, ◌+◌, ◌≤◌, IfOk, OnOk, length};
-ghost use Rattle.source_trees.specs.Trees.{AreTreesOf, AreShapesOf, AddsTree, AddsShape};
-ghost use Rattle.source_trees.specs.View.{files_view};
+ghost use Rattle.std.specs.Prelude.{◌≡◌, [], ◌∷◌, None, OnOk};
+ghost use Rattle.std.specs.FinMap as map;
+ghost use Rattle.file_plan.specs.InUse.{source_names, names_in, names_of};
+ghost use Rattle.file_plan.specs.View.{plan_source_view, plan_sources_view, plan_view};
+ghost use Rattle.source_trees.specs.Reading.{AddsTrees, CountsAdded, CountsAtMost};
 
-use crate::shape::{Shapes, shape_of};
-use crate::tree::{Trees, read_tree};
+use file_plan::{Files, PlanPerm, PlanSource, Trees, read_tree};
 use std::alloc::Global;
 use std::sync::ledger::Ledger;
 use tk_io::{NoMemory, Steps};
 
-/// The trees of files and what they show, by their paths.
-#[derive(Drop)]
-pub struct FilesRead<'s> {
-    pub trees: Trees<'s>,
-    pub shapes: Shapes<'s>,
-}
-
-// Reads the file and adds it.
-fn read_file<'s, L: Ledger>(
+// Reads the file of that name, where it is there.
+fn read_new<'s, L: Ledger>(
     alloc: Global,
-    path: &'s str,
-    text: &'s str,
-    read: &mut FilesRead<'s>,
+    files: &Files<'s>,
+    name: &str,
+    trees: &mut Trees<'s>,
     parses: &mut Steps<L>,
 ) -> Result<(), NoMemory>
-    ensures step { parses.new ≡ parses.old + 1 }
-    ensures tree { OnOk result (AddsTree path.entry.now text.entry.now read.old.trees read.new.trees) }
-    ensures shape { OnOk result (AddsShape path.entry.now text.entry.now read.old.shapes read.new.shapes) }
+    requires { map.get trees.old name.now ≡ None }
+    ensures trees { OnOk result (AddsTrees files.now (name.now ∷ []) trees.old trees.new) }
+    ensures steps { OnOk result
+        (CountsAdded files.now (name.now ∷ []) trees.old parses.old parses.new) }
+    ensures at_most { CountsAtMost files.now (name.now ∷ []) trees.old parses.old parses.new }
 {
-    let tree = read_tree(alloc, text, parses)?;
-    let shape = shape_of(alloc, path, text, &tree)?;
-    read.trees.put(path, tree)?;
-    read.shapes.put(path, shape)
+    match files.get(name) {
+        Some(text) => {
+            let tree = read_tree(alloc, text, parses)?;
+            trees.put(name, tree)
+        }
+        None => Ok(()),
+    }
 }
 
-/// Reads the files, which are given by path and text. Each is one step.
-pub fn read_files<'s, L: Ledger>(
+// Reads the file of that name, where it is there and has no tree yet.
+fn read_once<'s, L: Ledger>(
     alloc: Global,
-    files: &[(&'s str, &'s str)],
+    files: &Files<'s>,
+    name: &str,
+    trees: &mut Trees<'s>,
     parses: &mut Steps<L>,
-) -> Result<FilesRead<'s>, NoMemory>
-    ensures trees { IfOk result (λ read. AreTreesOf (files_view files.now) read.trees) }
-    ensures shapes { IfOk result (λ read. AreShapesOf (files_view files.now) read.shapes) }
-    ensures steps { OnOk result (parses.new ≡ parses.old + length files.now) }
-    // Where memory runs out, some files are not read.
-    ensures at_most { parses.new ≤ parses.old + length files.now }
+) -> Result<(), NoMemory>
+    ensures trees { OnOk result (AddsTrees files.now (name.now ∷ []) trees.old trees.new) }
+    ensures steps { OnOk result
+        (CountsAdded files.now (name.now ∷ []) trees.old parses.old parses.new) }
+    ensures at_most { CountsAtMost files.now (name.now ∷ []) trees.old parses.old parses.new }
 {
-    let mut read = FilesRead {
-        trees: Trees::new(alloc),
-        shapes: Shapes::new(alloc),
-    };
-    for (path, text) in files {
-        read_file(alloc, path, text, &mut read, parses)?;
+    match trees.get(name) {
+        Some(_) => Ok(()),
+        None => read_new(alloc, files, name, trees, parses),
     }
-    Ok(read)
+}
+
+fn read_source<'s, L: Ledger>(
+    alloc: Global,
+    files: &Files<'s>,
+    source: &PlanSource<'_>,
+    trees: &mut Trees<'s>,
+    parses: &mut Steps<L>,
+) -> Result<(), NoMemory>
+    ensures trees { OnOk result
+        (AddsTrees files.now (source_names (plan_source_view source.now)) trees.old trees.new) }
+    ensures steps { OnOk result (CountsAdded files.now (source_names (plan_source_view source.now))
+        trees.old parses.old parses.new) }
+    ensures at_most { CountsAtMost files.now (source_names (plan_source_view source.now))
+        trees.old parses.old parses.new }
+{
+    match source {
+        PlanSource::File(name, _, _) => read_once(alloc, files, name.as_str(), trees, parses),
+        PlanSource::Inline(_) => Ok(()),
+    }
+}
+
+fn read_sources<'s, L: Ledger>(
+    alloc: Global,
+    files: &Files<'s>,
+    sources: &[PlanSource<'_>],
+    trees: &mut Trees<'s>,
+    parses: &mut Steps<L>,
+) -> Result<(), NoMemory>
+    ensures trees { OnOk result
+        (AddsTrees files.now (names_in (plan_sources_view sources.now)) trees.old trees.new) }
+    ensures steps { OnOk result (CountsAdded files.now (names_in (plan_sources_view sources.now))
+        trees.old parses.old parses.new) }
+    ensures at_most { CountsAtMost files.now (names_in (plan_sources_view sources.now))
+        trees.old parses.old parses.new }
+{
+    for source in sources {
+        read_source(alloc, files, source, trees, parses)?;
+    }
+    Ok(())
+}
+
+/// Reads each file that a permutation names, that is there and that has no tree yet, and adds its tree. Each is one step,
+/// however often it is named.
+pub fn read_named<'s, L: Ledger>(
+    alloc: Global,
+    files: &Files<'s>,
+    plan: &[PlanPerm<'_>],
+    trees: &mut Trees<'s>,
+    parses: &mut Steps<L>,
+) -> Result<(), NoMemory>
+    ensures trees { OnOk result
+        (AddsTrees files.now (names_of (plan_view plan.now)) trees.old trees.new) }
+    ensures steps { OnOk result
+        (CountsAdded files.now (names_of (plan_view plan.now)) trees.old parses.old parses.new) }
+    // Where memory runs out, some files are not read.
+    ensures at_most { CountsAtMost files.now (names_of (plan_view plan.now))
+        trees.old parses.old parses.new }
+{
+    for perm in plan {
+        read_sources(alloc, files, perm.sources.as_slice(), trees, parses)?;
+    }
+    Ok(())
 }

@@ -3,10 +3,11 @@
 ghost use Rattle.std.specs.Prelude.{◌≡◌, ℕ, List, IfOk};
 ghost use Rattle.json_span.specs.View.{node_view};
 ghost use Rattle.token_tree.specs.Promise.{StandsIn};
-ghost use Rattle.source_trees.specs.Trees.{IsTreeOf, IsShapeFor, IsShapeAt};
+ghost use Rattle.file_plan.specs.Trees.{IsTreeOf};
+ghost use Rattle.source_trees.specs.Trees.{IsShapeFor, IsShapeAt};
 
 use crate::source::{SourceBreak, SourceFault};
-use crate::tree::Tree;
+use file_plan::Tree;
 use json_span::{JsonFault, Node};
 use std::alloc::Global;
 use tk_io::{NoMemory, TextMap};

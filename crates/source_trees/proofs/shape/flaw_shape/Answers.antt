@@ -2,8 +2,9 @@ use Rattle.std.proofs.Common.{[], refl, sym, subst}
 use Rattle.json_span.specs.Answer.{stops, flawed}
 use Rattle.json_span.specs.Flaw.{equal_names, too_deep}
 use Rattle.source_trees.specs.Sources.{answer_breaks}
-use Rattle.source_trees.specs.Trees.{IsTreeOf, IsShapeFor}
-use Rattle.source_trees.specs.declared.tree.Tree.TheVariants.{Flawed}
+use Rattle.file_plan.specs.Trees.{IsTreeOf}
+use Rattle.source_trees.specs.Trees.{IsShapeFor}
+use Rattle.file_plan.specs.declared.tree.Tree.TheVariants.{Flawed}
 use Rattle.source_trees.proofs.shape.flaw_shape.Goals as goal
 
 pub returns-in-Syntax : goal.returns-in-Syntax

@@ -5,7 +5,8 @@ use Rattle.json_span.specs.Parts.{itself}
 use Rattle.json_span.specs.View.{node_view}
 use Rattle.token_tree.specs.Shape.{shape_breaks, shape_of}
 use Rattle.source_trees.specs.Sources.{shape_break}
-use Rattle.source_trees.specs.Trees.{IsTreeOf, IsShapeFor}
+use Rattle.file_plan.specs.Trees.{IsTreeOf}
+use Rattle.source_trees.specs.Trees.{IsShapeFor}
 use Rattle.source_trees.proofs.shape.shape_of.Goals as goal
 
 pub shape_at-requires : goal.shape_at-requires

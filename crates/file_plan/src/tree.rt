@@ -1,7 +1,7 @@
 // The trees of files.
 
 ghost use Rattle.std.specs.Prelude.{◌≡◌, ◌+◌, IfOk};
-ghost use Rattle.source_trees.specs.Trees.{IsTreeOf};
+ghost use Rattle.file_plan.specs.Trees.{IsTreeOf};
 
 use json_span::{JsonFault, Node, read};
 use std::alloc::Global;
