@@ -1,0 +1,14 @@
+pub mod AndroidDenotes
+pub mod Beside
+pub mod Bodies
+pub mod Comes
+pub mod Entries
+pub mod JsonDenotes
+pub mod LinkedTokens
+pub mod OneCells
+pub mod PlainPaths
+pub mod RealBreaks
+pub mod RealClashes
+pub mod SheetDenotes
+pub mod Sides
+pub mod SwiftDenotes

@@ -1,0 +1,49 @@
+-- What is told of a token's break holds.
+use Rattle.std.proofs.Common.{◌≡◌, Some, Err, refl, sym, ap, subst, ◌∙◌}
+use Rattle.alias_ref.specs.Answer.{IsFirstBreak, in_walk, kind_missing}
+use Rattle.alias_ref.specs.Laws.{Flat, RingsAreReal, BreaksAreReal as RefBreaksAreReal}
+use Rattle.alias_ref.specs.Visits.{Break as RefBreak, walk_break, breaks}
+use Rattle.alias_ref.specs.Written.{whole, written_in}
+use Rattle.alias_ref.specs.declared.fault.RefRule.{RefRule}
+use Rattle.alias_ref.specs.declared.fault.RefRule.TheVariants as reference
+use Rattle.type_rules.specs.declared.fault.ValueRule.{ValueRule}
+use Rattle.token_cells.specs.Cell.{TokenPath, TokenBreak, of_reference, IsTokenBreak, by_reference, by_value}
+use Rattle.token_cells.specs.Laws.{IsReal}
+use Rattle.refusals.specs.declared.rule.CellRule.{CellRule}
+use Rattle.refusals.specs.declared.rule.CellRule.TheVariants.{Ref, Value}
+
+same_ref : (r s : RefRule) → ◌≡◌ {A = CellRule} (Ref r) (Ref s) → r ≡ s
+same_ref r s e = cc
+
+same_value : (r s : ValueRule) → ◌≡◌ {A = CellRule} (Value r) (Value s) → r ≡ s
+same_value r s e = cc
+
+module _ (rings : RingsAreReal) (told : RefBreaksAreReal) (flat : Flat) (path : TokenPath) where
+  walk_real : (b : RefBreak) → walk_break (written_in flat) path ≡ Some b → IsReal flat path (of_reference b)
+  walk_real b e = record {
+    cycle = λ is. rings (written_in flat) path b.place b.ring (e ∙ ap (λ r. Some (record { rule = r; place = b.place; ring = b.ring })) (same_ref b.rule reference.Cycle is));
+    syntax = λ is. (told (written_in flat) path b e).syntax (same_ref b.rule reference.RefSyntax is);
+    target = λ is. (told (written_in flat) path b e).target (same_ref b.rule reference.RefTarget is);
+    value = λ r is. cc;
+  }
+
+  missing_real : IsReal flat path (of_reference (breaks reference.NoType (whole path)))
+  missing_real = record {
+    cycle = λ is. cc;
+    syntax = λ is. cc;
+    target = λ is. cc;
+    value = λ r is. cc;
+  }
+
+  ref_real : (b : RefBreak) → IsFirstBreak flat path b → IsReal flat path (of_reference b)
+  ref_real b (in_walk e) = walk_real b e
+  ref_real b (kind_missing u k is) = subst (λ x. IsReal flat path (of_reference x)) (sym is) missing_real
+
+  pub break_real : (t : TokenBreak) → IsTokenBreak flat path t → IsReal flat path t
+  break_real t (by_reference b is e) = subst (IsReal flat path) (sym e) (ref_real b is)
+  break_real t (by_value kind meaning b meant found e) = subst (IsReal flat path) (sym e) (record {
+    cycle = λ is. cc;
+    syntax = λ is. cc;
+    target = λ is. cc;
+    value = λ r is. record { kind = kind; meaning = meaning; meant = meant; token = refl; broken = found ∙ ap (λ x. Err (record { rule = x; trail = b.trail })) (same_value b.rule r is) };
+  })

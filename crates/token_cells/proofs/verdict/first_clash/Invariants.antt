@@ -1,0 +1,11 @@
+-- No token so far has a name of an earlier one.
+use Rattle.std.proofs.Common.{◌≡◌}
+use Rattle.std.specs.Iterator.Adapters.{zip_first, zip_second}
+use Rattle.std.specs.List.{zip}
+use Rattle.std.specs.Slice.Iter.{iter_rest}
+use Rattle.token_cells.specs.Breaks.{clashes_from, names_on, clashes_on}
+use Rattle.token_cells.proofs.verdict.first_clash.Given as goal
+
+abbrev pub invariant-loop-token : goal.invariant-loop-token
+invariant-loop-token l =
+    clashes_from l.platform (names_on l.platform) l.clash (zip (iter_rest (zip_first l.token-iterator)) (iter_rest (zip_second l.token-iterator))) ≡ clashes_on l.platform (zip l.tokens l.cells)

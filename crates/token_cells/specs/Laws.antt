@@ -1,0 +1,81 @@
+-- Laws over the definitions.
+use Rattle.std.specs.Prelude.{◌≡◌, ℕ, true, List, [], ◌∷◌, ◌++◌, map, Some, Err, AllPairs, Contains}
+use Rattle.json_span.specs.PlainView.{Value as Plain}
+use Rattle.name_path.specs.declared.kind.Kind.{Kind}
+use Rattle.name_path.specs.declared.place.Place.{Place}
+use Rattle.alias_ref.specs.Asking.{IsRing}
+use Rattle.alias_ref.specs.Laws.{Flat}
+use Rattle.alias_ref.specs.Meaning.{Leads}
+use Rattle.alias_ref.specs.Written.{misspelled, is_reference, written_in}
+use Rattle.alias_ref.specs.declared.fault.RefRule.TheVariants as reference
+use Rattle.type_rules.specs.declared.fault.ValueRule.{ValueRule}
+use Rattle.composite_rules.specs.Value.{value_of}
+use Rattle.group_inherit.specs.Flattening.{TokenAt}
+use Rattle.transforms.specs.Clash.{Named, ShareNoName}
+use Rattle.transforms.specs.Config.{Settings}
+use Rattle.transforms.specs.declared.platform.Platform.{Platform}
+use Rattle.refusals.specs.Refusal.{Report}
+use Rattle.token_cells.specs.Cell.{TokenPath, IsMeant, TokenBreak, IsTokenBreak, AreCells}
+use Rattle.token_cells.specs.Breaks.{Celled, names_on, clash_report, clashes_on}
+use Rattle.token_cells.specs.declared.token_cell.TokenCell.{TokenCell}
+use Rattle.refusals.specs.declared.rule.CellRule.TheVariants.{Ref, Value}
+
+-- the token means a value that breaks the rule at this place of the token
+pub record BreaksValue (flat : Flat) (path : TokenPath) (r : ValueRule) (place : Place) : Type 0 where
+  pub kind : Kind
+  pub meaning : Plain
+  pub meant : IsMeant flat path kind meaning
+  pub token : place.token ≡ path
+  pub broken : value_of kind meaning ≡ Err (record { rule = r; trail = place.trail })
+
+-- What is told of a token's break holds. A ring is one: its places differ, each asks for the next, and the last for
+-- the first. A wrong spelling stands at the place, a reference whose target is lost stands there and leads nowhere,
+-- and a rule of values is broken there by what the token means.
+pub record IsReal (flat : Flat) (path : TokenPath) (b : TokenBreak) : Type 0 where
+  pub cycle : b.rule ≡ Ref reference.Cycle → IsRing (written_in flat) b.ring
+  pub syntax : b.rule ≡ Ref reference.RefSyntax → written_in flat b.place ≡ Some misspelled
+  pub target : b.rule ≡ Ref reference.RefTarget
+      → (is_reference (written_in flat b.place) ≡ true) × ((q : Place) → Leads (written_in flat) b.place q → ⊥)
+  pub value : (r : ValueRule) → b.rule ≡ Value r → BreaksValue flat path r b.place
+
+abbrev pub BreaksAreReal : Type 0
+BreaksAreReal = (flat : Flat) (path : TokenPath) (b : TokenBreak) → IsTokenBreak flat path b → IsReal flat path b
+
+-- tokens of a flat tree come to one list of cells
+abbrev pub OneCells : Type 0
+OneCells = (flat : Flat) (settings : Settings) (tokens : List TokenAt) (cells others : List TokenCell)
+    → AreCells flat settings tokens cells → AreCells flat settings tokens others → cells ≡ others
+
+-- a token's path, and its names on the platform
+abbrev pub named_on : Platform → Celled → Named
+named_on platform e = record { path = e.0.0; names = names_on platform e.1 }
+
+-- no token has a name of an earlier one on the platform
+abbrev pub AreApartOn : Platform → List Celled → Type 0
+AreApartOn platform es = AllPairs ShareNoName (map (named_on platform) es)
+
+-- The report tells of two of the tokens: the later one, an earlier one, and that they have a name in common on the
+-- platform.
+pub record IsClash (platform : Platform) (es : List Celled) (r : Report) : Type 0 where
+  pub before : List Celled
+  pub later : Celled
+  pub after : List Celled
+  pub split : es ≡ before ++ later ∷ after
+  pub earlier : Celled
+  pub there : Contains before earlier
+  pub name : List ℕ
+  pub of_earlier : Contains (names_on platform earlier.1) name
+  pub of_later : Contains (names_on platform later.1) name
+  pub told : r ≡ clash_report platform later.0 earlier.0.0
+
+-- a clash that is told is one
+abbrev pub ClashesAreReal : Type 0
+ClashesAreReal = (platform : Platform) (es : List Celled) (r : Report)
+    → Contains (clashes_on platform es) r → IsClash platform es r
+
+-- none is told exactly where no token has a name of an earlier one
+abbrev pub UnclashedAreApart : Type 0
+UnclashedAreApart = (platform : Platform) (es : List Celled) → clashes_on platform es ≡ [] → AreApartOn platform es
+
+abbrev pub ApartAreUnclashed : Type 0
+ApartAreUnclashed = (platform : Platform) (es : List Celled) → AreApartOn platform es → clashes_on platform es ≡ []

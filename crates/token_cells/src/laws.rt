@@ -1,0 +1,64 @@
+// Laws over the definitions alone.
+ghost use Rattle.token_cells.specs.Denotes.{CellsDenote};
+ghost use Rattle.token_cells.specs.OtherSheets.{AndroidCellsDenote, JsonCellsDenote, SwiftCellsDenote};
+ghost use Rattle.token_cells.specs.Laws.{ApartAreUnclashed, BreaksAreReal, ClashesAreReal, OneCells, UnclashedAreApart};
+
+use alias_ref::{one_answer, one_meaning, parts_mean, unbroken_tokens};
+use composite_rules::{part_laws, value_laws};
+use css_out::sheet_laws;
+use transforms::clash_laws;
+
+/// The tokens of a flat tree come to one list of cells under a configuration.
+pub fn one_cells()
+    ensures { OneCells }
+{
+    one_meaning();
+    one_answer();
+}
+
+/// Cells without a break, of which no two have a name in common, give a style sheet that denotes the values of their tokens,
+/// name for name: what each token's whole value means, read under its kind, with each `var()` followed until none is left.
+pub fn sheets_denote()
+    ensures { CellsDenote }
+{
+    one_meaning();
+    parts_mean();
+    unbroken_tokens();
+    value_laws();
+    part_laws();
+    clash_laws();
+    sheet_laws();
+}
+
+/// What is told of a token's break holds: a ring is one, a wrong spelling and a lost target stand where they are told, and
+/// a rule of values is broken there by what the token means.
+pub fn breaks_are_real()
+    ensures { BreaksAreReal }
+{
+    alias_ref::breaks_are_real();
+}
+
+/// A clash of names that is told is one: the later token has a name of the earlier one on the platform. None is told
+/// exactly where no token has a name of an earlier one.
+pub fn clashes_are_real()
+    ensures real { ClashesAreReal }
+    ensures apart { UnclashedAreApart }
+    ensures unclashed { ApartAreUnclashed }
+{
+    clash_laws();
+}
+
+/// Cells without a break, of which no two have a name in common, give files for Android, Swift and JSON that denote the
+/// values of their tokens.
+pub fn other_sheets_denote()
+    ensures android { AndroidCellsDenote }
+    ensures swift { SwiftCellsDenote }
+    ensures json { JsonCellsDenote }
+{
+    value_laws();
+    clash_laws();
+    android_out::sheet_laws();
+    ios_out::sheet_laws();
+    json_out::sheet_laws();
+    json_out::fragment_laws();
+}

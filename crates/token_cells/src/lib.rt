@@ -1,0 +1,20 @@
+//! What the tokens of a flat tree come to: the first rule that one of them breaks, or four files that denote their values.
+#![tactic(auto)]
+
+mod cells;
+mod format;
+mod laws;
+mod shared_cell;
+mod sheet;
+#[cfg(test)]
+mod tests;
+mod token_cell;
+mod verdict;
+
+pub use cells::{Cells, cells_of};
+pub use format::Format;
+pub use laws::{breaks_are_real, clashes_are_real, one_cells, other_sheets_denote, sheets_denote};
+pub use shared_cell::SharedCell;
+pub use sheet::sheet_of;
+pub use token_cell::{TokenCell, cell};
+pub use verdict::verdict_text;

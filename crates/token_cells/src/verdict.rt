@@ -1,0 +1,195 @@
+// The first break of tokens, and of their names.
+ghost use Rattle.std.specs.Prelude.{◌≡◌, [], IfOk, flat_map};
+ghost use Rattle.std.specs.FinMap as map;
+ghost use Rattle.std.specs.List.{zip};
+ghost use Rattle.refusals.specs.Refusal.{report, report_text};
+ghost use Rattle.token_cells.specs.Cell.{token_break};
+ghost use Rattle.token_cells.specs.Breaks.{place_span, token_report, cell_reports, names_on, clash_report, clashes_on, name_clashes, token_reports, verdict_text};
+ghost use Rattle.token_cells.specs.View.{cells_view};
+ghost use Rattle.transforms.specs.Clash.{first_taken, Leaves};
+
+use crate::shared_cell::SharedCell;
+use crate::token_cell::TokenCell;
+use alias_ref::span_of;
+use file_plan::Files;
+use group_inherit::{Entry, FileSpan, Flat};
+use name_path::{Path, Place, Ring};
+use refusals::{
+    CellRule, Rule, append_other, append_place, append_platform, append_ring_places, append_token,
+    refuse, refuse_span,
+};
+use std::alloc::Global;
+use tk_io::{Bytes, NoMemory};
+use transforms::{Clash, Platform};
+
+// Where the place stands in the file of its token's definition.
+fn place_span<'s>(flat: &Flat<'s>, place: &Place<'s>) -> FileSpan<'s>
+    ensures { result ≡ place_span flat.now place.now }
+{
+    let Some(entry) = flat.get(&place.token) else {
+        return FileSpan {
+            file: "",
+            start: 0,
+            end: 0,
+        };
+    };
+    let (start, end) = span_of(flat, place);
+    FileSpan {
+        file: entry.def.file,
+        start,
+        end,
+    }
+}
+
+// What is printed of the rule that a token breaks.
+fn token_text<'s>(
+    alloc: Global,
+    files: &Files<'s>,
+    flat: &Flat<'s>,
+    path: &Path<'s>,
+    rule: CellRule,
+    place: &Place<'s>,
+    ring: &Ring<'s>,
+) -> Result<Bytes, NoMemory>
+    ensures { IfOk result (λ b. b ≡ report_text files.now
+        (token_report flat.now path.now (token_break rule place.now ring.now))) }
+{
+    let span = place_span(flat, place);
+    let mut out = refuse_span(alloc, files, Rule::Token(rule), &span)?;
+    append_token(&mut out, path)?;
+    append_place(&mut out, place)?;
+    append_ring_places(&mut out, ring)?;
+    Ok(out)
+}
+
+// What is printed of the first token that breaks a rule.
+fn first_refused<'s>(
+    alloc: Global,
+    files: &Files<'s>,
+    flat: &Flat<'s>,
+    tokens: &[(Path<'s>, Entry<'s>)],
+    cells: &[SharedCell<'s>],
+) -> Result<Option<Bytes>, NoMemory>
+    ensures { IfOk result (λ text. text ≡ verdict_text files.now
+        (flat_map (cell_reports flat.now) (zip tokens.now (cells_view cells.now)))) }
+{
+    for (token, cell) in tokens.iter().zip(cells) {
+        if let TokenCell::Refused { rule, place, ring } = cell.as_cell() {
+            let text = token_text(alloc, files, flat, &token.0, *rule, place, ring)?;
+            return Ok(Some(text));
+        }
+    }
+    Ok(None)
+}
+
+// Adds the names that the token has on the platform; the answer is an earlier token that has one of them.
+fn add_names<'s>(
+    clash: &mut Clash<'s>,
+    platform: Platform,
+    path: &Path<'s>,
+    cell: &TokenCell<'s>,
+) -> Result<Option<Path<'s>>, NoMemory>
+    ensures answer { IfOk result (λ other. other
+        ≡ first_taken clash.old (names_on platform cell.now)) }
+    ensures leaves { IfOk result
+        (Leaves clash.old (names_on platform cell.now) path.now clash.new) }
+{
+    match cell {
+        TokenCell::Made {
+            css,
+            android,
+            ios,
+            ..
+        } => match platform {
+            Platform::Css => clash.add(path, &css.names),
+            Platform::Android => clash.add(path, &android.names),
+            Platform::Swift => clash.add(path, &ios.names),
+        },
+        TokenCell::Refused { .. } => Ok(None),
+    }
+}
+
+// The first lines of what is printed of that, at the token's object.
+fn object_text<'s>(alloc: Global, files: &Files<'s>, entry: &Entry<'s>) -> Result<Bytes, NoMemory>
+    ensures { IfOk result (λ b. b ≡ report_text files.now
+        (report Rule.NameClash entry.now.def.file entry.now.def.start entry.now.def.end [])) }
+{
+    let def = &entry.def;
+    refuse(alloc, files, Rule::NameClash, def.file, def.start, def.end)
+}
+
+// What is printed of a token that has a name of an earlier one.
+fn clash_text<'s>(
+    alloc: Global,
+    files: &Files<'s>,
+    platform: Platform,
+    path: &Path<'s>,
+    entry: &Entry<'s>,
+    other: &Path<'s>,
+) -> Result<Bytes, NoMemory>
+    ensures { IfOk result (λ b. b ≡ report_text files.now
+        (clash_report platform (path.now, entry.now) other.now)) }
+{
+    let mut out = object_text(alloc, files, entry)?;
+    append_token(&mut out, path)?;
+    append_other(&mut out, other)?;
+    append_platform(&mut out, platform)?;
+    Ok(out)
+}
+
+// What is printed of the first token that has a name of an earlier one on the platform.
+fn first_clash<'s>(
+    alloc: Global,
+    files: &Files<'s>,
+    platform: Platform,
+    tokens: &[(Path<'s>, Entry<'s>)],
+    cells: &[SharedCell<'s>],
+) -> Result<Option<Bytes>, NoMemory>
+    ensures { IfOk result (λ text. text ≡ verdict_text files.now
+        (clashes_on platform (zip tokens.now (cells_view cells.now)))) }
+{
+    let mut clash = Clash::new(alloc);
+    for (token, cell) in tokens.iter().zip(cells) {
+        if let Some(other) = add_names(&mut clash, platform, &token.0, cell.as_cell())? {
+            let text = clash_text(alloc, files, platform, &token.0, &token.1, &other)?;
+            return Ok(Some(text));
+        }
+    }
+    Ok(None)
+}
+
+// The same on CSS, then on Android, then in Swift.
+fn first_name_clash<'s>(
+    alloc: Global,
+    files: &Files<'s>,
+    tokens: &[(Path<'s>, Entry<'s>)],
+    cells: &[SharedCell<'s>],
+) -> Result<Option<Bytes>, NoMemory>
+    ensures { IfOk result (λ text. text ≡ verdict_text files.now
+        (name_clashes (zip tokens.now (cells_view cells.now)))) }
+{
+    if let Some(text) = first_clash(alloc, files, Platform::Css, tokens, cells)? {
+        return Ok(Some(text));
+    }
+    if let Some(text) = first_clash(alloc, files, Platform::Android, tokens, cells)? {
+        return Ok(Some(text));
+    }
+    first_clash(alloc, files, Platform::Swift, tokens, cells)
+}
+
+/// What is printed of the verdict of tokens: of the first that breaks a rule, or else of the first that has a name of an
+/// earlier one.
+pub fn verdict_text<'s>(
+    alloc: Global,
+    files: &Files<'s>,
+    flat: &Flat<'s>,
+    cells: &[SharedCell<'s>],
+) -> Result<Option<Bytes>, NoMemory>
+    ensures { IfOk result (λ text. text ≡ verdict_text files.now
+        (token_reports flat.now (zip (map.entries flat.now) (cells_view cells.now)))) }
+{
+    if let Some(text) = first_refused(alloc, files, flat, flat.as_slice(), cells)? {
+        return Ok(Some(text));
+    }
+    first_name_clash(alloc, files, flat.as_slice(), cells)
+}
