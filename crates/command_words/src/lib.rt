@@ -1,0 +1,16 @@
+//! The words of the command line: which command they are, read by clap, or that they are none.
+#![tactic(auto)]
+
+mod command;
+mod finding;
+mod grammar;
+mod laws;
+mod number;
+mod plain;
+mod reading;
+#[cfg(test)]
+mod tests;
+
+pub use command::{Command, WordStop};
+pub use laws::words_of_commands;
+pub use reading::read_words;
