@@ -1,0 +1,4 @@
+pub mod AppendsRegroup
+pub mod EventsFit
+pub mod ListsGrow
+pub mod LiteralsLast
