@@ -234,7 +234,6 @@ class Streams(Room):
         cases = {
             4: "tokc could not read the script", 5: "tokc could not write its stream", 6: "tokc ran out of memory",
             7: "the token files are too large: a script has at most 67,108,864 bytes",
-            8: "tokc does not build these files yet; docs/MANUAL.md says under 'What is built so far' which it does",
             126: "tokc could not be built, as said above", 77: "tokc ended with status 77",
         }
         for status, line in cases.items():
@@ -287,9 +286,9 @@ class Watching(Room):
 
     def test_it_goes_on_after_a_program_that_stops(self):
         self.lines(2)
-        self.stand_in(b"", 8)
+        self.stand_in(b"", 6)
         self.put({"tokens.json": "{ }"})
-        self.assertEqual(self.lines(2), ["tokens.json is changed", "tokc does not build these files yet; docs/MANUAL.md says under 'What is built so far' which it does"])
+        self.assertEqual(self.lines(2), ["tokens.json is changed", "tokc ran out of memory"])
         self.stand_in(stream_of([("default/tokens.css", OTHER)]))
         self.put({"tokens.json": "{  }"})
         self.assertEqual(self.lines(3), ["tokens.json is changed", "wrote default/tokens.css", "1 output; 1 changed"])

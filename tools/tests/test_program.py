@@ -24,7 +24,7 @@ class Words(Room):
 
     def test_no_form(self):
         shutil.copy(TOKC, self.at("tokc"))
-        for words in ([], ["--help"], ["-h"], ["--version"], ["bild"], ["build", "x"], ["replay", ""], ["stats", "x"], ["gen"], [""]):
+        for words in ([], ["--help"], ["-h"], ["--version"], ["bild"], ["build", "x"], ["replay", ""], ["stats", "x"], ["gen"], ["gen", "07", "1"], ["gen", "7", "0"], ["gen", "7", "4001"], ["gen", "4294967296", "1"], ["gen", "7"], [""]):
             with self.subTest(words=words):
                 start = time.monotonic()
                 ran = run([self.at("tokc"), *words], b"never read", at=self.room)
@@ -61,17 +61,22 @@ class Examples(Room):
     """What stands in examples/ is what the program gives."""
 
     def test_scripts(self):
-        for name, word, status in (("first", "build", 0), ("changes", "replay", 0)):
+        for name, word, status in (("first", "build", 0), ("changes", "replay", 0), ("themes", "replay", 0)):
             with self.subTest(name=name):
                 ran = run([TOKC, word], read(os.path.join(TOP, "examples", f"{name}.script")))
                 self.assertEqual((ran.status, ran.out, ran.err), (status, read(os.path.join(TOP, "examples", f"{name}.stream")).decode(), ""))
 
-    def test_acme(self):
-        tokens = os.path.join(TOP, "examples", "acme", "tokens")
-        ran = self.tool("build", tokens, "out")
-        self.assertEqual((ran.status, ran.err), (0, ""))
-        self.assertEqual(self.outputs(), tree(os.path.join(TOP, "examples", "acme", "expected")))
-        self.assertRegex(self.tool("build", tokens, "out").out, r"\A[0-9]+ outputs?; 0 changed; [0-9.]+ s\n\Z")
+    def test_folders(self):
+        """A folder of one file, and one of two themes and two densities."""
+        for name, permutations in (("plain", 1), ("acme", 4)):
+            with self.subTest(name=name):
+                tokens, out = os.path.join(TOP, "examples", name, "tokens"), f"out-{name}"
+                ran = self.tool("build", tokens, out)
+                self.assertEqual((ran.status, ran.err), (0, ""))
+                found = tree(self.at(out))
+                found.pop(".tokc-outputs")
+                self.assertEqual(found, tree(os.path.join(TOP, "examples", name, "expected")))
+                self.assertRegex(self.tool("build", tokens, out).out, rf"\A{4 * permutations} outputs; 0 changed; [0-9.]+ s\n\Z")
 
     def test_acme_broken(self):
         ran = run([os.path.join("tools", "tokc-dir"), "build", os.path.join("examples", "acme", "broken"), self.out])
@@ -85,19 +90,38 @@ class Examples(Room):
             self.assertEqual(self.tool("unpack", "out", given=stream.out.encode()).status, 0)
             self.assertEqual(self.outputs(), tree(os.path.join(TOP, "examples", "acme", "expected")))
 
-    def test_files_that_are_not_built_yet(self):
+    def test_a_resolver_that_is_refused(self):
+        """No permutation is built then, and the one output is the refusal."""
         self.put({"tokens.json": "{}", "resolver.json": "{}"})
         ran = self.tool("build", "tokens", "out")
-        self.assertEqual((ran.status, ran.out), (3, ""))
-        self.assertEqual(ran.err.splitlines(), ["tokc: not built yet", "tokc does not build these files yet; docs/MANUAL.md says under 'What is built so far' which it does"])
-        self.assertFalse(os.path.exists(self.out))
+        self.assertEqual((ran.status, ran.err.splitlines()[0]), (1, "tokens/resolver.json:1:1: plan-version: a resolver needs `version` with the text `2025.10`"))
+        self.assertEqual(self.outputs().keys(), {"REFUSED"})
+
+    def test_a_theme_that_is_refused(self):
+        """The others are built, and the refusal is told with the permutations that it is of."""
+        shutil.copytree(os.path.join(TOP, "examples", "acme", "tokens"), self.at("tokens"), dirs_exist_ok=True)
+        self.put({"theme/dark.json": '{"color":{\n"danger":{"$value":{"colorSpace":"hsl","components":[2,80,162]}}}}\n'})
+        ran = self.tool("build", "tokens", "out")
+        self.assertEqual((ran.status, ran.err), (1, """\
+tokens/theme/dark.json:2:59: color-range: the component is out of the range of its colour space
+  2 | "danger":{"$value":{"colorSpace":"hsl","components":[2,80,162]}}}}
+    |                                                           ^^^
+note: token color.danger
+note: place #/color/danger/$value/components/2
+note: in theme=dark+density=compact, theme=dark+density=cozy
+"""))
+        dark, light = ({path for path in self.outputs() if it in path} for it in ("theme=dark", "theme=light"))
+        self.assertEqual((len(light), dark), (8, {"theme=dark+density=compact/REFUSED", "theme=dark+density=cozy/REFUSED"}))
 
     def test_a_folder_with_no_files(self):
         ran = self.tool("build", "tokens", "out")
         self.assertEqual((ran.status, ran.err), (1, "tokens/tokens.json:1:1: file-missing: there is no such file\n"))
 
 
-BLOCK = re.compile(r"^```(\w*)\n(.*?)^```$", re.M | re.S)
+BLOCK = re.compile(r"^```(\w*) ?([^\n]*)\n(.*?)^```$", re.M | re.S)
+
+# The output that a block shows, by its kind, where it does not name one.
+SHOWN = {"css": "default/tokens.css", "xml": "default/tokens.xml", "swift": "default/Tokens.swift", "jsonc": "default/tokens.json", "text": "message"}
 
 
 class Documents(Room):
@@ -107,36 +131,47 @@ class Documents(Room):
         return read(os.path.join(TOP, *parts)).decode()
 
     def built(self, files):
-        """The style sheet, or the message, that these token files alone give."""
+        """The outputs that these files alone give, and the message under its name."""
         shutil.rmtree(self.at("tokens"))
         os.mkdir(self.at("tokens"))
         self.put(files)
         ran = self.tool("build", "tokens", "out")
         self.assertEqual(ran.status, 1 if ran.err else 0)
-        return ran.err or self.outputs()["default/tokens.css"].decode()
+        return {path: body.decode() for path, body in self.outputs().items()} | {"message": ran.err}
+
+    def files_of(self, rule, kind, text):
+        """The files of a rule's section: the smallest that break it."""
+        if kind == "toml":
+            return {"tokens.json": "{}", "tokc.toml": text}
+        if kind == "json":
+            return {"resolver.json" if rule.startswith("plan-") else "tokens.json": text.rstrip("\n")}
+        return {}
 
     def test_each_rule_of_the_manual(self):
         """A rule's section has the smallest file that breaks it, and the message."""
         sections = re.findall(r"^### `([a-z-]+)`\n(.*?)(?=^##|\Z)", self.document("docs", "MANUAL.md"), re.M | re.S)
-        self.assertGreater(len(sections), 10)
+        self.assertGreater(len(sections), 40)
         for rule, section in sections:
             with self.subTest(rule=rule):
                 blocks = BLOCK.findall(section)
-                kind, text = blocks[0]
-                files = {"json": {"tokens.json": text.rstrip("\n")}, "toml": {"tokens.json": "{}", "tokc.toml": text}, "text": {}}
-                message = self.built(files[kind])
-                self.assertEqual(message, blocks[-1][1])
+                kind, _, text = blocks[0]
+                message = self.built(self.files_of(rule, kind, text))["message"]
+                self.assertEqual(message, blocks[-1][2])
                 self.assertIn(f": {rule}: ", message)
 
-    def test_each_pair_of_blocks(self):
-        """Elsewhere a block of JSON stands before what it gives."""
+    def test_what_blocks_give(self):
+        """Elsewhere blocks of JSON, one for each file, stand before blocks of what they give."""
         for name in (("README.md",), ("docs", "MANUAL.md")):
             text = re.sub(r"^### `[a-z-]+`\n.*?(?=^##|\Z)", "", self.document(*name), flags=re.M | re.S)
-            blocks, tried = BLOCK.findall(text), 0
-            for (kind, given), (other, wanted) in zip(blocks, blocks[1:]):
-                if kind == "json" and other in ("css", "text"):
-                    with self.subTest(name=name, given=given):
-                        self.assertEqual(self.built({"tokens.json": given}), wanted)
+            files, given, tried = {}, None, 0
+            for kind, path, block in BLOCK.findall(text):
+                if kind == "json":
+                    files = files if given is None else {}
+                    files[path or "tokens.json"], given = block, None
+                elif kind in SHOWN and files:
+                    with self.subTest(name=name, files=files):
+                        given = self.built(files) if given is None else given
+                        self.assertEqual(given.get(path or SHOWN[kind]), block)
                         tried += 1
             self.assertGreater(tried, 0)
 
@@ -150,6 +185,13 @@ class Documents(Room):
         indented = "".join(f"    {line}\n" for line in message.splitlines())
         for name in (("README.md",), ("docs", "MANUAL.md")):
             self.assertIn(indented, self.document(*name))
+
+    def test_the_quick_start(self):
+        """The lines that it shows are the first and the last ones that are told."""
+        first, last = re.search(r"^((?:    wrote .*\n)+)    \.\.\n    (.*); [0-9.]+ s$", self.document("docs", "MANUAL.md"), re.M).groups()
+        told = self.tool("build", os.path.join(TOP, "examples", "acme", "tokens"), "out").out.splitlines()
+        shown = [line.strip() for line in first.splitlines()]
+        self.assertEqual((told[:len(shown)], told[-1].rpartition("; ")[0]), (shown, last))
 
     def test_links_lead_to_files(self):
         names = ["README.md", "CONTRIBUTING.md", *(os.path.join("docs", it) for it in os.listdir(os.path.join(TOP, "docs")))]

@@ -4,7 +4,9 @@
 
 mod rows;
 
-use rows::{Row, many_commits, many_files, many_members, many_tokens};
+use rows::{
+    Row, doubling_sets, generated, many_commits, many_files, many_members, many_sets, many_tokens,
+};
 use std::alloc::Global;
 use std::process::ExitCode;
 use tk_io::{Failed, MemSink, MemSource, NoMemory, Sink, StdSink, write_all};
@@ -22,7 +24,9 @@ fn zeros(alloc: Global, count: usize) -> Result<Vec<u8>, NoMemory> {
 // Whether the run of the row's script writes its stream, says nothing and is done.
 fn is_answered(alloc: Global, row: &Row) -> Result<bool, NoMemory> {
     let mut words = Vec::new(alloc);
-    words.push(String::from_str(alloc, row.word)?)?;
+    for word in row.words.split(' ') {
+        words.push(String::from_str(alloc, word)?)?;
+    }
     let mut room = zeros(alloc, row.stream.len().saturating_add(1))?;
     let mut error_room = [0u8; 100];
     let mut src = MemSource::new(row.script.as_slice(), &[]);
@@ -60,7 +64,10 @@ fn tell_all<K: Sink>(alloc: Global, out: &mut K) -> Result<(), Failed> {
         b"a text of 17,000,000 bytes and an object of 300,000 members",
         many_members(alloc, 17_000_000, 300_000),
     )?;
-    tell(alloc, out, b"20,000 files", many_files(alloc, 20_000))
+    tell(alloc, out, b"20,000 files", many_files(alloc, 20_000))?;
+    tell(alloc, out, b"100,000 sets", many_sets(alloc, 100_000))?;
+    tell(alloc, out, b"60 sets that double", doubling_sets(alloc, 60))?;
+    tell(alloc, out, b"a generated script", generated(alloc))
 }
 
 fn main(rt: HostRuntime) -> ExitCode {

@@ -1,49 +1,88 @@
--- What a style sheet denotes: each name of it has the value of its token, and no other.
-use Rattle.std.specs.Prelude.{◌≡◌, ℕ, List, [], Some}
+-- What the outputs of files hold: for each permutation either four files that denote the values of its tokens, or the first rule that it breaks; and no other.
+use Rattle.std.specs.Prelude.{◌≡◌, ◌⊎◌, ℕ, List, [], ◌∷◌, ◌++◌, codes, Some, Ok}
 use Rattle.std.specs.FinMap as finite
-use Rattle.std.specs.List.{AllByRecursion, AllZip, zip}
-use Rattle.json_span.specs.Answer.{IsAnswer, shows}
-use Rattle.json_span.specs.Tree.{Placed}
-use Rattle.token_tree.specs.Shape.{shape_breaks, shape_of}
-use Rattle.token_tree.specs.Tree.{Group}
-use Rattle.name_path.specs.Names.{IsTokenPath}
-use Rattle.group_inherit.specs.Answer.{IsFlat}
-use Rattle.group_inherit.specs.Flattening.{TokenAt}
+use Rattle.ring.specs.Routes.{In}
+use Rattle.tk_io.specs.FilesData.{FilesData}
+use Rattle.permutations.specs.Permutation.{Permutation}
+use Rattle.file_plan.specs.InUse.{resolver_path}
+use Rattle.file_plan.specs.Plan.{planned, Plans}
+use Rattle.source_trees.specs.MergedTokens.{IsFlatOf}
 use Rattle.alias_ref.specs.Laws.{Flat}
 use Rattle.transforms.specs.Config.{Settings}
-use Rattle.css_out.specs.Lists.{In, Each}
-use Rattle.css_out.specs.Rounds.{Denotes}
-use Rattle.css_out.specs.Sheets.{Cell, cell_entries, sheet_values, Refers}
-use Rattle.tk_io.specs.FilesData.{FilesData}
-use Rattle.build_plain.specs.Cell.{IsValueOf, AreCells}
-use Rattle.build_plain.specs.Breaks.{tokens_path, token_reports, Finds}
-use Rattle.build_plain.specs.Out.{css_sheet}
-use Rattle.build_plain.specs.declared.token_cell.TokenCell.{TokenCell}
+use Rattle.refusals.specs.Refusal.{Report, report_text}
+use Rattle.token_cells.specs.Denotes.{SheetDenotes}
+use Rattle.token_cells.specs.OtherSheets.{AndroidDenotes, SwiftDenotes, JsonDenotes}
+use Rattle.token_cells.specs.declared.token_cell.TokenCell.{TokenCell}
+use Rattle.build_plain.specs.Breaks.{home_of, Finds}
+use Rattle.build_plain.specs.Out.{Builds, settings_of}
 
--- The sheet's bytes are read as one sheet, whose names, after 256 rounds, have exactly the values that the tokens of the flat tree have: each token's
--- value is what its whole value means, read under its kind. Each name that stands in it for a part is one of a token with the part's value.
-pub record SheetDenotes (flat : Flat) (settings : Settings) (bytes : List ℕ) : Type 0 where
-  pub tokens : List Cell
-  pub values : AllZip (λ token c. (c.path ≡ token.0) × IsValueOf flat token.0 c.typed c.links) (finite.entries flat) tokens
-  pub denotes : Denotes bytes (sheet_values settings tokens)
-  pub references : Each tokens (λ c. AllByRecursion (λ e. AllByRecursion (Refers settings tokens c) e.parts) (cell_entries settings c))
+-- the outputs have a file at this path, of whose bytes this holds
+pub record HasFile (out : FilesData) (path : List ℕ) (holds : List ℕ → Type 0) : Type 0 where
+  pub bytes : List ℕ
+  pub there : finite.get out path ≡ Some bytes
+  pub so : holds bytes
 
--- the token file is a text without a break, and this is its tree
-abbrev pub IsTokenTree : FilesData → Group → Type 0
-IsTokenTree files tree =
-    (text : List ℕ) × (finite.get files tokens_path ≡ Some text)
-    × ((n : Placed) × IsAnswer text (shows n) × (shape_breaks n ≡ []) × (tree ≡ shape_of tokens_path text n))
+-- No source of the permutation has a break, nor has its flat tree: its four files are there, and each denotes the values of the tokens of that tree.
+pub record IsAccepted (settings : Settings) (files : FilesData) (p : Permutation) (out : FilesData) : Type 0 where
+  pub cells : List TokenCell
+  pub unbroken : Finds settings files p cells []
+  pub flat : Flat
+  pub is_flat : IsFlatOf files (home_of files) p.sources flat
+  pub css : HasFile out (p.name ++ codes "/tokens.css") (SheetDenotes flat settings)
+  pub android : HasFile out (p.name ++ codes "/tokens.xml") (AndroidDenotes flat settings)
+  pub swift : HasFile out (p.name ++ codes "/Tokens.swift") (SwiftDenotes flat settings)
+  pub json : HasFile out (p.name ++ codes "/tokens.json") (JsonDenotes flat)
 
--- the bytes are a sheet of the flat tree of the files
-abbrev pub FilesDenote : FilesData → Settings → List ℕ → Type 0
-FilesDenote files settings bytes =
-    (tree : Group) × IsTokenTree files tree × ((flat : Flat) × IsFlat tree flat × SheetDenotes flat settings bytes)
+-- The permutation has a break: the first one is told.
+pub record IsRefused (settings : Settings) (files : FilesData) (p : Permutation) (out : FilesData) : Type 0 where
+  pub cells : List TokenCell
+  pub first : Report
+  pub others : List Report
+  pub broken : Finds settings files p cells (first ∷ others)
+  pub told : finite.get out (p.name ++ codes "/REFUSED") ≡ Some (report_text files first)
 
--- Cells without a break, of tokens at paths of the Format Module, give a sheet that denotes their tokens' values.
-abbrev pub CellsDenote : Type 0
-CellsDenote = (flat : Flat) (settings : Settings) (cells : List TokenCell) → AreCells flat settings (finite.entries flat) cells
-    → token_reports flat (zip (finite.entries flat) cells) ≡ [] → ((token : TokenAt) → In token (finite.entries flat) → IsTokenPath token.0) → SheetDenotes flat settings (css_sheet cells)
+-- files under settings that their configuration says, whose plan has these permutations, and their outputs
+pub record AreOutputsOf (files : FilesData) (settings : Settings) (perms : List Permutation) (out : FilesData) : Type 0 where
+  pub configured : settings_of files ≡ Ok settings
+  pub plan : Plans (finite.get files resolver_path) (planned perms)
+  pub outputs : Builds files out
 
--- Where the files have no break, the sheet of their cells denotes the values of the tokens of their flat tree.
-abbrev pub AcceptedDenote : Type 0
-AcceptedDenote = (files : FilesData) (settings : Settings) (cells : List TokenCell) → Finds files settings cells [] → FilesDenote files settings (css_sheet cells)
+-- Each permutation of the plan is accepted or refused.
+abbrev pub EachIsAnswered : Type 0
+EachIsAnswered = (files : FilesData) (settings : Settings) (perms : List Permutation) (out : FilesData) → AreOutputsOf files settings perms out
+    → (p : Permutation) → In p perms → IsAccepted settings files p out ⊎ IsRefused settings files p out
+
+-- .. and not both: it is refused exactly where a rule is broken.
+abbrev pub NeverBoth : Type 0
+NeverBoth = (settings : Settings) (files : FilesData) (p : Permutation) (out : FilesData) → IsAccepted settings files p out → IsRefused settings files p out → ⊥
+
+-- the names of the files of a permutation that is accepted, and of one that is refused
+abbrev pub accepted_names : List (List ℕ)
+accepted_names = codes "/Tokens.swift" ∷ codes "/tokens.css" ∷ codes "/tokens.json" ∷ codes "/tokens.xml" ∷ []
+
+abbrev pub refused_names : List (List ℕ)
+refused_names = codes "/REFUSED" ∷ []
+
+-- the path is that of a file of the permutation, by whether it has a break
+abbrev pub names_by : List Report → List (List ℕ)
+names_by [] = accepted_names
+names_by (r ∷ rs) = refused_names
+
+pub record IsOwnPath (settings : Settings) (files : FilesData) (p : Permutation) (path : List ℕ) : Type 0 where
+  pub cells : List TokenCell
+  pub breaks : List Report
+  pub found : Finds settings files p cells breaks
+  pub ending : List ℕ
+  pub among : In ending (names_by breaks)
+  pub joined : path ≡ p.name ++ ending
+
+-- a permutation whose own path this is
+pub record IsOfOne (settings : Settings) (files : FilesData) (perms : List Permutation) (path : List ℕ) : Type 0 where
+  pub perm : Permutation
+  pub among : In perm perms
+  pub own : IsOwnPath settings files perm path
+
+-- At each path of the outputs stands a file of a permutation.
+abbrev pub NoOtherStands : Type 0
+NoOtherStands = (files : FilesData) (settings : Settings) (perms : List Permutation) (out : FilesData) → AreOutputsOf files settings perms out
+    → (path bytes : List ℕ) → finite.get out path ≡ Some bytes → IsOfOne settings files perms path

@@ -1,197 +1,227 @@
-// Building the outputs of files.
-ghost use Rattle.std.specs.Prelude.{◌≡◌, ◌≢◌, ◌+◌, ◌≤◌, ◌∷◌, [], codes, length, Some, None, Ok, Err, IfOk, OnOk, option_map};
+// Building the outputs of files from nothing.
+ghost use Rattle.std.specs.Prelude.{◌≡◌, ◌+◌, ◌≤◌, Ok, IfOk, OnOk, length};
 ghost use Rattle.std.specs.FinMap as map;
-ghost use Rattle.json_span.specs.View.{node_view};
-ghost use Rattle.token_tree.specs.Promise.{StandsIn};
-ghost use Rattle.token_tree.specs.Shape.{shape_breaks};
+ghost use Rattle.std.specs.List.{AllByRecursion};
 ghost use Rattle.token_tree.specs.Shown.{group_view};
-ghost use Rattle.group_inherit.specs.declared.fault.TreeFault.TheVariants.{NoMemory as OutOfMemory};
-ghost use Rattle.build_plain.specs.Refusal.{report, report_text, counted};
-ghost use Rattle.build_plain.specs.Breaks.{InTokens, InTree, InShape, InText, tokens_path, tree_reports};
-ghost use Rattle.build_plain.specs.Out.{Builds, BuildsUnder, Gives, has_resolver, one_output, verdict};
-ghost use Rattle.build_plain.specs.Work.{parse_count, text_count, IsWork, TreeWork, ShapeWork, TextWork, counters, RiseBy, RiseWithin};
+ghost use Rattle.file_plan.specs.InUse.{resolver_path, resolver_in, files_in_use};
+ghost use Rattle.file_plan.specs.Plan.{Plans, planned, text_count};
+ghost use Rattle.file_plan.specs.View.{plan_perm_view, plan_sources_view, plan_view};
+ghost use Rattle.source_trees.specs.Merging.{AllInlineStand, AreKnown};
+ghost use Rattle.file_plan.specs.Trees.{AreTreesIn};
+ghost use Rattle.source_trees.specs.View.{home_view};
+ghost use Rattle.build_plain.specs.Breaks.{InTokens, InTree, home_of};
+ghost use Rattle.build_plain.specs.Out.{Builds, BuildsUnder, Gives, GivesFrom, GivesOf};
+ghost use Rattle.build_plain.specs.Work.{IsWork, PermWork, PermsWork, RiseBy, RiseWithin, TreeWork, WorkUnder, work};
 
-use crate::cells::cells_of;
 use crate::config::{config_of, refused_config};
-use crate::files::Files;
-use crate::outcome::{one_output, outputs_of};
-use crate::refusal::{append_count, append_lost_group, append_ring_groups, refuse, refuse_span};
-use crate::rule::Rule;
-use group_inherit::{Flat, TreeFault, flatten, one_answer};
-use json_span::{JsonFault, Node, json_laws, read};
+use crate::permutation::{put_source_break, put_tokens, put_tree_break};
+use crate::planning::refused_plan;
+use crate::sources::{RESOLVER, first_file, home_of};
+use file_plan::{Files, PlanPerm, Trees, file_plan_laws, in_use_laws, plan_of, read_tree};
+use group_inherit::{Flat, one_answer};
+use source_trees::{
+    Home, Merge, Merged, Shapes, merge_of, merged_sources, read_named, shapes_known, shapes_of,
+};
 use std::alloc::Global;
 use std::sync::ledger::Ledger;
-use tk_io::{Bytes, NoMemory, Outputs, Steps};
-use token_tree::{Group, ShapeFault, shape};
+use tk_io::{NoMemory, Outputs, Steps};
+use token_cells::cells_of;
+use token_tree::Group;
 use transforms::Config;
 
-/// The file of all tokens.
-const TOKENS: &str = "tokens.json";
-
-/// Why nothing was built.
-#[derive(Clone, Copy, Debug, PartialEq, Eq)]
-pub enum BuildStop {
-    /// The files are none that are built so far.
-    NotYet,
-    /// Memory ran out.
-    NoMemory,
-}
-
-impl From<NoMemory> for BuildStop {
-    ghost use Rattle.std.specs.Prelude.{◌≡◌};
-    ghost use Rattle.build_plain.specs.declared.building.BuildStop.TheVariants.{NoMemory as OutOfMemory};
-
-    ghost from_gives = { λ _ e. e ≡ OutOfMemory };
-
-    fn from(_: NoMemory) -> BuildStop {
-        BuildStop::NoMemory
-    }
-}
-
-fn has_resolver(files: &Files<'_>) -> bool
-    ensures { result ≡ has_resolver files.now }
-{
-    files.get("resolver.json").is_some()
-}
-
-// One output: the refusal of a rule that is broken at a span of the token file.
-fn refused(
-    alloc: Global,
-    files: &Files<'_>,
-    rule: Rule,
-    start: usize,
-    end: usize,
-) -> Result<Outputs, NoMemory>
-    ensures { IfOk result (λ o. o ≡ one_output (codes "default/REFUSED") (report_text files.now (report rule tokens_path start end []))) }
-{
-    let body = refuse(alloc, files, rule, TOKENS, start, end)?;
-    one_output(alloc, "default/REFUSED", body)
-}
-
-// What is printed of a rule of extension that the whole tree breaks.
-fn count_text(alloc: Global, files: &Files<'_>, rule: Rule, count: u64) -> Result<Bytes, NoMemory>
-    ensures { IfOk result (λ b. b ≡ report_text files.now (report rule tokens_path 0 0 (counted count ∷ []))) }
-{
-    let mut out = refuse(alloc, files, rule, TOKENS, 0, 0)?;
-    append_count(&mut out, count)?;
-    Ok(out)
-}
-
-// What is printed of a tree that breaks a rule of extension.
-fn tree_text(alloc: Global, files: &Files<'_>, fault: &TreeFault<'_>) -> Result<Bytes, NoMemory>
-    ensures { IfOk result (λ b. option_map (report_text files.now) (verdict (tree_reports fault.now)) ≡ Some b) }
-{
-    match fault {
-        TreeFault::ExtendsTarget(group, span) => {
-            let mut out = refuse_span(alloc, files, Rule::ExtendsTarget, span)?;
-            append_lost_group(&mut out, group)?;
-            Ok(out)
-        }
-        TreeFault::ExtendsCycle(ring, span) => {
-            let mut out = refuse_span(alloc, files, Rule::ExtendsCycle, span)?;
-            append_ring_groups(&mut out, ring)?;
-            Ok(out)
-        }
-        TreeFault::TooManyTokens(count) => count_text(alloc, files, Rule::ExtendsCount, *count),
-        TreeFault::TooHigh(height) => count_text(alloc, files, Rule::ExtendsHeight, *height),
-        TreeFault::NoMemory => Err(NoMemory),
-    }
-}
-
-// The outputs of a flat tree.
+// Puts the outputs of a flat tree.
 fn build_flat<'s, N: Ledger>(
     alloc: Global,
     files: &Files<'s>,
-    flat: &Flat<'s>,
     cfg: &Config,
+    name: &str,
+    flat: &Flat<'s>,
     evals: &mut Steps<N>,
-) -> Result<Outputs, NoMemory>
-    ensures ok { IfOk result (Gives files.now (InTokens cfg.now flat.now)) }
+    outputs: &mut Outputs,
+) -> Result<(), NoMemory>
+    ensures ok { OnOk result (Gives files.now name.now
+        (InTokens cfg.now flat.now) outputs.old outputs.new) }
     ensures steps { OnOk result (evals.new ≡ evals.old + length (map.entries flat.now)) }
     ensures at_most { evals.new ≤ evals.old + length (map.entries flat.now) }
 {
     let cells = cells_of(alloc, flat, cfg, evals)?;
-    outputs_of(alloc, files, flat, cells.as_slice())
+    put_tokens(alloc, files, name, flat, cells.as_slice(), outputs)
 }
 
-// The outputs of a tree.
+// Puts the outputs of a merged tree.
 fn build_tree<'s, M: Ledger, N: Ledger>(
     alloc: Global,
     files: &Files<'s>,
-    tree: &Group<'s>,
     cfg: &Config,
+    name: &str,
+    first: &str,
+    tree: &Group<'s>,
     merges: &mut Steps<M>,
     evals: &mut Steps<N>,
-) -> Result<Outputs, NoMemory>
-    ensures ok { IfOk result (Gives files.now (InTree cfg.now (group_view tree.now))) }
-    ensures work { OnOk result (RiseBy (TreeWork (group_view tree.now)) (counters merges.old evals.old) (counters merges.new evals.new)) }
-    ensures at_most { RiseWithin (TreeWork (group_view tree.now)) (counters merges.old evals.old) (counters merges.new evals.new) }
+    outputs: &mut Outputs,
+) -> Result<(), NoMemory>
+    ensures ok { OnOk result (Gives files.now name.now
+        (InTree cfg.now first.now (group_view tree.now)) outputs.old outputs.new) }
+    ensures work { OnOk result (RiseBy (TreeWork (group_view tree.now))
+        (work 0 merges.old evals.old) (work 0 merges.new evals.new)) }
+    ensures at_most { RiseWithin (TreeWork (group_view tree.now))
+        (work 0 merges.old evals.old) (work 0 merges.new evals.new) }
 {
     one_answer();
-    match flatten(alloc, tree, merges) {
-        Ok(flat) => build_flat(alloc, files, &flat, cfg, evals),
-        Err(fault) => {
-            let body = tree_text(alloc, files, &fault)?;
-            one_output(alloc, "default/REFUSED", body)
-        }
+    match merge_of(alloc, tree, merges)? {
+        Merge::Flat(flat) => build_flat(alloc, files, cfg, name, &flat, evals, outputs),
+        Merge::Broken(fault) => put_tree_break(alloc, files, name, first, &fault, outputs),
     }
 }
 
-// The outputs of a file's value.
-fn build_root<'s, M: Ledger, N: Ledger>(
+// Puts the outputs of a permutation.
+fn build_perm<'s, M: Ledger, N: Ledger>(
     alloc: Global,
     files: &Files<'s>,
-    text: &'s str,
-    root: &Node<'s>,
     cfg: &Config,
+    shapes: &Shapes<'s>,
+    home: Home<'s>,
+    perm: &PlanPerm<'s>,
+    merges: &mut Steps<M>,
+    evals: &mut Steps<N>,
+    outputs: &mut Outputs,
+) -> Result<(), NoMemory>
+    requires home { home_view home ≡ home_of files.now }
+    requires stand { AllInlineStand home.text.now (plan_sources_view perm.now.sources) }
+    requires known { AreKnown files.now shapes.now (plan_sources_view perm.now.sources) }
+    ensures ok { OnOk result (GivesOf cfg.now files.now
+        (plan_perm_view perm.now) outputs.old outputs.new) }
+    ensures work { OnOk result (RiseBy (PermWork files.now (plan_perm_view perm.now))
+        (work 0 merges.old evals.old) (work 0 merges.new evals.new)) }
+    ensures at_most { RiseWithin (PermWork files.now (plan_perm_view perm.now))
+        (work 0 merges.old evals.old) (work 0 merges.new evals.new) }
+{
+    let name = perm.name.as_str();
+    let sources = perm.sources.as_slice();
+    match merged_sources(alloc, shapes, home, sources)? {
+        Merged::Tree(tree) => {
+            let first = first_file(&home, sources);
+            build_tree(
+                alloc, files, cfg, name, first, &tree, merges, evals, outputs,
+            )
+        }
+        Merged::Broken(found) => put_source_break(alloc, files, name, &found, outputs),
+    }
+}
+
+// The outputs of permutations.
+fn build_perms<'s, M: Ledger, N: Ledger>(
+    alloc: Global,
+    files: &Files<'s>,
+    cfg: &Config,
+    shapes: &Shapes<'s>,
+    plan: &[PlanPerm<'s>],
     merges: &mut Steps<M>,
     evals: &mut Steps<N>,
 ) -> Result<Outputs, NoMemory>
-    requires { StandsIn text.now (node_view root.now) }
-    ensures ok { IfOk result (Gives files.now (InShape cfg.now text.now (node_view root.now) (shape_breaks (node_view root.now)))) }
-    ensures work { OnOk result (RiseBy (ShapeWork text.now (node_view root.now) (shape_breaks (node_view root.now)))
-        (counters merges.old evals.old) (counters merges.new evals.new)) }
-    ensures at_most { RiseWithin (ShapeWork text.now (node_view root.now) (shape_breaks (node_view root.now)))
-        (counters merges.old evals.old) (counters merges.new evals.new) }
+    requires stand { AllByRecursion (λ p. AllInlineStand (home_of files.now).text p.sources)
+        (plan_view plan.now) }
+    requires known { AllByRecursion (λ p. AreKnown files.now shapes.now p.sources)
+        (plan_view plan.now) }
+    ensures ok { IfOk result (GivesFrom cfg.now files.now (plan_view plan.now) map.empty) }
+    ensures work { OnOk result (RiseBy (PermsWork files.now (plan_view plan.now))
+        (work 0 merges.old evals.old) (work 0 merges.new evals.new)) }
+    ensures at_most { RiseWithin (PermsWork files.now (plan_view plan.now))
+        (work 0 merges.old evals.old) (work 0 merges.new evals.new) }
 {
-    match shape(alloc, TOKENS, text, root) {
-        Ok(tree) => build_tree(alloc, files, &tree, cfg, merges, evals),
-        Err(ShapeFault::Broken(rule, start, end)) => {
-            refused(alloc, files, Rule::Shape(rule), start, end)
-        }
-        Err(ShapeFault::NoMemory) => Err(NoMemory),
+    let home = home_of(files);
+    let mut outputs = Outputs::new(alloc);
+    for perm in plan {
+        build_perm(
+            alloc,
+            files,
+            cfg,
+            shapes,
+            home,
+            perm,
+            merges,
+            evals,
+            &mut outputs,
+        )?;
     }
+    Ok(outputs)
 }
 
-// The outputs of the token file's text.
-fn build_text<'s, L: Ledger, M: Ledger, N: Ledger>(
+/// The shapes of all files that the plan names, each of which is read once.
+pub(crate) fn read_shapes<'s, L: Ledger>(
     alloc: Global,
     files: &Files<'s>,
-    text: &'s str,
+    plan: &[PlanPerm<'s>],
+    trees: &mut Trees<'s>,
+    parses: &mut Steps<L>,
+) -> Result<Shapes<'s>, NoMemory>
+    requires trees { AreTreesIn (resolver_in files.now) trees.now }
+    ensures trees { OnOk result
+        (AreTreesIn (files_in_use files.now (plan_view plan.now)) trees.new) }
+    ensures known { IfOk result
+        (λ shapes. AllByRecursion (λ p. AreKnown files.now shapes p.sources) (plan_view plan.now)) }
+    ensures steps { OnOk result (parses.new + text_count (map.get files.now resolver_path)
+        ≡ parses.old + map.len (files_in_use files.now (plan_view plan.now))) }
+    ensures at_most { parses.new + text_count (map.get files.now resolver_path)
+        ≤ parses.old + map.len (files_in_use files.now (plan_view plan.now)) }
+{
+    in_use_laws();
+    shapes_known();
+    read_named(alloc, files, plan, trees, parses)?;
+    shapes_of(alloc, files, trees)
+}
+
+// The outputs of files with this plan. The resolver document is read before.
+fn build_planned<'s, L: Ledger, M: Ledger, N: Ledger>(
+    alloc: Global,
+    files: &Files<'s>,
     cfg: &Config,
+    plan: &[PlanPerm<'s>],
+    trees: &mut Trees<'s>,
     parses: &mut Steps<L>,
     merges: &mut Steps<M>,
     evals: &mut Steps<N>,
 ) -> Result<Outputs, NoMemory>
-    ensures ok { IfOk result (Gives files.now (InText cfg.now (Some text.now))) }
-    ensures parses { parses.new ≡ parses.old + 1 }
-    ensures work { OnOk result (RiseBy (TextWork (Some text.now)) (counters merges.old evals.old) (counters merges.new evals.new)) }
-    ensures at_most { RiseWithin (TextWork (Some text.now)) (counters merges.old evals.old) (counters merges.new evals.new) }
+    requires plan { Plans (map.get files.now resolver_path) (planned (plan_view plan.now)) }
+    requires trees { AreTreesIn (resolver_in files.now) trees.now }
+    ensures ok { IfOk result (GivesFrom cfg.now files.now (plan_view plan.now) map.empty) }
+    ensures steps { OnOk result (parses.new + text_count (map.get files.now resolver_path)
+        ≡ parses.old + map.len (files_in_use files.now (plan_view plan.now))) }
+    ensures work { OnOk result (RiseBy (PermsWork files.now (plan_view plan.now))
+        (work 0 merges.old evals.old) (work 0 merges.new evals.new)) }
+    ensures most_steps { parses.new + text_count (map.get files.now resolver_path)
+        ≤ parses.old + map.len (files_in_use files.now (plan_view plan.now)) }
+    ensures at_most { RiseWithin (PermsWork files.now (plan_view plan.now))
+        (work 0 merges.old evals.old) (work 0 merges.new evals.new) }
 {
-    json_laws();
-    match read(alloc, text, parses) {
-        Ok(root) => build_root(alloc, files, text, &root, cfg, merges, evals),
-        Err(JsonFault::Syntax(at)) => refused(alloc, files, Rule::JsonSyntax, at, at),
-        Err(JsonFault::Dup(start, end)) => {
-            refused(alloc, files, Rule::JsonDuplicate, start, end)
+    file_plan_laws();
+    let shapes = read_shapes(alloc, files, plan, trees, parses)?;
+    build_perms(alloc, files, cfg, &shapes, plan, merges, evals)
+}
+
+/// The tree of the resolver document, where it is there.
+pub(crate) fn read_resolver<'s, L: Ledger>(
+    alloc: Global,
+    files: &Files<'s>,
+    parses: &mut Steps<L>,
+) -> Result<Trees<'s>, NoMemory>
+    ensures trees { IfOk result (AreTreesIn (resolver_in files.now)) }
+    ensures steps { OnOk result (parses.new ≡ parses.old + text_count (map.get files.now resolver_path)) }
+    ensures at_most { parses.new ≤ parses.old + text_count (map.get files.now resolver_path) }
+{
+    let mut trees = Trees::new(alloc);
+    match files.get(RESOLVER) {
+        Some(text) => {
+            let tree = read_tree(alloc, text, parses)?;
+            trees.put(RESOLVER, tree)?;
+            Ok(trees)
         }
-        Err(JsonFault::Deep(start, end)) => refused(alloc, files, Rule::JsonDepth, start, end),
-        Err(JsonFault::NoMemory) => Err(NoMemory),
+        None => Ok(trees),
     }
 }
 
-// The outputs of the one permutation of files without a resolver.
-fn build_default<'s, L: Ledger, M: Ledger, N: Ledger>(
+// The outputs of files under a configuration.
+fn build_under<'s, L: Ledger, M: Ledger, N: Ledger>(
     alloc: Global,
     files: &Files<'s>,
     cfg: &Config,
@@ -200,45 +230,54 @@ fn build_default<'s, L: Ledger, M: Ledger, N: Ledger>(
     evals: &mut Steps<N>,
 ) -> Result<Outputs, NoMemory>
     ensures ok { IfOk result (BuildsUnder files.now (Ok cfg.now)) }
-    ensures parses { parses.new ≡ parses.old + text_count (map.get files.now tokens_path) }
-    ensures work { OnOk result (RiseBy (TextWork (map.get files.now tokens_path)) (counters merges.old evals.old) (counters merges.new evals.new)) }
-    ensures at_most { RiseWithin (TextWork (map.get files.now tokens_path)) (counters merges.old evals.old) (counters merges.new evals.new) }
+    ensures work { OnOk result (RiseBy (WorkUnder files.now (Ok cfg.now))
+        (work parses.old merges.old evals.old) (work parses.new merges.new evals.new)) }
+    ensures at_most { RiseWithin (WorkUnder files.now (Ok cfg.now))
+        (work parses.old merges.old evals.old) (work parses.new merges.new evals.new) }
 {
-    match files.get(TOKENS) {
-        Some(text) => build_text(alloc, files, text, cfg, parses, merges, evals),
-        None => refused(alloc, files, Rule::FileMissing, 0, 0),
+    file_plan_laws();
+    let mut trees = read_resolver(alloc, files, parses)?;
+    match plan_of(alloc, trees.get(RESOLVER)) {
+        Ok(plan) => build_planned(
+            alloc,
+            files,
+            cfg,
+            plan.as_slice(),
+            &mut trees,
+            parses,
+            merges,
+            evals,
+        ),
+        Err(refusal) => refused_plan(alloc, files, &refusal),
     }
 }
 
-/// The outputs of the files, for the one permutation `default` of files without a resolver: `default/tokens.css`, or
-/// `default/REFUSED` with the first rule that is broken: `tokens.json` is absent, or breaks a rule of JSON, of shape or of
-/// extension; a token, the first in path order, breaks a rule of references, of kinds or of values; or two tokens have one
-/// name. Where `tokc.toml` is refused, the one output is `REFUSED`. The file that is read is one step of `parses`, a tree
-/// that is made flat is one of `merges`, and each token of a flat tree is one of `evals`.
+/// The outputs of the files. A permutation `P` has `P/Tokens.swift`, `P/tokens.css`, `P/tokens.json` and `P/tokens.xml`, or
+/// `P/REFUSED` with the first rule that is broken: by its sources in their order, by their merged tree, by a token, the first
+/// in path order, or by two tokens that have one name. Files without `resolver.json` have one permutation, `default`, of
+/// `tokens.json`. Where `tokc.toml` or `resolver.json` is refused, the one output is `REFUSED`.
+///
+/// Each file in use is read once, which is one step of `parses`; a merged tree that is made flat is one of `merges`, and
+/// each token of a flat tree one of `evals`.
 ///
 /// # Errors
-/// `NotYet` exactly where `resolver.json` is there. `NoMemory`.
+/// `NoMemory`. Less may have been done then.
 pub fn build<'s, L: Ledger, M: Ledger, N: Ledger>(
     alloc: Global,
     files: &Files<'s>,
     parses: &mut Steps<L>,
     merges: &mut Steps<M>,
     evals: &mut Steps<N>,
-) -> Result<Outputs, BuildStop>
-    ensures ok { IfOk result (λ o. Builds files.now (Some o)) }
-    ensures not_yet { result ≡ Err BuildStop.NotYet → Builds files.now None }
-    ensures parses { result ≢ Err BuildStop.NoMemory → parses.new ≡ parses.old + parse_count files.now }
-    ensures work { result ≢ Err BuildStop.NoMemory
-        → RiseBy (IsWork files.now) (counters merges.old evals.old) (counters merges.new evals.new) }
+) -> Result<Outputs, NoMemory>
+    ensures ok { IfOk result (Builds files.now) }
+    ensures work { OnOk result (RiseBy (IsWork files.now)
+        (work parses.old merges.old evals.old) (work parses.new merges.new evals.new)) }
     // Where memory runs out, less may have been done.
-    ensures no_more { parses.new ≤ parses.old + parse_count files.now }
-    ensures at_most { RiseWithin (IsWork files.now) (counters merges.old evals.old) (counters merges.new evals.new) }
+    ensures at_most { RiseWithin (IsWork files.now)
+        (work parses.old merges.old evals.old) (work parses.new merges.new evals.new) }
 {
-    if has_resolver(files) {
-        return Err(BuildStop::NotYet);
-    }
     match config_of(alloc, files) {
-        Ok(cfg) => Ok(build_default(alloc, files, &cfg, parses, merges, evals)?),
-        Err(fault) => Ok(refused_config(alloc, files, &fault)?),
+        Ok(cfg) => build_under(alloc, files, &cfg, parses, merges, evals),
+        Err(fault) => refused_config(alloc, files, &fault),
     }
 }

@@ -1,13 +1,12 @@
 // The configuration of files.
 ghost use Rattle.std.specs.Prelude.{◌≡◌, [], Ok, Err, IfOk, IfErr, length};
-ghost use Rattle.build_plain.specs.Refusal.{text_at, report, report_text};
-ghost use Rattle.build_plain.specs.Out.{settings_of, config_path, config_reports, refused_plan};
+ghost use Rattle.refusals.specs.Refusal.{text_at, report, report_text};
+ghost use Rattle.build_plain.specs.Out.{settings_of, config_path, config_reports, refused_config};
 ghost use Rattle.build_plain.specs.inner.Making.{IsConfigFault};
 
-use crate::files::Files;
-use crate::outcome::one_output;
-use crate::refusal::{append_key, refuse, text_at};
-use crate::rule::Rule;
+use crate::output::one_output;
+use file_plan::Files;
+use refusals::{Rule, append_key, refuse, text_at};
 use std::alloc::Global;
 use tk_io::{Bytes, NoMemory, Outputs};
 use transforms::{Config, ConfigFault, read_config};
@@ -15,7 +14,7 @@ use transforms::{Config, ConfigFault, read_config};
 const CONFIG: &str = "tokc.toml";
 
 /// The configuration that `tokc.toml` says, or the defaults where it is not there.
-pub fn config_of(alloc: Global, files: &Files<'_>) -> Result<Config, ConfigFault>
+pub(crate) fn config_of(alloc: Global, files: &Files<'_>) -> Result<Config, ConfigFault>
     ensures ok { IfOk result (λ cfg. settings_of files.now ≡ Ok cfg) }
     ensures refused { IfErr result (IsConfigFault files.now) }
 {
@@ -26,18 +25,20 @@ pub fn config_of(alloc: Global, files: &Files<'_>) -> Result<Config, ConfigFault
 }
 
 fn config_text(alloc: Global, files: &Files<'_>, rule: Rule) -> Result<Bytes, NoMemory>
-    ensures { IfOk result (λ b. b ≡ report_text files.now (report rule config_path 0 (length (text_at files.now config_path)) [])) }
+    ensures { IfOk result (λ b. b ≡ report_text files.now
+        (report rule config_path 0 (length (text_at files.now config_path)) [])) }
 {
     refuse(alloc, files, rule, CONFIG, 0, text_at(files, CONFIG).len())
 }
 
 /// The one output of files whose configuration is refused.
-pub fn refused_config(
+pub(crate) fn refused_config(
     alloc: Global,
     files: &Files<'_>,
     fault: &ConfigFault,
 ) -> Result<Outputs, NoMemory>
-    ensures { IfOk result (refused_plan files.now (config_reports (length (text_at files.now config_path)) fault.now)) }
+    ensures { IfOk result (refused_config files.now
+        (config_reports (length (text_at files.now config_path)) fault.now)) }
 {
     match fault {
         ConfigFault::Toml => {

@@ -1,21 +1,21 @@
-//! The outputs of files, built from nothing.
+//! The outputs of files, for all their permutations: built from nothing, or put together from parts that are kept.
 #![tactic(auto)]
 
+mod assembling;
 mod building;
-mod cells;
 mod config;
-mod files;
+mod keeping;
 mod laws;
-mod outcome;
-mod refusal;
-mod rule;
-mod sheet;
+mod output;
+mod parts;
+mod permutation;
+mod planning;
+mod sources;
 #[cfg(test)]
 mod tests;
-mod token_cell;
-mod verdict;
 
-pub use building::{BuildStop, build};
-pub use files::Files;
-pub use laws::{breaks_are_real, one_build, sheets_denote};
-pub use token_cell::{CellRule, TokenCell, cell};
+pub use assembling::assemble;
+pub use building::build;
+pub use keeping::parts_of;
+pub use laws::{one_build, outputs_denote};
+pub use parts::{CellMap, Parts};

@@ -1,28 +1,33 @@
-//! Token files with what an independent compiler prints of them, files that are not built yet, and each call once.
+//! Files with what an independent compiler makes of them: one token file, or several that a resolver document names.
 
-ghost use Rattle.std.specs.Prelude.{◌≡◌, ◌<◌};
+ghost use Rattle.std.specs.Prelude.{◌≡◌, ◌<◌, IfOk};
+ghost use Rattle.std.specs.FinMap as map;
+ghost use Rattle.build_plain.specs.Parts.{ArePartsOf};
 
+mod plans;
 mod table;
 
+use self::plans::PLANS;
 use self::table::{FURTHER, SHEETS, TEXTS, TOKENS, TREES, VALUES};
-use crate::{BuildStop, CellRule, Files, TokenCell, build, cell};
-use alias_ref::RefRule;
-use group_inherit::flatten;
+use crate::{CellMap, Parts, assemble, build, parts_of};
+use file_plan::{Files, Trees};
 use itoa::Buffer;
-use json_span::read;
-use name_path::print_place;
+use source_trees::Merges;
 use std::alloc::Global;
 use std::marker::Brand;
 use std::process::Abort;
-use std::str;
 use std::sync::ledger::{Blank, Ledger};
 use std::test::Fail;
-use tk_io::{Bytes, NoMemory, Outputs, Steps};
-use token_tree::shape;
-use transforms::Config;
+use tk_io::{NoMemory, Outputs, Steps};
 
 static TOO_MANY: &str =
     "rule extends-count\nfile tokens.json\nline 1 column 1\nbytes 0 0\ncount 24560\n";
+
+static HIGH_AT_FIRST: &str =
+    "rule extends-height\nfile first.json\nline 1 column 1\nbytes 0 0\ncount 65\n";
+
+static FIRST_AND_TOKENS: &str =
+    r##"{"version":"2025.10","resolutionOrder":[{"type":"set","name":"all","sources":[{"$ref":"first.json"},{"$ref":"tokens.json"}]}]}"##;
 
 static TOO_HIGH: &str =
     "rule extends-height\nfile tokens.json\nline 1 column 1\nbytes 0 0\ncount 65\n";
@@ -38,7 +43,7 @@ fn counted<L: Ledger, M: Ledger, N: Ledger>(
     parses: Blank,
     merges: Blank,
     evals: Blank,
-) -> Result<Outputs, BuildStop>
+) -> Result<Outputs, NoMemory>
     requires parses { (parses.name ≡ L.name) × (parses.parts ≡ L.parts) × (0 < L.parts) }
     requires merges { (merges.name ≡ M.name) × (merges.parts ≡ M.parts) × (0 < M.parts) }
     requires evals { (evals.name ≡ N.name) × (evals.parts ≡ N.parts) × (0 < N.parts) }
@@ -49,22 +54,24 @@ fn counted<L: Ledger, M: Ledger, N: Ledger>(
     build(alloc, files, &mut parses, &mut merges, &mut evals)
 }
 
-fn build_files(alloc: Global, files: &Files<'_>) -> Result<Outputs, BuildStop> {
+fn build_files(alloc: Global, files: &Files<'_>) -> Result<Outputs, NoMemory> {
     counted::<Brand, Brand, Brand>(alloc, files, Blank::new(1), Blank::new(1), Blank::new(1))
 }
 
-fn is_built(alloc: Global, files: &Files<'_>, path: &str, body: &str) -> bool {
+/// How many outputs stand beside this one: a refusal stands alone, and a style sheet is one of four files.
+fn count_with(path: &str) -> usize {
+    if path == "default/tokens.css" { 4 } else { 1 }
+}
+
+fn has_output(alloc: Global, files: &Files<'_>, path: &str, body: &str, count: usize) -> bool {
     match build_files(alloc, files) {
-        Ok(outputs) => outputs.len() == 1 && outputs.get(path) == Some(body.as_bytes()),
+        Ok(outputs) => outputs.len() == count && outputs.get(path) == Some(body.as_bytes()),
         Err(_) => false,
     }
 }
 
-fn is_not_yet(alloc: Global, files: &Files<'_>) -> bool {
-    match build_files(alloc, files) {
-        Ok(_) => false,
-        Err(stop) => stop == BuildStop::NotYet,
-    }
+fn is_built(alloc: Global, files: &Files<'_>, path: &str, body: &str) -> bool {
+    has_output(alloc, files, path, body, count_with(path))
 }
 
 /// Where what begins so is printed.
@@ -121,13 +128,107 @@ fn other_files(rt: HostRuntime) -> Result<(), Fail> {
     files.put("tokens.json", "{}")?;
     assert!(rt; is_built(alloc, &files, "default/tokens.css", ":root {\n}\n"));
     files.put("resolver.json", "{")?;
-    assert!(rt; is_not_yet(alloc, &files));
-    assert_eq!(rt; files.len(), 3);
-    assert_eq!(rt; files.get("resolver.json"), Some("{"));
-    assert_eq!(rt; files.at(0), Some(("other.json", "{")));
-    assert_eq!(rt; files.at(3), None);
+    assert!(rt; !is_built(alloc, &files, "default/tokens.css", ":root {\n}\n"));
     files.del("resolver.json");
     assert!(rt; is_built(alloc, &files, "default/tokens.css", ":root {\n}\n"));
+    Ok(())
+}
+
+fn put_all<'s>(files: &mut Files<'s>, texts: &[(&'s str, &'s str)]) -> Result<(), NoMemory> {
+    for (path, text) in texts {
+        files.put(path, text)?;
+    }
+    Ok(())
+}
+
+/// What is kept of no files.
+fn no_parts<'s>(alloc: Global) -> Parts<'s>
+    ensures { ArePartsOf map.empty result }
+{
+    Parts {
+        trees: Trees::new(alloc),
+        merges: Merges::new(alloc),
+        cells: CellMap::new(alloc),
+    }
+}
+
+#[test]
+fn no_files_assembled(rt: HostRuntime) -> Result<(), Fail> {
+    let alloc = rt.alloc();
+    let files = Files::new(alloc);
+    let parts = no_parts(alloc);
+    let outputs = assemble(alloc, &files, &parts)?;
+    assert_eq!(rt; outputs.len(), 1);
+    assert_eq!(rt; outputs.get("default/REFUSED"), Some(MISSING.as_bytes()));
+    Ok(())
+}
+
+fn counted_parts<'s, L: Ledger, M: Ledger, N: Ledger>(
+    alloc: Global,
+    files: &Files<'s>,
+    parses: Blank,
+    merges: Blank,
+    evals: Blank,
+) -> Result<Parts<'s>, NoMemory>
+    requires parses { (parses.name ≡ L.name) × (parses.parts ≡ L.parts) × (0 < L.parts) }
+    requires merges { (merges.name ≡ M.name) × (merges.parts ≡ M.parts) × (0 < M.parts) }
+    requires evals { (evals.name ≡ N.name) × (evals.parts ≡ N.parts) × (0 < N.parts) }
+    ensures { IfOk result (ArePartsOf files.now) }
+{
+    let mut parses: Steps<L> = Steps::new(parses);
+    let mut merges: Steps<M> = Steps::new(merges);
+    let mut evals: Steps<N> = Steps::new(evals);
+    parts_of(alloc, files, &mut parses, &mut merges, &mut evals)
+}
+
+fn keep_files<'s>(alloc: Global, files: &Files<'s>) -> Result<Parts<'s>, NoMemory>
+    ensures { IfOk result (ArePartsOf files.now) }
+{
+    counted_parts::<Brand, Brand, Brand>(alloc, files, Blank::new(1), Blank::new(1), Blank::new(1))
+}
+
+static SPACE: &str = r##"{"space":{"$type":"dimension","s":{"$value":{"value":4,"unit":"px"}}}}"##;
+
+static SPACE_SHEET: &str = ":root {\n  --space-s: 4px;\n}\n";
+
+/// The outputs of a permutation without a break.
+static PATHS: [&str; 4] = [
+    "default/Tokens.swift",
+    "default/tokens.css",
+    "default/tokens.json",
+    "default/tokens.xml",
+];
+
+#[test]
+fn parts_assembled(rt: HostRuntime) -> Result<(), Fail> {
+    let alloc = rt.alloc();
+    let mut files = Files::new(alloc);
+    files.put("tokens.json", SPACE)?;
+    let parts = keep_files(alloc, &files)?;
+    let outputs = assemble(alloc, &files, &parts)?;
+    let built = build_files(alloc, &files)?;
+    assert_eq!(rt; outputs.len(), 4);
+    assert_eq!(rt;
+        outputs.get("default/tokens.css"),
+        Some(SPACE_SHEET.as_bytes())
+    );
+    for path in &PATHS {
+        assert_eq!(rt; outputs.get(path), built.get(path));
+    }
+    Ok(())
+}
+
+#[test]
+fn plans_of_resolver_documents(rt: HostRuntime) -> Result<(), Fail> {
+    let alloc = rt.alloc();
+    for (texts, path, body, count) in &PLANS {
+        let mut files = Files::new(alloc);
+        put_all(&mut files, texts)?;
+        assert!(rt;
+            has_output(alloc, &files, path, body, *count),
+            "{path}: {body}"
+        );
+    }
     Ok(())
 }
 
@@ -172,61 +273,6 @@ fn configurations(rt: HostRuntime) -> Result<(), Fail> {
         files.put("tokc.toml", config)?;
         assert!(rt; is_built(alloc, &files, path, body), "{config}");
     }
-    Ok(())
-}
-
-/// The ring of references that the first token of a file closes; none where it breaks no rule or another one.
-fn first_ring<L: Ledger>(alloc: Global, text: &[u8], page: Blank) -> Option<Bytes>
-    requires page { (page.name ≡ L.name) × (page.parts ≡ L.parts) × (0 < L.parts) }
-{
-    let mut steps: Steps<L> = Steps::new(page);
-    let text = str::from_utf8(text).ok()?;
-    let Ok(root) = read(alloc, text, &mut steps) else {
-        return None;
-    };
-    let Ok(group) = shape(alloc, "t", text, &root) else {
-        return None;
-    };
-    let Ok(flat) = flatten(alloc, &group, &mut steps) else {
-        return None;
-    };
-    let Some((path, _)) = flat.at(0) else {
-        return None;
-    };
-    if flat.get(path).is_none() {
-        return None;
-    }
-    let cfg = Config::plain(alloc);
-    let Ok(
-        TokenCell::Refused {
-            rule: CellRule::Ref(RefRule::Cycle),
-            place: _,
-            ring,
-        },
-    ) = cell(alloc, &flat, path, &cfg, &mut steps)
-    else {
-        return None;
-    };
-    let mut out = Bytes::new(alloc);
-    for place in ring.as_slice() {
-        print_place(place, &mut out).ok()?;
-        out.append(b" ").ok()?;
-    }
-    Some(out)
-}
-
-fn ring_of(alloc: Global, text: &str) -> Option<Bytes> {
-    first_ring::<Brand>(alloc, text.as_bytes(), Blank::new(1))
-}
-
-#[test]
-fn a_ring_of_three(rt: HostRuntime) -> Result<(), Fail> {
-    let text = r##"{"a":{"$value":"{b}"},"b":{"$value":"{c}"},"c":{"$value":"{a}"}}"##;
-    let ring = ring_of(rt.alloc(), text).expect(&rt, "a ring");
-    assert_eq!(rt;
-        ring.as_slice(),
-        b"#/a/$value #/b/$value #/c/$value ".as_slice()
-    );
     Ok(())
 }
 
@@ -303,9 +349,55 @@ fn too_many_and_too_high(rt: HostRuntime) -> Result<(), Fail> {
     assert!(rt; is_built(alloc, &files, "default/REFUSED", TOO_MANY));
     files.put("tokens.json", high.as_str())?;
     assert!(rt; is_built(alloc, &files, "default/REFUSED", TOO_HIGH));
+    files.put("first.json", "{}")?;
+    files.put("resolver.json", FIRST_AND_TOKENS)?;
+    assert!(rt; is_built(alloc, &files, "default/REFUSED", HIGH_AT_FIRST));
     files.put("tokens.json", allowed.as_str())?;
     assert!(rt;
         build_files(alloc, &files).is_ok_and(|outputs| outputs.get("default/tokens.css").is_some())
     );
+    Ok(())
+}
+
+/// The files of one token, on every platform.
+static FOUR_FILES: [(&str, &str); 4] = [
+    (
+        "default/Tokens.swift",
+        "import UIKit\n\npublic enum Tokens {\n  public static let space_s: CGFloat = 4.0\n}\n",
+    ),
+    ("default/tokens.css", ":root {\n  --space-s: 4px;\n}\n"),
+    (
+        "default/tokens.json",
+        "{\n  \"space.s\": {\"$type\": \"dimension\", \"$value\": {\"value\": 4, \"unit\": \"px\"}}\n}\n",
+    ),
+    (
+        "default/tokens.xml",
+        "<?xml version=\"1.0\" encoding=\"utf-8\"?>\n<resources>\n  <dimen name=\"space_s\">4dp</dimen>\n</resources>\n",
+    ),
+];
+
+static CLASH_ON_ANDROID: &str =
+    "rule name-clash\nfile tokens.json\nline 1 column 44\nbytes 43 72\ntoken \"a_b\"\nother \"a-b\"\nplatform android\n";
+
+#[test]
+fn the_files_of_every_platform(rt: HostRuntime) -> Result<(), Fail> {
+    let alloc = rt.alloc();
+    let mut files = Files::new(alloc);
+    files.put(
+        "tokens.json",
+        r##"{"space":{"$type":"dimension","s":{"$value":{"value":4,"unit":"px"}}}}"##,
+    )?;
+    for (path, body) in FOUR_FILES {
+        assert!(rt;
+            build_files(alloc, &files).is_ok_and(|outputs| outputs.get(path)
+                == Some(body.as_bytes())),
+            "{path}"
+        );
+    }
+    files.put(
+        "tokens.json",
+        r##"{"a-b":{"$type":"number","$value":1},"a_b":{"$type":"number","$value":2}}"##,
+    )?;
+    assert!(rt; is_built(alloc, &files, "default/REFUSED", CLASH_ON_ANDROID));
     Ok(())
 }

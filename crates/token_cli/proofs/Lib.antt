@@ -6,6 +6,8 @@ pub mod Outcomes
 pub mod Pieces
 pub mod Places
 pub mod Records
+pub mod Refusals
 pub mod Standing
 pub mod Stops
 pub mod Streams
+pub mod Told

@@ -1,18 +1,20 @@
--- A stream of which a part was written, and not all, was not written whole.
-use Rattle.std.proofs.Common.{◌≡◌, ◌∙◌, inl, inr, ◌<◌, ◌≤◌, ◌+◌, ℕ, zero, suc, Bool, List, [], ◌∷◌, ◌++◌, length, take, Option, Some, None, ap, sym, subst, refl, arith, length-append}
+-- What was written in part, and not all, was not written whole.
+use Rattle.std.proofs.Common.{◌≡◌, ◌∙◌, inl, inr, ◌<◌, ◌≤◌, ℕ, zero, suc, Bool, List, [], ◌∷◌, length, take, Option, Some, None, ap, sym, subst, refl, arith, length-append}
 use Rattle.std.proofs.KnownBytes.{Appends-nil}
 use Rattle.std.specs.Io.KnownBytes.{Appends}
 use Rattle.std.proofs.lemmas.Option.{none-some}
 use Rattle.std.specs.FinMap as map
-use Rattle.std.specs.List.{flat_map, slice_get}
+use Rattle.std.specs.List.{slice_get}
 use Rattle.edit_script.specs.Script.{EventData}
 use Rattle.edit_script.specs.Delta.{Held, Delta, AreDeltas}
-use Rattle.edit_script.specs.Stream.{commits_text, line_text, record_of, stream_of}
-use Rattle.edit_script.specs.declared.line.Line.TheVariants.{StreamHead, Commit, Done}
-use Rattle.edit_script.proofs.Deltas.{stream_is}
+use Rattle.edit_script.specs.Stream.{line_text}
+use Rattle.edit_script.specs.declared.line.Line.TheVariants.{Done}
 use Rattle.build_plain.specs.Laws.{OneBuild}
-use Rattle.token_cli.specs.Headline.{AreCommits, WrotePart, WroteStream, commits_so_far, is_refused, last_held}
+use Rattle.token_cli.specs.Headline.{AreCommits, WrotePart, WroteWhole, is_refused, last_held}
+use Rattle.token_cli.specs.Told.{all_commits, commits_so_far, head_line, whole_text}
+use Rattle.token_cli.specs.declared.telling.Telling.{Telling}
 use Rattle.token_cli.proofs.Streams.{one_deltas, one_held}
+use Rattle.token_cli.proofs.Told.{no_longer, some_last, text_is}
 
 taken_at : {A : Type 0} (n : ℕ) (xs : List A) (k : ℕ) (x : A) → slice_get (take n xs) k ≡ Some x → slice_get xs k ≡ Some x
 taken_at zero xs k x e = absurd (none-some x e)
@@ -39,28 +41,15 @@ first_commits n es held deltas h commits = record {
   changes = first_changes n map.empty held deltas commits.changes;
 }
 
-longer : (a b c d : List ℕ) → length c ≤ length d → length (a ++ b ++ c) ≤ length (a ++ b ++ d)
-longer a b c d h = omega (arith, h, length-append (a ++ b) c, length-append (a ++ b) d)
-
--- the text of the first commits is no longer than that of all
-no_longer : (n k : ℕ) (ds : List Delta) → length (commits_text k (take n ds)) ≤ length (commits_text k ds)
-unfolding commits_text
-no_longer zero k ds = omega arith
-no_longer (suc n) k [] = omega arith
-no_longer (suc n) k (d ∷ ds) = longer (line_text (Commit k)) (flat_map record_of (map.entries d)) (commits_text (k + 1) (take n ds)) (commits_text (k + 1) ds) (no_longer n (k + 1) ds)
-
-some_end : (n : ℕ) → 0 < length (line_text (Done n))
-some_end n = omega arith
-
--- the first commits of a script make less than its stream
-less_than_stream : (one : OneBuild) (es : List EventData) (held others : List Held) (deltas changes : List Delta) → AreCommits es held deltas → AreCommits es others changes → length held < length others → length (commits_so_far deltas) < length (stream_of changes)
-less_than_stream one es held others deltas changes left right below =
+-- the first commits of a script make less than all
+less_than_all : (told : Telling) (one : OneBuild) (es : List EventData) (held others : List Held) (deltas changes : List Delta) → AreCommits es held deltas → AreCommits es others changes → length held < length others → length (commits_so_far told deltas) < length (whole_text told changes)
+less_than_all told one es held others deltas changes left right below =
     let n = length held in
     let within : n ≤ length others = omega (arith, below) in
     let same : deltas ≡ take n changes = one_deltas one es held (take n others) deltas (take n changes) left (first_commits n es others changes within right) (sym (taken_length n others within)) in
-    let front : length (commits_so_far deltas) ≡ length (commits_so_far (take n changes)) = ap (λ ds. length (commits_so_far ds)) same in
+    let front : length (commits_so_far told deltas) ≡ length (commits_so_far told (take n changes)) = ap (λ ds. length (commits_so_far told ds)) same in
     let last = line_text (Done (length changes)) in
-    omega (arith, front, no_longer n 1 changes, some_end (length changes), ap length (stream_is changes), length-append (commits_so_far changes) last, length-append (line_text StreamHead) (commits_text 1 changes), length-append (line_text StreamHead) (commits_text 1 (take n changes)))
+    omega (arith, front, no_longer told n 1 changes, some_last (length changes), ap length (text_is told changes), length-append (commits_so_far told changes) last, length-append (line_text (head_line told)) (all_commits told 1 changes), length-append (line_text (head_line told)) (all_commits told 1 (take n changes)))
 
 -- bytes that grew by less than a text did not grow by it
 grew_less : (old new : Option (List ℕ)) (before front text : List ℕ) → old ≡ Some before → Appends old new front → Appends old new text → length front < length text → ⊥
@@ -68,31 +57,31 @@ grew_less None new before front text e p q h = none-some before e
 grew_less (Some xs) None before front text e p q h = p
 grew_less (Some xs) (Some ys) before front text e p q h = omega (arith, ap length p, ap length q, length-append xs front, length-append xs text, h)
 
-pub part_or_whole : (one : OneBuild) (es : List EventData) (refused : Bool) (old new : Option (List ℕ)) (before : List ℕ) → old ≡ Some before → WrotePart es old new → WroteStream es refused old new → ⊥
-part_or_whole one es refused old new before told (held, deltas, commits, inl (below, front)) wrote =
+pub part_or_whole : (told : Telling) (one : OneBuild) (es : List EventData) (refused : Bool) (old new : Option (List ℕ)) (before : List ℕ) → old ≡ Some before → WrotePart told es old new → WroteWhole told es refused old new → ⊥
+part_or_whole told one es refused old new before holds (held, deltas, commits, inl (below, front)) wrote =
     let (others, changes, all, count, refusal, text) = wrote in
     let (done, rest, split, appended) = front in
-    grew_less old new before done (stream_of changes) told appended text
-    (omega (arith, ap length split, length-append done rest, less_than_stream one es held others deltas changes commits all (omega (arith, below, count))))
-part_or_whole one es refused old new before told (held, deltas, commits, inr (whole, part)) wrote =
+    grew_less old new before done (whole_text told changes) holds appended text
+    (omega (arith, ap length split, length-append done rest, less_than_all told one es held others deltas changes commits all (omega (arith, below, count))))
+part_or_whole told one es refused old new before holds (held, deltas, commits, inr (whole, part)) wrote =
     let (others, changes, all, count, refusal, text) = wrote in
     let (done, rest, split, some, appended) = part in
     let same : deltas ≡ changes = one_deltas one es held others deltas changes commits all (whole ∙ sym count) in
-    grew_less old new before done (stream_of changes) told appended text
-    (omega (arith, ap length split, length-append done rest, some, ap (λ ds. length (stream_of ds)) same))
+    grew_less old new before done (whole_text told changes) holds appended text
+    (omega (arith, ap length split, length-append done rest, some, ap (λ ds. length (whole_text told ds)) same))
 
 -- nothing was written where nothing changed
-pub none_or_whole : (es : List EventData) (refused : Bool) (old new : Option (List ℕ)) (before : List ℕ) → old ≡ Some before → new ≡ old → WroteStream es refused old new → ⊥
-none_or_whole es refused old new before told same wrote =
+pub none_or_whole : (told : Telling) (es : List EventData) (refused : Bool) (old new : Option (List ℕ)) (before : List ℕ) → old ≡ Some before → new ≡ old → WroteWhole told es refused old new → ⊥
+none_or_whole told es refused old new before holds same wrote =
     let (others, changes, all, count, refusal, text) = wrote in
     let P : Option (List ℕ) → Type 0 = λ o. Appends old o [] in
     let last = line_text (Done (length changes)) in
-    grew_less old new before [] (stream_of changes) told (subst P (sym same) (Appends-nil old)) text
-    (omega (arith, ap length (stream_is changes), length-append (commits_so_far changes) last, some_end (length changes)))
+    grew_less old new before [] (whole_text told changes) holds (subst P (sym same) (Appends-nil old)) text
+    (omega (arith, ap length (text_is told changes), length-append (commits_so_far told changes) last, some_last (length changes)))
 
 -- two whole streams of a script end alike
-pub one_end : (one : OneBuild) (es : List EventData) (x y : Bool) (old new : Option (List ℕ)) → WroteStream es x old new → WroteStream es y old new → x ≡ y
-one_end one es x y old new left right =
+pub one_end : (told : Telling) (one : OneBuild) (es : List EventData) (x y : Bool) (old new : Option (List ℕ)) → WroteWhole told es x old new → WroteWhole told es y old new → x ≡ y
+one_end told one es x y old new left right =
     let (held, deltas, commits, count, refusal, text) = left in
     let (others, changes, all, total, ending, text_too) = right in
     sym refusal ∙ (ap (λ h. is_refused (last_held h)) (one_held one es held others deltas changes commits all (count ∙ sym total)) ∙ ending)

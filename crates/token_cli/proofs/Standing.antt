@@ -1,23 +1,25 @@
 -- What stands when the first events of a script were taken, and what was written by then.
-use Rattle.std.proofs.Common.{◌≡◌, ◌∙◌, ◌⊎◌, ◌≤◌, ◌<◌, ◌+◌, ℕ, zero, suc, List, [], ◌∷◌, ◌++◌, length, length-append, take, drop, Option, Some, ap, sym, subst, refl, inl, inr, arith, append_assoc}
+use Rattle.std.proofs.Common.{◌≡◌, ◌∙◌, ◌⊎◌, ◌≤◌, ◌<◌, ◌+◌, ℕ, zero, suc, List, [], ◌∷◌, ◌++◌, length, length-append, append-nil, take, drop, Option, Some, ap, sym, subst, refl, inl, inr, arith, append_assoc}
 use Rattle.std.proofs.KnownBytes.{Appends-trans}
 use Rattle.std.proofs.lemmas.Option.{none-some}
 use Rattle.std.specs.FinMap as map
-use Rattle.std.specs.List.{slice_get, flat_map}
+use Rattle.std.specs.List.{slice_get}
 use Rattle.std.specs.Io.KnownBytes.{Appends}
 use Rattle.edit_script.specs.Script.{EventData, put, del, commit}
 use Rattle.tk_io.specs.FilesData.{FilesData}
 use Rattle.edit_script.specs.Files.{AreFilesAfter, AreFilesAt, commit_count, up_to}
 use Rattle.edit_script.specs.Delta.{Held, Delta, IsDelta, AreDeltas}
-use Rattle.edit_script.specs.Stream.{line_text, commits_text, record_of}
-use Rattle.edit_script.specs.declared.line.Line.TheVariants.{StreamHead, Commit}
-use Rattle.edit_script.proofs.Deltas.{one_more_delta, no_commits, more_commits}
+use Rattle.edit_script.specs.Stream.{line_text}
+use Rattle.edit_script.proofs.Deltas.{one_more_delta}
 use Rattle.edit_script.proofs.Standing.{empty_files, put_files, del_files, commit_files, up_to_here, count_parts}
-use Rattle.token_cli.specs.Headline.{AreCommits, BuildsAt, commits_so_far, last_held}
-use Rattle.token_cli.specs.Step.{State, Follows, Leads, commit_text}
+use Rattle.token_cli.specs.Headline.{AreCommits, BuildsAt, last_held}
+use Rattle.token_cli.specs.Step.{State, Follows, Leads}
+use Rattle.token_cli.specs.Told.{all_commits, commit_text, commits_so_far, head_line}
+use Rattle.token_cli.specs.declared.telling.Telling.{Telling}
 use Rattle.token_cli.proofs.Lists.{split_here, take_more, at_pushed, last_pushed}
+use Rattle.token_cli.proofs.Told.{no_text, more_text}
 
-pub record Stands (es : List EventData) (i : ℕ) (s : State) (old now : Option (List ℕ)) : Type 0 where
+pub record Stands (told : Telling) (es : List EventData) (i : ℕ) (s : State) (old now : Option (List ℕ)) : Type 0 where
   pub held : List Held
   pub deltas : List Delta
   pub files : AreFilesAfter (take i es) s.files
@@ -25,7 +27,7 @@ pub record Stands (es : List EventData) (i : ℕ) (s : State) (old now : Option 
   pub count : s.commits ≡ commit_count (take i es)
   pub length : length held ≡ s.commits
   pub last : s.held ≡ last_held held
-  pub text : Appends old now (commits_so_far deltas)
+  pub text : Appends old now (commits_so_far told deltas)
 
 pub as_many : (before : Held) (held : List Held) (deltas : List Delta) → AreDeltas before held deltas → length deltas ≡ length held
 as_many before [] [] h = refl
@@ -33,37 +35,34 @@ as_many before [] (d ∷ ds) h = absurd h
 as_many before (o ∷ os) [] h = absurd h
 as_many before (o ∷ os) (d ∷ ds) h = ap suc (as_many o os ds h.1)
 
-no_held : (es : List EventData) (k : ℕ) (out : Held) → slice_get [] k ≡ Some out → BuildsAt es (suc k) (Some out)
+no_held : (es : List EventData) (k : ℕ) (out : Held) → slice_get [] k ≡ Some out → BuildsAt es (suc k) out
 no_held es k out e = absurd (none-some out e)
 
 pub no_commit : (es : List EventData) → AreCommits es [] []
 no_commit es = record { count = omega arith; built = no_held es; changes = tt }
 
-pub nothing_yet : commits_so_far [] ≡ line_text StreamHead
-nothing_yet = ap (λ l. line_text StreamHead ++ l) (no_commits 1)
+pub nothing_yet : (told : Telling) → commits_so_far told [] ≡ line_text (head_line told)
+nothing_yet told = ap (λ l. line_text (head_line told) ++ l) (no_text told 1) ∙ append-nil (line_text (head_line told))
 
 -- behind the header
-pub stands_first : (es : List EventData) (s : State) (old now : Option (List ℕ)) → s ≡ record { files = map.empty; held = map.empty; commits = 0 } → Appends old now (line_text StreamHead) → Stands es 0 s old now
-stands_first es s old now is written =
+pub stands_first : (told : Telling) (es : List EventData) (s : State) (old now : Option (List ℕ)) → s ≡ record { files = map.empty; held = map.empty; commits = 0 } → Appends old now (line_text (head_line told)) → Stands told es 0 s old now
+stands_first told es s old now is written =
     let P : List ℕ → Type 0 = λ l. Appends old now l in
-    let Q : State → Type 0 = λ t. Stands es 0 t old now in
-    subst Q (sym is) (record { held = []; deltas = []; files = empty_files; commits = no_commit es; count = refl; length = refl; last = refl; text = subst P (sym nothing_yet) written })
+    let Q : State → Type 0 = λ t. Stands told es 0 t old now in
+    subst Q (sym is) (record { held = []; deltas = []; files = empty_files; commits = no_commit es; count = refl; length = refl; last = refl; text = subst P (sym (nothing_yet told)) written })
 
-regrouped : (a b c d : List ℕ) → a ++ (b ++ c ++ d) ≡ (a ++ b) ++ (c ++ d)
-regrouped a b c d = simp append_assoc
-
-pub one_more_text : (ds : List Delta) (d : Delta) (k : ℕ) → k ≡ length ds → commits_so_far (ds ++ (d ∷ [])) ≡ commits_so_far ds ++ commit_text (k + 1) d
-one_more_text ds d k e =
+pub one_more_text : (told : Telling) (ds : List Delta) (d : Delta) (k : ℕ) → k ≡ length ds → commits_so_far told (ds ++ (d ∷ [])) ≡ commits_so_far told ds ++ commit_text told (k + 1) d
+one_more_text told ds d k e =
     let number : 1 + length ds ≡ k + 1 = omega (arith, e) in
-    ap (λ l. line_text StreamHead ++ l) (more_commits 1 ds d ∙ ap (λ n. commits_text 1 ds ++ line_text (Commit n) ++ flat_map record_of (map.entries d)) number)
-    ∙ regrouped (line_text StreamHead) (commits_text 1 ds) (line_text (Commit (k + 1))) (flat_map record_of (map.entries d))
+    ap (λ l. line_text (head_line told) ++ l) (more_text told 1 ds d ∙ ap (λ n. all_commits told 1 ds ++ commit_text told n d) number)
+    ∙ sym (append_assoc (line_text (head_line told)) (all_commits told 1 ds) (commit_text told (k + 1) d))
 
 -- the k-th outputs of the files at the k-th commit, where one more commit was taken
-built_more : (es : List EventData) (held : List Held) (next out : Held) (k : ℕ) → BuildsAt es (suc (length held)) (Some next) → ((j : ℕ) → (o : Held) → slice_get held j ≡ Some o → BuildsAt es (suc j) (Some o)) → (slice_get held k ≡ Some out) ⊎ ((k ≡ length held) × (next ≡ out)) → BuildsAt es (suc k) (Some out)
+built_more : (es : List EventData) (held : List Held) (next out : Held) (k : ℕ) → BuildsAt es (suc (length held)) next → ((j : ℕ) → (o : Held) → slice_get held j ≡ Some o → BuildsAt es (suc j) o) → (slice_get held k ≡ Some out) ⊎ ((k ≡ length held) × (next ≡ out)) → BuildsAt es (suc k) out
 built_more es held next out k new before (inl e) = before k out e
 built_more es held next out k new before (inr (n, e)) =
-    let P : Held → Type 0 = λ o. BuildsAt es (suc k) (Some o) in
-    let Q : ℕ → Type 0 = λ j. BuildsAt es (suc j) (Some next) in
+    let P : Held → Type 0 = λ o. BuildsAt es (suc k) o in
+    let Q : ℕ → Type 0 = λ j. BuildsAt es (suc j) next in
     subst P e (subst Q (sym n) new)
 
 -- the files at the commit that comes next
@@ -82,11 +81,11 @@ count_below es i e =
     let before = take i es in
     omega (arith, ap commit_count (split_here es i commit e), count_parts before (commit ∷ drop (suc i) es))
 
-pub commits_more : (es : List EventData) (i : ℕ) (s : State) (old now : Option (List ℕ)) (next : Held) (d : Delta) → (stands : Stands es i s old now) → slice_get es i ≡ Some commit → Leads s next d → AreCommits es (stands.held ++ (next ∷ [])) (stands.deltas ++ (d ∷ []))
-commits_more es i s old now next d stands e leads =
+pub commits_more : (told : Telling) (es : List EventData) (i : ℕ) (s : State) (old now : Option (List ℕ)) (next : Held) (d : Delta) → (stands : Stands told es i s old now) → slice_get es i ≡ Some commit → Leads s next d → AreCommits es (stands.held ++ (next ∷ [])) (stands.deltas ++ (d ∷ []))
+commits_more told es i s old now next d stands e leads =
     let held = stands.held in
     let many : length held ≡ commit_count (take i es) = stands.length ∙ stands.count in
-    let here : BuildsAt es (suc (length held)) (Some next) = (s.files, files_here es i (length held) s.files e stands.files many, leads.0) in
+    let here : BuildsAt es (suc (length held)) next = (s.files, files_here es i (length held) s.files e stands.files many, leads.0) in
     let P : Held → Type 0 = λ o. IsDelta o next d in
     record {
       count = omega (arith, many, count_below es i e, length-append held (next ∷ []));
@@ -95,8 +94,8 @@ commits_more es i s old now next d stands e leads =
     }
 
 -- one event more
-pub stands_more : (es : List EventData) (i : ℕ) (e : EventData) (s t : State) (old now new : Option (List ℕ)) → slice_get es i ≡ Some e → Stands es i s old now → Follows e s t now new → Stands es (i + 1) t old new
-stands_more es i (put p text) s t old now new e stands follows =
+pub stands_more : (told : Telling) (es : List EventData) (i : ℕ) (e : EventData) (s t : State) (old now new : Option (List ℕ)) → slice_get es i ≡ Some e → Stands told es i s old now → Follows told e s t now new → Stands told es (i + 1) t old new
+stands_more told es i (put p text) s t old now new e stands follows =
     let (files, held, commits, written) = follows in
     let more = take_more es i (put p text) e in
     let P : List EventData → Type 0 = λ l. AreFilesAfter l t.files in
@@ -111,7 +110,7 @@ stands_more es i (put p text) s t old now new e stands follows =
       last = held ∙ stands.last;
       text = rw written stands.text;
     }
-stands_more es i (del p) s t old now new e stands follows =
+stands_more told es i (del p) s t old now new e stands follows =
     let (files, held, commits, written) = follows in
     let more = take_more es i (del p) e in
     let P : List EventData → Type 0 = λ l. AreFilesAfter l t.files in
@@ -126,7 +125,7 @@ stands_more es i (del p) s t old now new e stands follows =
       last = held ∙ stands.last;
       text = rw written stands.text;
     }
-stands_more es i commit s t old now new e stands follows =
+stands_more told es i commit s t old now new e stands follows =
     let (files, commits, (d, leads, written)) = follows in
     let more = take_more es i commit e in
     let P : List EventData → Type 0 = λ l. AreFilesAfter l t.files in
@@ -137,11 +136,11 @@ stands_more es i commit s t old now new e stands follows =
       held = held ++ (t.held ∷ []);
       deltas = stands.deltas ++ (d ∷ []);
       files = subst P (sym more) (subst F (sym files) (commit_files (take i es) s.files stands.files));
-      commits = commits_more es i s old now t.held d stands e leads;
+      commits = commits_more told es i s old now t.held d stands e leads;
       count = omega (arith, commits, stands.count, ap commit_count more, count_parts (take i es) (commit ∷ []));
       length = omega (arith, length-append held (t.held ∷ []), stands.length, commits);
       last = sym (last_pushed held map.empty t.held map.empty);
-      text = subst T (sym (one_more_text stands.deltas d s.commits (sym (as_many map.empty held stands.deltas stands.commits.changes ∙ stands.length)))) (Appends-trans old now new (commits_so_far stands.deltas) (commit_text (s.commits + 1) d) stands.text written);
+      text = subst T (sym (one_more_text told stands.deltas d s.commits (sym (as_many map.empty held stands.deltas stands.commits.changes ∙ stands.length)))) (Appends-trans old now new (commits_so_far told stands.deltas) (commit_text told (s.commits + 1) d) stands.text written);
     }
 
 -- no more commits than events

@@ -1,6 +1,5 @@
 -- A script has one stream.
 use Rattle.std.proofs.Common.{◌≡◌, ◌∙◌, ℕ, suc, List, [], ◌∷◌, length, Some, ap, sym, subst, refl, arith}
-use Rattle.std.proofs.lemmas.Option.{same_Some}
 use Rattle.std.specs.FinMap as map
 use Rattle.std.specs.List.{slice_get}
 use Rattle.edit_script.specs.Script.{EventData}
@@ -13,12 +12,12 @@ use Rattle.build_plain.specs.Out.{Builds}
 use Rattle.build_plain.specs.Laws.{OneBuild}
 use Rattle.token_cli.specs.Headline.{AreCommits, BuildsAt}
 
-one_built : (one : OneBuild) (es : List EventData) (k : ℕ) (a b : Held) → BuildsAt es k (Some a) → BuildsAt es k (Some b) → a ≡ b
+one_built : (one : OneBuild) (es : List EventData) (k : ℕ) (a b : Held) → BuildsAt es k a → BuildsAt es k b → a ≡ b
 one_built one es k a b left right =
     let (files, stand, builds) = left in
     let (others, stand_too, builds_too) = right in
-    let P : FilesData → Type 0 = λ f. Builds f (Some a) in
-    same_Some a b (one others (Some a) (Some b) (subst P (one_files (up_to k es) files others stand stand_too) builds) builds_too)
+    let P : FilesData → Type 0 = λ f. Builds f a in
+    one others a b (subst P (one_files (up_to k es) files others stand stand_too) builds) builds_too
 
 same_items : {A : Type 0} (xs ys : List A) → length xs ≡ length ys → ((k : ℕ) → (x y : A) → slice_get xs k ≡ Some x → slice_get ys k ≡ Some y → x ≡ y) → xs ≡ ys
 same_items [] [] size same = refl

@@ -3,8 +3,8 @@ use Rattle.tk_io.specs.declared.source.ReadStop.{ReadStop}
 use Rattle.tk_io.specs.declared.source.ReadStop.TheVariants as reading
 use Rattle.edit_script.specs.declared.script.ScriptStop.{ScriptStop}
 use Rattle.edit_script.specs.declared.script.ScriptStop.TheVariants as script
-use Rattle.build_plain.specs.declared.building.BuildStop.{BuildStop}
-use Rattle.build_plain.specs.declared.building.BuildStop.TheVariants as building
+use Rattle.command_words.specs.declared.command.WordStop.{WordStop}
+use Rattle.command_words.specs.declared.command.WordStop.TheVariants as words
 use Rattle.token_cli.specs.declared.stop.Stop.{Stop}
 use Rattle.token_cli.specs.declared.stop.Stop.TheVariants as stop
 
@@ -17,6 +17,6 @@ abbrev pub of_script : ScriptStop → Stop
 of_script (script.BadScript at) = stop.BadScript at
 of_script script.NoMemory = stop.NoMemory
 
-abbrev pub of_build : BuildStop → Stop
-of_build building.NotYet = stop.NotYet
-of_build building.NoMemory = stop.NoMemory
+abbrev pub of_words : WordStop → Stop
+of_words words.Usage = stop.Usage
+of_words words.NoMemory = stop.NoMemory

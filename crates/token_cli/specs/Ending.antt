@@ -2,35 +2,36 @@
 use Rattle.std.specs.Prelude.{◌≡◌, ◌⊎◌, ℕ, Bool, List, Option, Result, Ok, Err}
 use Rattle.tk_io.specs.Causes.{Rose}
 use Rattle.edit_script.specs.Script.{EventData, IsScript, IsScriptStop}
+use Rattle.command_words.specs.declared.command.Command.{Command}
 use Rattle.token_cli.specs.Report.{error_text}
-use Rattle.token_cli.specs.Headline.{events_for, WroteStream, WrotePart, WroteUntil}
+use Rattle.token_cli.specs.Headline.{events_for, telling_of, WroteWhole, WrotePart}
+use Rattle.token_cli.specs.declared.telling.Telling.{Telling}
 use Rattle.token_cli.specs.declared.stop.Stop.{Stop}
 use Rattle.token_cli.specs.declared.stop.Stop.TheVariants as stop
-use Rattle.token_cli.specs.declared.words.Command.{Command}
 use Rattle.token_cli.specs.declared.status.Status.{Status}
 use Rattle.token_cli.specs.declared.status.Status.TheVariants as status
 
--- what was written of the events when writing their stream ends so, and how the count of faults went
-abbrev pub Writes : Result Bool Stop → List EventData → Option (List ℕ) → Option (List ℕ) → ℕ → ℕ → Type 0
-Writes (Ok refused) es old new before now = WroteStream es refused old new
-Writes (Err stop.NotYet) es old new before now = WroteUntil es old new
-Writes (Err stop.NoMemory) es old new before now = WrotePart es old new
-Writes (Err stop.WriteFault) es old new before now = Rose before now × WrotePart es old new
-Writes (Err (stop.BadScript at)) es old new before now = ⊥
-Writes (Err stop.ReadFault) es old new before now = ⊥
-Writes (Err stop.TooLong) es old new before now = ⊥
+-- what was written of the events when telling them ends so, and how the count of faults went
+abbrev pub Writes : Result Bool Stop → Telling → List EventData → Option (List ℕ) → Option (List ℕ) → ℕ → ℕ → Type 0
+Writes (Ok refused) told es old new before now = WroteWhole told es refused old new
+Writes (Err stop.NoMemory) told es old new before now = WrotePart told es old new
+Writes (Err stop.WriteFault) told es old new before now = Rose before now × WrotePart told es old new
+Writes (Err stop.Usage) told es old new before now = ⊥
+Writes (Err (stop.BadScript at)) told es old new before now = ⊥
+Writes (Err stop.ReadFault) told es old new before now = ⊥
+Writes (Err stop.TooLong) told es old new before now = ⊥
 
 abbrev pub status_of : Result Bool Stop → Status
 status_of (Ok Bool.true) = status.Refused
 status_of (Ok Bool.false) = status.Done
-status_of (Err stop.NotYet) = status.NotYet
-status_of (Err stop.NoMemory) = status.NoMemory
-status_of (Err stop.WriteFault) = status.WriteFault
+status_of (Err stop.Usage) = status.Usage
 status_of (Err (stop.BadScript at)) = status.BadScript
 status_of (Err stop.ReadFault) = status.ReadFault
+status_of (Err stop.WriteFault) = status.WriteFault
+status_of (Err stop.NoMemory) = status.NoMemory
 status_of (Err stop.TooLong) = status.TooLong
 
--- .. where the whole stream was written, with or without a refusal held at its end
+-- .. where all was written, with or without a refusal held at the end
 abbrev pub whole_status : Bool → Status
 whole_status Bool.true = status.Refused
 whole_status Bool.false = status.Done
@@ -38,10 +39,10 @@ whole_status Bool.false = status.Done
 -- the byte at which a script is refused
 abbrev pub place_of : Result Bool Stop → ℕ
 place_of (Err (stop.BadScript at)) = at
-place_of (Err stop.NotYet) = 0
-place_of (Err stop.NoMemory) = 0
-place_of (Err stop.WriteFault) = 0
+place_of (Err stop.Usage) = 0
 place_of (Err stop.ReadFault) = 0
+place_of (Err stop.WriteFault) = 0
+place_of (Err stop.NoMemory) = 0
 place_of (Err stop.TooLong) = 0
 place_of (Ok refused) = 0
 
@@ -51,10 +52,10 @@ stop_text s = error_text (status_of (Err s)) (place_of (Err s))
 
 -- what was made of the bytes of a script when it ends so
 abbrev pub Scripted : Result Bool Stop → Command → List ℕ → Option (List ℕ) → Option (List ℕ) → ℕ → ℕ → Type 0
-Scripted (Ok refused) c script old new before now = (es : List EventData) × IsScript script es × WroteStream (events_for c es) refused old new
-Scripted (Err stop.NotYet) c script old new before now = (es : List EventData) × IsScript script es × WroteUntil (events_for c es) old new
-Scripted (Err stop.NoMemory) c script old new before now = (new ≡ old) ⊎ ((es : List EventData) × IsScript script es × WrotePart (events_for c es) old new)
-Scripted (Err stop.WriteFault) c script old new before now = Rose before now × ((es : List EventData) × IsScript script es × WrotePart (events_for c es) old new)
+Scripted (Ok refused) c script old new before now = (es : List EventData) × IsScript script es × WroteWhole (telling_of c) (events_for c es) refused old new
+Scripted (Err stop.NoMemory) c script old new before now = (new ≡ old) ⊎ ((es : List EventData) × IsScript script es × WrotePart (telling_of c) (events_for c es) old new)
+Scripted (Err stop.WriteFault) c script old new before now = Rose before now × ((es : List EventData) × IsScript script es × WrotePart (telling_of c) (events_for c es) old new)
 Scripted (Err (stop.BadScript at)) c script old new before now = (new ≡ old) × IsScriptStop script at
+Scripted (Err stop.Usage) c script old new before now = ⊥
 Scripted (Err stop.ReadFault) c script old new before now = ⊥
 Scripted (Err stop.TooLong) c script old new before now = ⊥

@@ -1,93 +1,136 @@
 -- What is written for a script: commit after commit, the output files that a build from nothing of the files then present
--- would change.
-use Rattle.std.specs.Prelude.{◌≡◌, ◌<◌, ◌≤◌, ◌⊎◌, ℕ, suc, Bool, ◌||◌, List, ◌++◌, length, codes, Option, Some, None, is_some, IfSome}
+-- would change, or how many they are.
+use Rattle.std.specs.Prelude.{◌≡◌, ◌<◌, ◌≤◌, ◌⊎◌, ℕ, suc, Bool, true, false, ◌||◌, List, length, codes, map as map_list, Option, Some, IfSome}
 use Rattle.std.specs.FinMap as map
-use Rattle.std.specs.List.{slice_get}
+use Rattle.std.specs.List.{ends_with, list_any, slice_get}
+use Rattle.std.specs.Bool.{nat_eq}
+use Rattle.std.specs.Str.{bytes_eq}
 use Rattle.std.specs.Io.KnownBytes.{Appends, IsAtEnd}
+use Rattle.std.specs.String.{string_bytes}
+use Rattle.std.specs.declared.string.String.{String}
 use Rattle.tk_io.specs.Writing.{AppendsFront, AppendsPart}
-use Rattle.edit_script.specs.Script.{EventData, IsScript, IsScriptStop}
 use Rattle.tk_io.specs.FilesData.{FilesData}
+use Rattle.edit_script.specs.Script.{EventData, IsScript, IsScriptStop}
 use Rattle.edit_script.specs.Files.{AreFilesAt, commit_count, whole}
 use Rattle.edit_script.specs.Delta.{Held, Delta, AreDeltas, held_at}
-use Rattle.edit_script.specs.Stream.{commits_text, line_text, stream_of}
-use Rattle.edit_script.specs.declared.line.Line.TheVariants.{StreamHead}
 use Rattle.build_plain.specs.Out.{Builds}
-use Rattle.token_cli.specs.declared.words.Command.{Command}
-use Rattle.token_cli.specs.declared.words.Command.TheVariants.{Build, Replay}
+use Rattle.command_words.specs.Words.{command_of}
+use Rattle.command_words.specs.declared.command.Command.{Command}
+use Rattle.command_words.specs.declared.command.Command.TheVariants.{Build, Replay, Stats, Gen}
+use Rattle.generated_script.specs.Script.{script_of}
+use Rattle.token_cli.specs.Told.{commits_so_far, whole_text}
+use Rattle.token_cli.specs.declared.telling.Telling.{Telling}
+use Rattle.token_cli.specs.declared.telling.Telling.TheVariants.{Records, Counts}
 
 -- how many bytes a script may have
 abbrev pub most_bytes : ℕ
 most_bytes = 67108864
 
+-- the command that the words of a command line are, if they are one
+abbrev pub asked_by : {Z : Type 0} → List (String Z) → Option Command
+asked_by words = command_of (map_list string_bytes words)
+
+-- how a command tells the commits
+abbrev pub telling_of : Command → Telling
+telling_of Build = Records
+telling_of Replay = Records
+telling_of Stats = Counts
+telling_of (Gen seed size) = Counts
+
 -- the events that a command acts on: for `build` as if every commit were taken out and one stood at the end
 abbrev pub events_for : Command → List EventData → List EventData
 events_for Build es = whole es
 events_for Replay es = es
+events_for Stats es = es
+events_for (Gen seed size) es = es
 
 -- what a build from nothing makes of the files at the k-th commit, counted from 1
-abbrev pub BuildsAt : List EventData → ℕ → Option Held → Type 0
+abbrev pub BuildsAt : List EventData → ℕ → Held → Type 0
 BuildsAt es k out = (files : FilesData) × AreFilesAt es k files × Builds files out
 
 -- the outputs held at the first commits, each built from nothing, and the changes from one to the next; before the first
 -- none are held
 pub record AreCommits (es : List EventData) (held : List Held) (deltas : List Delta) : Type 0 where
   pub count : length held ≤ commit_count es
-  pub built : (k : ℕ) → (out : Held) → slice_get held k ≡ Some out → BuildsAt es (suc k) (Some out)
+  pub built : (k : ℕ) → (out : Held) → slice_get held k ≡ Some out → BuildsAt es (suc k) out
   pub changes : AreDeltas map.empty held deltas
 
 -- what is held after the last of these commits
 abbrev pub last_held : List Held → Held
 last_held held = held_at map.empty held (length held)
 
--- a refusal is held: of the files' plan, or of their one permutation
+-- the path is `REFUSED`, or ends in `/REFUSED`
+abbrev pub is_refusal : List ℕ → Bool
+is_refusal path = bytes_eq path (codes "REFUSED") || ends_with nat_eq path (codes "/REFUSED")
+
+-- a refusal is held: of the files' configuration or plan, or of a permutation
 abbrev pub is_refused : Held → Bool
-is_refused held = is_some (map.get held (codes "REFUSED")) || is_some (map.get held (codes "default/REFUSED"))
+is_refused held = list_any (λ output. is_refusal output.0) (map.entries held)
 
--- the stream up to the end of these commits
-abbrev pub commits_so_far : List Delta → List ℕ
-commits_so_far deltas = line_text StreamHead ++ commits_text 1 deltas
-
--- the whole stream was written; `refused` says whether a refusal is held at its end
-abbrev pub WroteStream : List EventData → Bool → Option (List ℕ) → Option (List ℕ) → Type 0
-WroteStream es refused old new =
+-- all was written; `refused` says whether a refusal is held at the end
+abbrev pub WroteWhole : Telling → List EventData → Bool → Option (List ℕ) → Option (List ℕ) → Type 0
+WroteWhole told es refused old new =
     (held : List Held) × (deltas : List Delta) × AreCommits es held deltas × (length held ≡ commit_count es)
-    × (is_refused (last_held held) ≡ refused) × Appends old new (stream_of deltas)
+    × (is_refused (last_held held) ≡ refused) × Appends old new (whole_text told deltas)
 
--- a part of the stream was written, and not all of it: a front of what some of the commits gave, or less than the whole
--- of what all gave
-abbrev pub WrotePart : List EventData → Option (List ℕ) → Option (List ℕ) → Type 0
-WrotePart es old new =
+-- a part was written, and not all: a front of what some of the commits gave, or less than the whole of what all gave
+abbrev pub WrotePart : Telling → List EventData → Option (List ℕ) → Option (List ℕ) → Type 0
+WrotePart told es old new =
     (held : List Held) × (deltas : List Delta) × AreCommits es held deltas
-    × (((length held < commit_count es) × AppendsFront old new (commits_so_far deltas))
-    ⊎ ((length held ≡ commit_count es) × AppendsPart old new (stream_of deltas)))
+    × (((length held < commit_count es) × AppendsFront old new (commits_so_far told deltas))
+    ⊎ ((length held ≡ commit_count es) × AppendsPart old new (whole_text told deltas)))
 
--- the stream was written up to a commit whose files are not built yet
-abbrev pub WroteUntil : List EventData → Option (List ℕ) → Option (List ℕ) → Type 0
-WroteUntil es old new =
-    (held : List Held) × (deltas : List Delta) × AreCommits es held deltas × (length held < commit_count es)
-    × BuildsAt es (suc (length held)) None × Appends old new (commits_so_far deltas)
+-- Where a script comes from.
 
--- every commit's files are built
-abbrev pub AreBuilt : List EventData → Type 0
-AreBuilt es = (k : ℕ) → suc k ≤ commit_count es → BuildsAt es (suc k) None → ⊥
+-- whether a command takes its script from the source
+abbrev pub reads_source : Command → Bool
+reads_source Build = true
+reads_source Replay = true
+reads_source Stats = true
+reads_source (Gen seed size) = false
 
--- this holds of the events that the command acts on, where the source told a script that it had left
-abbrev pub OfScript : Option Command → Option (List ℕ) → (List EventData → Type 0) → Type 0
-OfScript command left claim =
-    IfSome command (λ c. IfSome left (λ script. (length script ≤ most_bytes) × ((es : List EventData) × IsScript script es × claim (events_for c es))))
+-- these are the bytes of the script that a command acts on: what the source tells that it has left, or what `gen` makes
+-- of its numbers
+abbrev pub IsScriptOf : Command → Option (List ℕ) → List ℕ → Type 0
+IsScriptOf Build left script = left ≡ Some script
+IsScriptOf Replay left script = left ≡ Some script
+IsScriptOf Stats left script = left ≡ Some script
+IsScriptOf (Gen seed size) left script = script ≡ script_of seed size
 
--- a script was read to its end, and its stream was written whole
+-- this holds of a script that isn't too long, where the source tells what it has left
+abbrev pub OfSource : Option (List ℕ) → (List ℕ → Type 0) → Type 0
+OfSource left claim = IfSome left (λ script. (length script ≤ most_bytes) × claim script)
+
+-- .. of the script that a command acts on
+abbrev pub OfBytes : Command → Option (List ℕ) → (List ℕ → Type 0) → Type 0
+OfBytes Build left claim = OfSource left claim
+OfBytes Replay left claim = OfSource left claim
+OfBytes Stats left claim = OfSource left claim
+OfBytes (Gen seed size) left claim = claim (script_of seed size)
+
+-- .. of the events that a command acts on
+abbrev pub OfEvents : Command → Option (List ℕ) → (List EventData → Type 0) → Type 0
+OfEvents c left claim = OfBytes c left (λ script. (es : List EventData) × IsScript script es × claim (events_for c es))
+
+-- what a command leaves in the source: nothing, and for `gen` all that was there
+abbrev pub IsLeftBy : Command → Option (List ℕ) → Option (List ℕ) → Type 0
+IsLeftBy Build left rest = IsAtEnd rest
+IsLeftBy Replay left rest = IsAtEnd rest
+IsLeftBy Stats left rest = IsAtEnd rest
+IsLeftBy (Gen seed size) left rest = rest ≡ left
+
+-- What was made of a script.
+
+-- all was written of the script
 abbrev pub WroteAll : Option Command → Option (List ℕ) → Option (List ℕ) → Bool → Option (List ℕ) → Option (List ℕ) → Type 0
-WroteAll command left rest refused old new = IsAtEnd rest × OfScript command left (λ es. WroteStream es refused old new)
+WroteAll command left rest refused old new =
+    IfSome command (λ c. IsLeftBy c left rest × OfEvents c left (λ es. WroteWhole (telling_of c) es refused old new))
 
--- .. and a part of its stream was written
+-- .. and a part was
 abbrev pub WroteLess : Option Command → Option (List ℕ) → Option (List ℕ) → Option (List ℕ) → Option (List ℕ) → Type 0
-WroteLess command left rest old new = IsAtEnd rest × OfScript command left (λ es. WrotePart es old new)
-
--- .. and its stream was written up to a commit whose files are not built yet, where the words are a command
-abbrev pub WroteUnbuilt : Option Command → Option (List ℕ) → Option (List ℕ) → Option (List ℕ) → Option (List ℕ) → Type 0
-WroteUnbuilt command left rest old new = IfSome command (λ c. IsAtEnd rest) × OfScript command left (λ es. WroteUntil es old new)
+WroteLess command left rest old new =
+    IfSome command (λ c. IsLeftBy c left rest × OfEvents c left (λ es. WrotePart (telling_of c) es old new))
 
 -- what was read to its end is no script, and is refused at this byte
 abbrev pub IsNoScript : Option (List ℕ) → Option (List ℕ) → ℕ → Type 0
-IsNoScript left rest at = IsAtEnd rest × IfSome left (λ script. (length script ≤ most_bytes) × IsScriptStop script at)
+IsNoScript left rest at = IsAtEnd rest × OfSource left (λ script. IsScriptStop script at)

@@ -17,7 +17,6 @@ error_text status.ReadFault at = codes "tokc: read failed\n"
 error_text status.WriteFault at = codes "tokc: write failed\n"
 error_text status.NoMemory at = codes "tokc: out of memory\n"
 error_text status.TooLong at = codes "tokc: script too long\n"
-error_text status.NotYet at = codes "tokc: not built yet\n"
 
 -- the number that the program ends with
 abbrev pub number_of : Status → ℕ
@@ -29,7 +28,6 @@ number_of status.ReadFault = 4
 number_of status.WriteFault = 5
 number_of status.NoMemory = 6
 number_of status.TooLong = 7
-number_of status.NotYet = 8
 
 -- the text was appended whole, or a part of it, and not all, was and the count rose
 abbrev pub Reports : Option (List ℕ) → Option (List ℕ) → ℕ → ℕ → List ℕ → Type 0

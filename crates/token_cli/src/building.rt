@@ -1,12 +1,13 @@
 // Building the files of a commit.
-ghost use Rattle.std.specs.Prelude.{◌≡◌, ◌<◌, Some, None, Err, IfOk};
+ghost use Rattle.std.specs.Prelude.{◌≡◌, ◌<◌, IfOk};
 ghost use Rattle.build_plain.specs.Out.{Builds};
 
-use build_plain::{BuildStop, Files, build};
+use build_plain::build;
+use file_plan::Files;
 use std::alloc::Global;
 use std::marker::Brand;
 use std::sync::ledger::{Blank, Ledger};
-use tk_io::{Outputs, Steps};
+use tk_io::{NoMemory, Outputs, Steps};
 
 // The counters are made here: a call that picks a ledger has no text in its signature.
 fn counted<L: Ledger, M: Ledger, N: Ledger>(
@@ -15,12 +16,11 @@ fn counted<L: Ledger, M: Ledger, N: Ledger>(
     parses: Blank,
     merges: Blank,
     evals: Blank,
-) -> Result<Outputs, BuildStop>
+) -> Result<Outputs, NoMemory>
     requires parses { (parses.name ≡ L.name) × (parses.parts ≡ L.parts) × (0 < L.parts) }
     requires merges { (merges.name ≡ M.name) × (merges.parts ≡ M.parts) × (0 < M.parts) }
     requires evals { (evals.name ≡ N.name) × (evals.parts ≡ N.parts) × (0 < N.parts) }
-    ensures ok { IfOk result (λ o. Builds files.now (Some o)) }
-    ensures not_yet { result ≡ Err BuildStop.NotYet → Builds files.now None }
+    ensures { IfOk result (λ o. Builds files.now o) }
 {
     let mut parses: Steps<L> = Steps::new(parses);
     let mut merges: Steps<M> = Steps::new(merges);
@@ -31,10 +31,9 @@ fn counted<L: Ledger, M: Ledger, N: Ledger>(
 /// The outputs of the files, built from nothing.
 ///
 /// # Errors
-/// `NotYet` exactly where the files are none that are built so far; `NoMemory`.
-pub fn build_files(alloc: Global, files: &Files<'_>) -> Result<Outputs, BuildStop>
-    ensures ok { IfOk result (λ o. Builds files.now (Some o)) }
-    ensures not_yet { result ≡ Err BuildStop.NotYet → Builds files.now None }
+/// `NoMemory`.
+pub fn build_files(alloc: Global, files: &Files<'_>) -> Result<Outputs, NoMemory>
+    ensures { IfOk result (λ o. Builds files.now o) }
 {
     counted::<Brand, Brand, Brand>(alloc, files, Blank::new(1), Blank::new(1), Blank::new(1))
 }

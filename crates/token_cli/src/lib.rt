@@ -1,22 +1,25 @@
-//! The command line of tokc: its words, its script, its stream, and the call that does the whole job.
+//! The command line of tokc: its words, its script, its stream and statistics, and the call that does the whole job.
 #![tactic(auto)]
 
 mod building;
 mod clean;
 mod laws;
 mod reading;
+mod refusal;
 mod replaying;
 mod reporting;
 mod running;
 mod status;
 mod stop;
+mod telling;
 #[cfg(test)]
 mod tests;
 mod wiring;
-mod words;
 mod workspace;
 
 pub use clean::run_clean;
+pub use command_words::{Command, WordStop, read_words};
+pub use generated_script::gen_script;
 pub use laws::one_stream;
 pub use running::run;
 pub use status::Status;

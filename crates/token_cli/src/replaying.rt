@@ -1,23 +1,19 @@
-// Writing the stream of a script's events.
+// Writing what a command tells of a script's events.
 ghost use Rattle.std.specs.Prelude.{◌≡◌, ◌≤◌, [], ◌∷◌, ◌++◌, IfOk, OnOk};
 ghost use Rattle.edit_script.specs.Files.{whole, without_commits};
 ghost use Rattle.edit_script.specs.Shown.{event_of};
 ghost use Rattle.token_cli.specs.Ending.{Writes};
-ghost use Rattle.token_cli.specs.Headline.{events_for, is_refused};
+ghost use Rattle.token_cli.specs.Headline.{events_for, telling_of};
+ghost use Rattle.token_cli.specs.Told.{head_line};
 
+use crate::refusal::is_refused;
 use crate::stop::Stop;
-use crate::words::Command;
+use crate::telling::Telling;
 use crate::workspace::Workspace;
+use command_words::Command;
 use edit_script::{Event, Events, Line, write_line};
 use std::alloc::Global;
-use tk_io::{NoMemory, Outputs, Sink};
-
-// Whether a refusal is held.
-fn is_refused(held: &Outputs) -> bool
-    ensures { result ≡ is_refused held.now }
-{
-    held.get("REFUSED").is_some() || held.get("default/REFUSED").is_some()
-}
+use tk_io::{NoMemory, Sink};
 
 // Adds the event unless it is a commit.
 fn add_edit<'s>(edits: &mut Events<'s>, event: &Event<'s>) -> Result<(), NoMemory>
@@ -43,43 +39,58 @@ fn whole<'s>(alloc: Global, events: &Events<'s>) -> Result<Events<'s>, NoMemory>
     Ok(all)
 }
 
-// Writes the stream of the events, and says whether a refusal is held at its end.
-fn replay<K: Sink>(alloc: Global, events: &Events<'_>, out: &mut K) -> Result<bool, Stop>
-    ensures written { Writes result events.now (K.written out.old) (K.written out.new)
+// The first line of what is told.
+fn head_line(telling: Telling) -> Line
+    ensures { result ≡ head_line telling }
+{
+    match telling {
+        Telling::Records => Line::StreamHead,
+        Telling::Counts => Line::StatsHead,
+    }
+}
+
+// Tells the events, and says whether a refusal is held at their end.
+fn replay<K: Sink>(
+    alloc: Global,
+    telling: Telling,
+    events: &Events<'_>,
+    out: &mut K,
+) -> Result<bool, Stop>
+    ensures written { Writes result telling events.now (K.written out.old) (K.written out.new)
         (K.faults out.old) (K.faults out.new) }
     ensures later { K.faults out.old ≤ K.faults out.new }
 {
-    write_line(out, &Line::StreamHead)?;
+    write_line(out, &head_line(telling))?;
     let mut workspace = Workspace::new(alloc);
     for i in 0..events.len() {
         if let Some(event) = events.at(i) {
-            workspace.take(alloc, event, out)?;
+            workspace.take(alloc, telling, event, out)?;
         }
     }
     write_line(out, &Line::Done(workspace.commits))?;
     Ok(is_refused(&workspace.held))
 }
 
-/// Writes the stream of what the command makes of the events, and says whether a refusal is held at its end.
+/// Writes what the command tells of the events, and says whether a refusal is held at their end.
 ///
 /// # Errors
-/// `NotYet` exactly where a commit's files are none that are built so far; what stands before its line was written.
-/// `WriteFault` only where the sink's faults rose; `NoMemory`; a front of the stream was written.
-pub fn write_stream<K: Sink>(
+/// `WriteFault` only where the sink's faults rose; `NoMemory`; a part was written, and not all.
+pub fn write_events<K: Sink>(
     alloc: Global,
     command: Command,
     events: &Events<'_>,
     out: &mut K,
 ) -> Result<bool, Stop>
-    ensures written { Writes result (events_for command events.now) (K.written out.old)
-        (K.written out.new) (K.faults out.old) (K.faults out.new) }
+    ensures written { Writes result (telling_of command) (events_for command events.now)
+        (K.written out.old) (K.written out.new) (K.faults out.old) (K.faults out.new) }
     ensures later { K.faults out.old ≤ K.faults out.new }
 {
     match command {
         Command::Build => {
             let all = whole(alloc, events)?;
-            replay(alloc, &all, out)
+            replay(alloc, Telling::Records, &all, out)
         }
-        Command::Replay => replay(alloc, events, out),
+        Command::Replay => replay(alloc, Telling::Records, events, out),
+        Command::Stats | Command::Gen(..) => replay(alloc, Telling::Counts, events, out),
     }
 }

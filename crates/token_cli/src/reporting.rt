@@ -33,12 +33,12 @@ fn write_text<E: Sink>(err: &mut E, stop: Stop) -> Result<(), Failed>
     ensures cause { HasCause (E.faults err.old) (E.faults err.new) result }
 {
     match stop {
+        Stop::Usage => write_all(err, b"usage: tokc build | replay | stats | gen SEED SIZE\n"),
         Stop::BadScript(at) => report_script(err, at),
         Stop::ReadFault => write_all(err, b"tokc: read failed\n"),
         Stop::WriteFault => write_all(err, b"tokc: write failed\n"),
         Stop::NoMemory => write_all(err, b"tokc: out of memory\n"),
         Stop::TooLong => write_all(err, b"tokc: script too long\n"),
-        Stop::NotYet => write_all(err, b"tokc: not built yet\n"),
     }
 }
 

@@ -18,14 +18,12 @@ pub enum Status {
     BadScript,
     /// The script could not be read.
     ReadFault,
-    /// The stream could not be written.
+    /// The output could not be written.
     WriteFault,
     /// Memory ran out.
     NoMemory,
     /// The script is longer than 67,108,864 bytes.
     TooLong,
-    /// The words, or the files of a commit, are none that are built so far.
-    NotYet,
 }
 
 impl Status {
@@ -42,23 +40,22 @@ impl Status {
             Status::WriteFault => 5,
             Status::NoMemory => 6,
             Status::TooLong => 7,
-            Status::NotYet => 8,
         }
     }
 }
 
-/// The status of a run whose stream was written whole, with or without a refusal at its end, or that stopped.
+/// The status of a run that wrote all, with or without a refusal held at its end, or that stopped.
 pub fn status_of(ended: Result<bool, Stop>) -> Status
     ensures { result ≡ status_of ended }
 {
     match ended {
         Ok(true) => Status::Refused,
         Ok(false) => Status::Done,
+        Err(Stop::Usage) => Status::Usage,
         Err(Stop::BadScript(_)) => Status::BadScript,
         Err(Stop::ReadFault) => Status::ReadFault,
         Err(Stop::WriteFault) => Status::WriteFault,
         Err(Stop::NoMemory) => Status::NoMemory,
         Err(Stop::TooLong) => Status::TooLong,
-        Err(Stop::NotYet) => Status::NotYet,
     }
 }

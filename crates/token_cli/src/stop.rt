@@ -1,27 +1,27 @@
-// Why a run ends before its stream is written whole.
+// Why a run ends before all is written.
 ghost use Rattle.std.specs.Prelude.{◌≡◌};
 ghost use Rattle.token_cli.specs.declared.stop.Stop.TheVariants.{NoMemory as OutOfMemory, WriteFault as Faulted};
-ghost use Rattle.token_cli.specs.Causes.{of_build, of_read, of_script};
+ghost use Rattle.token_cli.specs.Causes.{of_read, of_script, of_words};
 
-use build_plain::BuildStop;
+use command_words::WordStop;
 use edit_script::ScriptStop;
 use tk_io::{Failed, NoMemory, ReadStop};
 
-/// Why a run ends before its stream is written whole.
+/// Why a run ends before all is written.
 #[derive(Clone, Copy, Debug, PartialEq, Eq)]
 pub enum Stop {
+    /// The words are no command.
+    Usage,
     /// The script has no reading; it is refused at this byte.
     BadScript(usize),
     /// The script could not be read.
     ReadFault,
-    /// The stream could not be written.
+    /// The output could not be written.
     WriteFault,
     /// Memory ran out.
     NoMemory,
     /// The script is longer than 67,108,864 bytes.
     TooLong,
-    /// The words, or the files of a commit, are none that are built so far.
-    NotYet,
 }
 
 impl From<NoMemory> for Stop {
@@ -63,13 +63,13 @@ impl From<ScriptStop> for Stop {
     }
 }
 
-impl From<BuildStop> for Stop {
-    ghost from_gives = { λ s e. e ≡ of_build s };
+impl From<WordStop> for Stop {
+    ghost from_gives = { λ s e. e ≡ of_words s };
 
-    fn from(stop: BuildStop) -> Stop {
+    fn from(stop: WordStop) -> Stop {
         match stop {
-            BuildStop::NotYet => Stop::NotYet,
-            BuildStop::NoMemory => Stop::NoMemory,
+            WordStop::Usage => Stop::Usage,
+            WordStop::NoMemory => Stop::NoMemory,
         }
     }
 }

@@ -8,13 +8,15 @@ ghost use Rattle.tk_io.specs.Writing.{AppendsPart};
 ghost use Rattle.edit_script.specs.Delta.{Delta, IsDelta};
 ghost use Rattle.edit_script.specs.Script.{commit as commit_event};
 ghost use Rattle.edit_script.specs.Shown.{Lined, event_of, with_line};
-ghost use Rattle.token_cli.specs.Step.{Follows, Fails, Cuts, commit_text, records_of};
+ghost use Rattle.token_cli.specs.Step.{Follows, Fails, Cuts, changes_text, records_of};
+ghost use Rattle.token_cli.specs.Told.{commit_text};
 ghost use Rattle.token_cli.specs.Views.{state_of};
 
 use crate::building::build_files;
 use crate::stop::Stop;
-use build_plain::Files;
-use edit_script::{Changes, Event, Line, delta, write_change, write_line};
+use crate::telling::Telling;
+use edit_script::{Changes, Event, Line, delta, short_line, write_change, write_line};
+use file_plan::Files;
 use std::alloc::Global;
 use tk_io::{Failed, Outputs, Sink};
 
@@ -47,23 +49,58 @@ fn write_changes<K: Sink>(out: &mut K, changes: &Changes<'_>) -> Result<(), Fail
     Ok(())
 }
 
-// Writes the line of the commit with this number, and the records of what changed from the old outputs to the new.
+// Writes the line of the commit with this number, and the records of the changes.
+fn write_records<K: Sink>(out: &mut K, number: u64, changes: &Changes<'_>) -> Result<(), Failed>
+    requires { (i : ℕ) → (change : Lined) → slice_get changes.now i ≡ Some change
+        → change ≡ with_line change.0 }
+    ensures whole { OnOk result (Appends (K.written out.old) (K.written out.new)
+        (changes_text Telling.Records number changes.now)) }
+    ensures part { OnErr result (AppendsPart (K.written out.old) (K.written out.new)
+        (changes_text Telling.Records number changes.now)) }
+    ensures cause { HasCause (K.faults out.old) (K.faults out.new) result }
+{
+    write_line(out, &Line::Commit(number))?;
+    write_changes(out, changes)
+}
+
+// Tells the changes of the commit with this number.
+fn tell<K: Sink>(
+    out: &mut K,
+    telling: Telling,
+    number: u64,
+    changes: &Changes<'_>,
+) -> Result<(), Failed>
+    requires { (i : ℕ) → (change : Lined) → slice_get changes.now i ≡ Some change
+        → change ≡ with_line change.0 }
+    ensures whole { OnOk result (Appends (K.written out.old) (K.written out.new)
+        (changes_text telling number changes.now)) }
+    ensures part { OnErr result (AppendsPart (K.written out.old) (K.written out.new)
+        (changes_text telling number changes.now)) }
+    ensures cause { HasCause (K.faults out.old) (K.faults out.new) result }
+{
+    match telling {
+        Telling::Records => write_records(out, number, changes),
+        Telling::Counts => write_line(out, &short_line(number, changes)),
+    }
+}
+
+// Tells what changed from the old outputs to the new at the commit with this number.
 fn write_commit<K: Sink>(
     alloc: Global,
+    telling: Telling,
     number: u64,
     old: &Outputs,
     new: &Outputs,
     out: &mut K,
 ) -> Result<(), Stop>
     ensures ok { OnOk result ((d : Delta) × IsDelta old.now new.now d
-        × Appends (K.written out.old) (K.written out.new) (commit_text number d)) }
-    ensures err { IfErr result (λ stop. Cuts stop old.now new.now number (K.written out.old)
+        × Appends (K.written out.old) (K.written out.new) (commit_text telling number d)) }
+    ensures err { IfErr result (λ stop. Cuts telling stop old.now new.now number (K.written out.old)
         (K.written out.new) (K.faults out.old) (K.faults out.new)) }
     ensures later { K.faults out.old ≤ K.faults out.new }
 {
     let changes = delta(alloc, old, new)?;
-    write_line(out, &Line::Commit(number))?;
-    write_changes(out, &changes)?;
+    tell(out, telling, number, &changes)?;
     Ok(())
 }
 
@@ -79,40 +116,41 @@ impl<'s> Workspace<'s> {
         }
     }
 
-    // Builds the files, and writes the commit with its changes.
-    fn commit<K: Sink>(&mut self, alloc: Global, out: &mut K) -> Result<(), Stop>
+    // Builds the files, and tells the commit.
+    fn commit<K: Sink>(&mut self, alloc: Global, telling: Telling, out: &mut K) -> Result<(), Stop>
         requires { self.now.commits < 2 ^ 64 - 1 }
-        ensures ok { OnOk result (Follows commit_event (state_of self.old) (state_of self.new)
+        ensures ok { OnOk result (Follows telling commit_event (state_of self.old) (state_of self.new)
             (K.written out.old) (K.written out.new)) }
-        ensures err { IfErr result (λ stop. Fails stop commit_event (state_of self.old)
+        ensures err { IfErr result (λ stop. Fails telling stop commit_event (state_of self.old)
             (K.written out.old) (K.written out.new) (K.faults out.old) (K.faults out.new)) }
         ensures later { K.faults out.old ≤ K.faults out.new }
     {
         let outputs = build_files(alloc, &self.files)?;
-        write_commit(alloc, self.commits + 1, &self.held, &outputs, out)?;
+        write_commit(alloc, telling, self.commits + 1, &self.held, &outputs, out)?;
         self.commits += 1;
         self.held = outputs;
         Ok(())
     }
 
-    /// Takes the next event. At a commit the files are built, and the commit is written with its changes.
+    /// Takes the next event. At a commit the files are built, and the commit is told.
     pub fn take<K: Sink>(
         &mut self,
         alloc: Global,
+        telling: Telling,
         event: &Event<'s>,
         out: &mut K,
     ) -> Result<(), Stop>
         requires { self.now.commits < 2 ^ 64 - 1 }
-        ensures ok { OnOk result (Follows (event_of event.now) (state_of self.old)
+        ensures ok { OnOk result (Follows telling (event_of event.now) (state_of self.old)
             (state_of self.new) (K.written out.old) (K.written out.new)) }
-        ensures err { IfErr result (λ stop. Fails stop (event_of event.now) (state_of self.old)
+        ensures err { IfErr result (λ stop. Fails telling stop (event_of event.now) (state_of self.old)
             (K.written out.old) (K.written out.new) (K.faults out.old) (K.faults out.new)) }
         ensures later { K.faults out.old ≤ K.faults out.new }
     {
         match event {
             Event::Put(path, text) => self.files.put(path, text)?,
             Event::Del(path) => self.files.del(path),
-            Event::Commit => self.commit(alloc, out)?,
+            Event::Commit => self.commit(alloc, telling, out)?,
         }
         Ok(())
     }

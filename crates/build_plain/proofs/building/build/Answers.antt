@@ -1,54 +1,33 @@
-use Rattle.std.proofs.Common.{sym}
-use Rattle.build_plain.specs.Work.{IsWork}
-use Rattle.build_plain.proofs.Built.{built, built_config, counted, counted_within, worked, worked_within, nothing_read, nothing_done, nothing_planned}
-use Rattle.build_plain.proofs.Assembled.{no_rise}
+use Rattle.std.proofs.lemmas.Result.{IfOk-weaker, on_ok_weaker}
+use Rattle.build_plain.specs.Out.{Builds}
+use Rattle.build_plain.specs.Work.{work, IsWork}
+use Rattle.build_plain.proofs.Planned.{built, built_config, worked, worked_within, nothing_done}
+use Rattle.build_plain.proofs.Works.{no_rise, on_ok_if}
 use Rattle.build_plain.proofs.building.build.Goals as goal
 
-pub returns-in_ok-build_default-in-Ok-clause-ok : goal.returns-in_ok-build_default-in-Ok-clause-ok
-returns-in_ok-build_default-in-Ok-clause-ok g c =
-    built c.args.files.now c.in-Ok.cfg c.in_ok-build_default-in-Ok.field-0 (sym c.if-has_resolver.ensures) c.in-Ok.ensures.ok c.in_ok-build_default-in-Ok.ensures.ok
+pub returns-in-Ok-clause-ok : goal.returns-in-Ok-clause-ok
+returns-in-Ok-clause-ok g c =
+    IfOk-weaker c.build_under.result _ (Builds c.args.files.now) (λ o is. built c.args.files.now c.in-Ok.cfg o c.in-Ok.ensures.ok is) c.build_under.ensures.ok
 
-pub returns-in_ok-build_default-in-Ok-clause-parses : goal.returns-in_ok-build_default-in-Ok-clause-parses
-returns-in_ok-build_default-in-Ok-clause-parses g c some =
-    counted c.args.files.now c.in-Ok.cfg c.args.parses.now c.build_default.new.parses (sym c.if-has_resolver.ensures) c.in-Ok.ensures.ok c.build_default.ensures.parses
+pub returns-in-Ok-clause-work : goal.returns-in-Ok-clause-work
+returns-in-Ok-clause-work g c =
+    on_ok_weaker c.build_under.result
+    (worked c.args.files.now c.in-Ok.cfg (work c.args.parses.now c.args.merges.now c.args.evals.now)
+    (work c.build_under.new.parses c.build_under.new.merges c.build_under.new.evals) c.in-Ok.ensures.ok) c.build_under.ensures.work
 
-pub returns-in_ok-build_default-in-Ok-clause-work : goal.returns-in_ok-build_default-in-Ok-clause-work
-returns-in_ok-build_default-in-Ok-clause-work g c some =
-    worked c.args.files.now c.in-Ok.cfg _ _ (sym c.if-has_resolver.ensures) c.in-Ok.ensures.ok c.in_ok-build_default-in-Ok.ensures.work
+pub returns-in-Ok-clause-at_most : goal.returns-in-Ok-clause-at_most
+returns-in-Ok-clause-at_most g c =
+    worked_within c.args.files.now c.in-Ok.cfg (work c.args.parses.now c.args.merges.now c.args.evals.now)
+    (work c.build_under.new.parses c.build_under.new.merges c.build_under.new.evals) c.in-Ok.ensures.ok c.build_under.ensures.at_most
 
-pub returns-in_ok-build_default-in-Ok-clause-no_more : goal.returns-in_ok-build_default-in-Ok-clause-no_more
-returns-in_ok-build_default-in-Ok-clause-no_more g c =
-    counted_within c.args.files.now c.in-Ok.cfg c.args.parses.now c.build_default.new.parses (sym c.if-has_resolver.ensures) c.in-Ok.ensures.ok c.build_default.ensures.parses
+pub returns-in-Err-clause-ok : goal.returns-in-Err-clause-ok
+returns-in-Err-clause-ok g c =
+    IfOk-weaker c.refused_config.result _ (Builds c.args.files.now) (λ o is. built_config c.args.files.now c.in-Err.fault o c.in-Err.ensures.refused is) c.refused_config.ensures
 
-pub returns-in_ok-build_default-in-Ok-clause-at_most : goal.returns-in_ok-build_default-in-Ok-clause-at_most
-returns-in_ok-build_default-in-Ok-clause-at_most g c =
-    worked_within c.args.files.now c.in-Ok.cfg _ _ (sym c.if-has_resolver.ensures) c.in-Ok.ensures.ok c.build_default.ensures.at_most
+pub returns-in-Err-clause-work : goal.returns-in-Err-clause-work
+returns-in-Err-clause-work g c =
+    on_ok_if c.refused_config.result
+    (λ o is. nothing_done c.args.files.now c.in-Err.fault o (work c.args.parses.now c.args.merges.now c.args.evals.now) c.in-Err.ensures.refused is) c.refused_config.ensures
 
-pub returns-in_err-build_default-in-Ok-clause-no_more : goal.returns-in_err-build_default-in-Ok-clause-no_more
-returns-in_err-build_default-in-Ok-clause-no_more g c =
-    counted_within c.args.files.now c.in-Ok.cfg c.args.parses.now c.build_default.new.parses (sym c.if-has_resolver.ensures) c.in-Ok.ensures.ok c.build_default.ensures.parses
-
-pub returns-in_err-build_default-in-Ok-clause-at_most : goal.returns-in_err-build_default-in-Ok-clause-at_most
-returns-in_err-build_default-in-Ok-clause-at_most g c =
-    worked_within c.args.files.now c.in-Ok.cfg _ _ (sym c.if-has_resolver.ensures) c.in-Ok.ensures.ok c.build_default.ensures.at_most
-
-pub returns-in_ok-refused_config-in-Err-clause-ok : goal.returns-in_ok-refused_config-in-Err-clause-ok
-returns-in_ok-refused_config-in-Err-clause-ok g c =
-    built_config c.args.files.now c.in-Err.fault c.in_ok-refused_config-in-Err.field-0 (sym c.if-has_resolver.ensures) c.in-Err.ensures.refused c.in_ok-refused_config-in-Err.ensures
-
-pub returns-in_ok-refused_config-in-Err-clause-parses : goal.returns-in_ok-refused_config-in-Err-clause-parses
-returns-in_ok-refused_config-in-Err-clause-parses g c some =
-    nothing_read c.args.files.now c.in-Err.fault c.in_ok-refused_config-in-Err.field-0 c.args.parses.now (sym c.if-has_resolver.ensures) c.in-Err.ensures.refused c.in_ok-refused_config-in-Err.ensures
-
-pub returns-in_ok-refused_config-in-Err-clause-work : goal.returns-in_ok-refused_config-in-Err-clause-work
-returns-in_ok-refused_config-in-Err-clause-work g c some =
-    nothing_done c.args.files.now c.in-Err.fault c.in_ok-refused_config-in-Err.field-0 c.args.merges.now c.args.evals.now (sym c.if-has_resolver.ensures) c.in-Err.ensures.refused c.in_ok-refused_config-in-Err.ensures
-
-pub returns-in_ok-refused_config-in-Err-clause-at_most : goal.returns-in_ok-refused_config-in-Err-clause-at_most
-returns-in_ok-refused_config-in-Err-clause-at_most g c = no_rise (IsWork c.args.files.now) c.args.merges.now c.args.evals.now
-
-pub returns-in_err-refused_config-in-Err-clause-at_most : goal.returns-in_err-refused_config-in-Err-clause-at_most
-returns-in_err-refused_config-in-Err-clause-at_most g c = no_rise (IsWork c.args.files.now) c.args.merges.now c.args.evals.now
-
-pub returns-then-has_resolver-clause-work : goal.returns-then-has_resolver-clause-work
-returns-then-has_resolver-clause-work g c some = nothing_planned c.args.files.now c.args.merges.now c.args.evals.now (sym c.if-has_resolver.ensures)
+pub returns-in-Err-clause-at_most : goal.returns-in-Err-clause-at_most
+returns-in-Err-clause-at_most g c = no_rise (IsWork c.args.files.now) (work c.args.parses.now c.args.merges.now c.args.evals.now)

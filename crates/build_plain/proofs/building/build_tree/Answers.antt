@@ -1,37 +1,48 @@
-use Rattle.std.proofs.lemmas.Result.{IfOk-weaker, on_ok_weaker}
+use Rattle.std.proofs.Common.{subst}
+use Rattle.std.proofs.lemmas.Result.{on_ok_weaker}
 use Rattle.token_tree.specs.Shown.{group_view}
-use Rattle.build_plain.specs.Breaks.{InTree}
-use Rattle.build_plain.specs.Out.{Gives}
-use Rattle.build_plain.proofs.Assembled.{gives_flat, gives_broken, told_some, any_ok, flat_work, flat_within, broken_work, merged_only}
+use Rattle.source_trees.specs.Merges.{IsMergeOf}
+use Rattle.build_plain.proofs.Gives.{gives_flat, gives_broken}
+use Rattle.build_plain.proofs.Works.{any_ok, flat_work, flat_within, broken_work, merged_only}
 use Rattle.build_plain.proofs.building.build_tree.Goals as goal
 
-pub returns-in-Ok-clause-ok : goal.returns-in-Ok-clause-ok
-returns-in-Ok-clause-ok g c =
-    IfOk-weaker c.build_flat.result _ (Gives c.args.files.now (InTree c.args.cfg.now (group_view c.args.tree.now)))
-    (λ o is. gives_flat c.args.files.now c.args.cfg.now (group_view c.args.tree.now) c.in-Ok.flat o c.in-Ok.ensures.sound c.in-Ok.ensures.ok is) c.build_flat.ensures.ok
-
-pub returns-in-Ok-clause-work : goal.returns-in-Ok-clause-work
-returns-in-Ok-clause-work g c =
+pub returns-in-Flat-clause-ok : goal.returns-in-Flat-clause-ok
+returns-in-Flat-clause-ok g c =
+    let tree = group_view c.args.tree.now in
+    let is = subst (IsMergeOf tree) c.in-Flat.is c.in_ok-flat.ensures.ok in
     on_ok_weaker c.build_flat.result
-    (λ steps. flat_work (group_view c.args.tree.now) c.in-Ok.flat c.args.merges.now c.flatten.new.merges c.args.evals.now c.build_flat.new.evals c.in-Ok.ensures.sound c.in-Ok.ensures.ok c.flatten.ensures.step steps) c.build_flat.ensures.steps
+    (gives_flat c.args.files.now c.args.cfg.now c.args.name.now c.args.outputs.now c.build_flat.new.outputs c.args.first.now tree c.in-Flat.flat is.0 is.1) c.build_flat.ensures.ok
 
-pub returns-in-Ok-clause-at_most : goal.returns-in-Ok-clause-at_most
-returns-in-Ok-clause-at_most g c =
-    flat_within (group_view c.args.tree.now) (record { flat = c.one_answer.ensures.flat; broken = c.one_answer.ensures.broken; sound = c.one_answer.ensures.sound })
-    c.in-Ok.flat c.args.merges.now c.flatten.new.merges c.args.evals.now c.build_flat.new.evals c.in-Ok.ensures.sound c.in-Ok.ensures.ok c.flatten.ensures.step c.build_flat.ensures.at_most
+pub returns-in-Flat-clause-work : goal.returns-in-Flat-clause-work
+returns-in-Flat-clause-work g c =
+    let tree = group_view c.args.tree.now in
+    let is = subst (IsMergeOf tree) c.in-Flat.is c.in_ok-flat.ensures.ok in
+    on_ok_weaker c.build_flat.result
+    (λ steps. flat_work tree c.in-Flat.flat c.args.merges.now c.merge_of.new.merges c.args.evals.now c.build_flat.new.evals is.0 is.1 c.merge_of.ensures.step steps) c.build_flat.ensures.steps
 
-pub returns-in_ok-body-in-Err-clause-ok : goal.returns-in_ok-body-in-Err-clause-ok
-returns-in_ok-body-in-Err-clause-ok g c =
-    IfOk-weaker c.one_output.result _ (Gives c.args.files.now (InTree c.args.cfg.now (group_view c.args.tree.now)))
-    (λ o is. gives_broken c.args.files.now c.args.cfg.now (group_view c.args.tree.now) c.in-Err.fault c.in_ok-body-in-Err.body o c.in_ok-body-in-Err.ensures c.in-Err.ensures.broken is) c.one_output.ensures
+pub returns-in-Flat-clause-at_most : goal.returns-in-Flat-clause-at_most
+returns-in-Flat-clause-at_most g c =
+    let tree = group_view c.args.tree.now in
+    let is = subst (IsMergeOf tree) c.in-Flat.is c.in_ok-flat.ensures.ok in
+    flat_within tree (record { flat = c.one_answer.ensures.flat; broken = c.one_answer.ensures.broken; sound = c.one_answer.ensures.sound })
+    c.in-Flat.flat c.args.merges.now c.merge_of.new.merges c.args.evals.now c.build_flat.new.evals is.0 is.1 c.merge_of.ensures.step c.build_flat.ensures.at_most
 
-pub returns-in_ok-body-in-Err-clause-work : goal.returns-in_ok-body-in-Err-clause-work
-returns-in_ok-body-in-Err-clause-work g c =
-    any_ok c.one_output.result
-    (broken_work (group_view c.args.tree.now) c.in-Err.fault c.args.merges.now c.flatten.new.merges c.args.evals.now (told_some c.args.files.now c.in-Err.fault c.in_ok-body-in-Err.body c.in_ok-body-in-Err.ensures) c.in-Err.ensures.broken c.flatten.ensures.step)
+pub returns-in-Broken-clause-ok : goal.returns-in-Broken-clause-ok
+returns-in-Broken-clause-ok g c =
+    let tree = group_view c.args.tree.now in
+    let is = subst (IsMergeOf tree) c.in-Broken.is c.in_ok-flat.ensures.ok in
+    on_ok_weaker c.put_tree_break.result
+    (gives_broken c.args.files.now c.args.cfg.now c.args.name.now c.args.outputs.now c.put_tree_break.new.outputs c.args.first.now tree c.in-Broken.fault is.0 is.1) c.put_tree_break.ensures
 
-pub returns-in_ok-body-in-Err-clause-at_most : goal.returns-in_ok-body-in-Err-clause-at_most
-returns-in_ok-body-in-Err-clause-at_most g c = merged_only (group_view c.args.tree.now) c.args.merges.now c.flatten.new.merges c.args.evals.now c.flatten.ensures.step
+pub returns-in-Broken-clause-work : goal.returns-in-Broken-clause-work
+returns-in-Broken-clause-work g c =
+    let tree = group_view c.args.tree.now in
+    let is = subst (IsMergeOf tree) c.in-Broken.is c.in_ok-flat.ensures.ok in
+    any_ok c.put_tree_break.result
+    (broken_work tree c.in-Broken.fault c.args.merges.now c.merge_of.new.merges c.args.evals.now is.0 is.1 c.merge_of.ensures.step)
 
-pub returns-in_err-body-in-Err-clause-at_most : goal.returns-in_err-body-in-Err-clause-at_most
-returns-in_err-body-in-Err-clause-at_most g c = merged_only (group_view c.args.tree.now) c.args.merges.now c.flatten.new.merges c.args.evals.now c.flatten.ensures.step
+pub returns-in-Broken-clause-at_most : goal.returns-in-Broken-clause-at_most
+returns-in-Broken-clause-at_most g c = merged_only (group_view c.args.tree.now) c.args.merges.now c.merge_of.new.merges c.args.evals.now c.merge_of.ensures.step
+
+pub returns-in_err-flat-clause-at_most : goal.returns-in_err-flat-clause-at_most
+returns-in_err-flat-clause-at_most g c = merged_only (group_view c.args.tree.now) c.args.merges.now c.merge_of.new.merges c.args.evals.now c.merge_of.ensures.step

@@ -1,10 +1,10 @@
 use Rattle.std.proofs.Common.{◌∙◌, ◌∷◌, [], ap, codes, length}
 use Rattle.std.proofs.lemmas.Result.{IfOk-weaker}
 use Rattle.transforms.specs.declared.config.ConfigFault.TheVariants.{Key}
-use Rattle.build_plain.specs.Refusal.{text_at, of_key, detail_line, report, report_text}
-use Rattle.build_plain.specs.Out.{config_path, config_reports, refused_plan, one_output}
-use Rattle.build_plain.specs.declared.rule.Rule.TheVariants as rule
-use Rattle.build_plain.proofs.Reports.{told, one_more}
+use Rattle.refusals.specs.Refusal.{text_at, of_key, detail_line, report, report_text}
+use Rattle.build_plain.specs.Out.{config_path, config_reports, refused_config, one_output}
+use Rattle.refusals.specs.declared.rule.Rule.TheVariants as rule
+use Rattle.refusals.proofs.Reports.{told, one_more}
 use Rattle.build_plain.proofs.config.refused_config.Goals as goal
 
 pub returns-in_ok-append_key-in-Key : goal.returns-in_ok-append_key-in-Key
@@ -15,4 +15,4 @@ returns-in_ok-append_key-in-Key c =
     let key = c.as_slice.result.now in
     let text = told files rule.ConfigKey config_path 0 end b c.append_key.new.out (of_key key ∷ []) c.in_ok-body-in-Key.ensures (one_more b c.append_key.new.out (detail_line (of_key key)) c.in_ok-append_key-in-Key.ensures)
     ∙ ap (λ k. report_text files (report rule.ConfigKey config_path 0 end (of_key k ∷ []))) c.as_slice.ensures in
-    rw c.in-Key.is (IfOk-weaker c.one_output-in-Key.result _ (refused_plan files (config_reports end (Key c.in-Key.key))) (λ o is. is ∙ ap (one_output (codes "REFUSED")) text) c.one_output-in-Key.ensures)
+    rw c.in-Key.is (IfOk-weaker c.one_output-in-Key.result _ (refused_config files (config_reports end (Key c.in-Key.key))) (λ o is. is ∙ ap (one_output (codes "REFUSED")) text) c.one_output-in-Key.ensures)

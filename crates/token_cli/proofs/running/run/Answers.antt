@@ -1,12 +1,13 @@
 use Rattle.std.proofs.Common.{◌≡◌, ◌∙◌, ◌⊎◌, inl, inr, ◌≤◌, ℕ, Bool, true, false, List, length, ap, sym, subst, arith}
 use Rattle.edit_script.specs.Script.{EventData, IsScriptStop}
+use Rattle.command_words.specs.declared.command.Command.TheVariants.{Gen}
 use Rattle.token_cli.specs.Ending.{status_of, place_of}
-use Rattle.token_cli.specs.Headline.{OfScript, WroteStream, WrotePart, WroteUntil, events_for, most_bytes}
+use Rattle.token_cli.specs.Headline.{WroteWhole, WrotePart, asked_by, events_for, most_bytes, telling_of}
 use Rattle.token_cli.specs.Report.{error_text, Reports}
-use Rattle.token_cli.specs.Words.{command_of}
 use Rattle.token_cli.specs.declared.status.Status.{Status}
 use Rattle.token_cli.specs.declared.status.Status.TheVariants as status
-use Rattle.token_cli.proofs.Outcomes.{is_done, is_refusal, is_bad, all_written, not_built, not_read, too_many, taken, at_some, of_script, of_events, not_whole, whole_said, no_stop, said}
+use Rattle.token_cli.specs.declared.telling.Telling.{Telling}
+use Rattle.token_cli.proofs.Outcomes.{Made, is_done, is_refusal, is_bad, is_read, is_long, all_written, not_read, too_many, taken, at_some, no_command, of_script, of_events, whole_said, no_stop, said}
 use Rattle.token_cli.proofs.Once.{part_or_whole, none_or_whole, one_end}
 use Rattle.token_cli.proofs.running.run.Goals as goal
 
@@ -26,12 +27,20 @@ returns-clause-bad_script g c e =
     let R : ℕ → Type 0 = λ n. P (status_of r) n in
     (same, (at, (end, place), subst Q (sym c.status_of.ensures) (subst R (ap place_of is) c.report.ensures)))
 
+pub returns-clause-generated : goal.returns-clause-generated
+returns-clause-generated g c seed size which =
+    let r = c.main_job-ended.result in
+    let (same, bad, read, long) = c.main_job-ended.ensures.generated seed size which in (
+      same,
+      λ e. let (at, is) = is_bad r (sym c.status_of.ensures ∙ e) in bad at is,
+      λ e. read (is_read r (sym c.status_of.ensures ∙ e)),
+      λ e. long (is_long r (sym c.status_of.ensures ∙ e)),
+    )
+
 pub returns-clause-complete : goal.returns-clause-complete
-returns-clause-complete g c command script es which told short reads built no_read no_write =
+returns-clause-complete g c command script es which given told short reads no_read no_write =
     let h = c.main_job-ended.ensures in
     let left = g.S.Source.left c.args.src.now in
-    let words = command_of c.args.words.now in
-    let Until : List EventData → Type 0 = λ xs. WroteUntil xs (g.K.Sink.written c.args.out.now) (g.K.Sink.written c.main_job-ended.new.out) in
     let Bad : ℕ → List ℕ → Type 0 = λ at s. (length s ≤ most_bytes) × IsScriptStop s at in
     let P : Status → Type 0 = λ s. (s ≡ status.Done) ⊎ ((s ≡ status.Refused) ⊎ (s ≡ status.NoMemory)) in
     subst P (sym c.status_of.ensures)
@@ -39,80 +48,76 @@ returns-clause-complete g c command script es which told short reads built no_re
     (λ e. no_read (h.read_fault e).0)
     (λ e. no_write (h.write_fault e).0)
     (λ e. let long = taken 67108865 script left (g.S.Source.left c.main_job-ended.new.src) told (h.too_long e).0 in omega (arith, long, short))
-    (λ e. let (held, deltas, commits, within, none, text) = of_events words left Until command script es which told reads (h.not_yet e).1 in built (length held) (omega (arith, within)) none)
+    (λ e. no_command (asked_by c.args.words.now) command which (h.usage e))
     (λ at e. (at_some script left (Bad at) told (h.bad_script at e).1.1).1.none es reads))
 
-pub returns-clause-unbuilt : goal.returns-clause-unbuilt
-returns-clause-unbuilt g c command script es k which told short reads within none no_read no_write =
+pub returns-clause-generates : goal.returns-clause-generates
+returns-clause-generates g c seed size which no_write =
     let h = c.main_job-ended.ensures in
-    let left = g.S.Source.left c.args.src.now in
-    let words = command_of c.args.words.now in
-    let old = g.K.Sink.written c.args.out.now in
-    let new = g.K.Sink.written c.main_job-ended.new.out in
-    let Whole : Bool → List EventData → Type 0 = λ refused xs. WroteStream xs refused old new in
-    let Bad : ℕ → List ℕ → Type 0 = λ at s. (length s ≤ most_bytes) × IsScriptStop s at in
-    let P : Status → Type 0 = λ s. (s ≡ status.NotYet) ⊎ (s ≡ status.NoMemory) in
+    let (same, bad, read, long) = h.generated seed size which in
+    let P : Status → Type 0 = λ s. (s ≡ status.Done) ⊎ ((s ≡ status.Refused) ⊎ (s ≡ status.NoMemory)) in
     subst P (sym c.status_of.ensures)
-    (not_built c.main_job-ended.result
-    (λ refused e. not_whole c.one_build.ensures.outputs (events_for command es) k refused old new within none (of_events words left (Whole refused) command script es which told reads (h.wrote refused e).1))
-    (λ e. no_read (h.read_fault e).0)
+    (all_written c.main_job-ended.result
+    read
     (λ e. no_write (h.write_fault e).0)
-    (λ e. let long = taken 67108865 script left (g.S.Source.left c.main_job-ended.new.src) told (h.too_long e).0 in omega (arith, long, short))
-    (λ at e. (at_some script left (Bad at) told (h.bad_script at e).1.1).1.none es reads))
+    long
+    (λ e. no_command (asked_by c.args.words.now) (Gen seed size) which (h.usage e))
+    bad)
 
 pub returns-clause-unread : goal.returns-clause-unread
-returns-clause-unread g c command script which told short none no_read =
+returns-clause-unread g c command script which given told short none no_read =
     let h = c.main_job-ended.ensures in
     let left = g.S.Source.left c.args.src.now in
-    let words = command_of c.args.words.now in
+    let rest = g.S.Source.left c.main_job-ended.new.src in
+    let words = asked_by c.args.words.now in
     let old = g.K.Sink.written c.args.out.now in
     let new = g.K.Sink.written c.main_job-ended.new.out in
-    let Whole : Bool → List EventData → Type 0 = λ refused xs. WroteStream xs refused old new in
-    let Front : List EventData → Type 0 = λ xs. WrotePart xs old new in
-    let Until : List EventData → Type 0 = λ xs. WroteUntil xs old new in
+    let Whole : Bool → Telling → List EventData → Type 0 = λ refused t xs. WroteWhole t xs refused old new in
+    let Part : Telling → List EventData → Type 0 = λ t xs. WrotePart t xs old new in
     let P : Status → Type 0 = λ s. (s ≡ status.BadScript) ⊎ (s ≡ status.NoMemory) in
     subst P (sym c.status_of.ensures)
     (not_read c.main_job-ended.result
-    (λ refused e. let (some, (es, is, rest)) = of_script words left (Whole refused) command script which told (h.wrote refused e).1 in none es is)
+    (λ refused e. let (some, (es, is, holds)) = of_script words left rest (Whole refused) command script which given told (h.wrote refused e) in none es is)
     (λ e. no_read (h.read_fault e).0)
-    (λ e. let (some, (es, is, rest)) = of_script words left Front command script which told (h.write_fault e).1.1 in none es is)
-    (λ e. let long = taken 67108865 script left (g.S.Source.left c.main_job-ended.new.src) told (h.too_long e).0 in omega (arith, long, short))
-    (λ e. let (some, (es, is, rest)) = of_script words left Until command script which told (h.not_yet e).1 in none es is))
+    (λ e. let (some, (es, is, holds)) = of_script words left rest Part command script which given told (h.write_fault e).1 in none es is)
+    (λ e. let long = taken 67108865 script left rest told (h.too_long e).0 in omega (arith, long, short))
+    (λ e. no_command words command which (h.usage e)))
 
 pub returns-clause-endless : goal.returns-clause-endless
-returns-clause-endless g c command script which told long no_read =
+returns-clause-endless g c command script which given told long no_read =
     let h = c.main_job-ended.ensures in
     let left = g.S.Source.left c.args.src.now in
-    let words = command_of c.args.words.now in
+    let rest = g.S.Source.left c.main_job-ended.new.src in
+    let words = asked_by c.args.words.now in
     let old = g.K.Sink.written c.args.out.now in
     let new = g.K.Sink.written c.main_job-ended.new.out in
-    let Whole : Bool → List EventData → Type 0 = λ refused xs. WroteStream xs refused old new in
-    let Front : List EventData → Type 0 = λ xs. WrotePart xs old new in
-    let Until : List EventData → Type 0 = λ xs. WroteUntil xs old new in
+    let Whole : Bool → Telling → List EventData → Type 0 = λ refused t xs. WroteWhole t xs refused old new in
+    let Part : Telling → List EventData → Type 0 = λ t xs. WrotePart t xs old new in
     let Bad : ℕ → List ℕ → Type 0 = λ at s. (length s ≤ most_bytes) × IsScriptStop s at in
     let P : Status → Type 0 = λ s. (s ≡ status.TooLong) ⊎ (s ≡ status.NoMemory) in
     subst P (sym c.status_of.ensures)
     (too_many c.main_job-ended.result
-    (λ refused e. let (short, rest) = of_script words left (Whole refused) command script which told (h.wrote refused e).1 in omega (arith, short, long))
+    (λ refused e. let (short, holds) = of_script words left rest (Whole refused) command script which given told (h.wrote refused e) in omega (arith, short, long))
     (λ e. no_read (h.read_fault e).0)
-    (λ e. let (short, rest) = of_script words left Front command script which told (h.write_fault e).1.1 in omega (arith, short, long))
-    (λ e. let (short, rest) = of_script words left Until command script which told (h.not_yet e).1 in omega (arith, short, long))
+    (λ e. let (short, holds) = of_script words left rest Part command script which given told (h.write_fault e).1 in omega (arith, short, long))
+    (λ e. no_command words command which (h.usage e))
     (λ at e. let short = (at_some script left (Bad at) told (h.bad_script at e).1.1).0 in omega (arith, short, long)))
 
 pub returns-clause-all : goal.returns-clause-all
-returns-clause-all g c command script es before refused which told reads holds wrote =
+returns-clause-all g c command script es before refused which is reads holds wrote =
     let h = c.main_job-ended.ensures in
     let r = c.main_job-ended.result in
+    let one = c.one_build.ensures.outputs in
     let left = g.S.Source.left c.args.src.now in
-    let words = command_of c.args.words.now in
+    let rest = g.S.Source.left c.main_job-ended.new.src in
+    let words = asked_by c.args.words.now in
     let old = g.K.Sink.written c.args.out.now in
     let new = g.K.Sink.written c.main_job-ended.new.out in
+    let told = telling_of command in
     let events = events_for command es in
-    let Whole : Bool → List EventData → Type 0 = λ x xs. WroteStream xs x old new in
-    let Part : List EventData → Type 0 = λ xs. WrotePart xs old new in
-    let Until : List EventData → Type 0 = λ xs. WroteUntil xs old new in
-    let none : new ≡ old → ⊥ = λ same. none_or_whole events refused old new before holds same wrote in
-    let part : OfScript words left Part → ⊥ = λ p. part_or_whole c.one_build.ensures.outputs events refused old new before holds (of_events words left Part command script es which told reads p) wrote in
-    let until : OfScript words left Until → ⊥ = λ p. let (held, deltas, commits, within, unbuilt, text) = of_events words left Until command script es which told reads p in not_whole c.one_build.ensures.outputs events (length held) refused old new (omega (arith, within)) unbuilt wrote in
-    c.status_of.ensures ∙ (whole_said r refused (λ x e. one_end c.one_build.ensures.outputs events x refused old new (of_events words left (Whole x) command script es which told reads (h.wrote x e).1) wrote) (no_stop r (λ e. until (h.not_yet e).1) (λ at e. none (h.bad_script at e).0) (λ e. none (h.read_fault e).1) (λ e. part (h.write_fault e).1.1) (λ e. elim (h.memory e) [ inl same ↦ none same | inr p ↦ part p.1 ]) (λ e. none (h.too_long e).1))
+    let Whole : Bool → Telling → List EventData → Type 0 = λ x t xs. WroteWhole t xs x old new in
+    let Part : Telling → List EventData → Type 0 = λ t xs. WrotePart t xs old new in
+    let none : new ≡ old → ⊥ = λ same. none_or_whole told events refused old new before holds same wrote in
+    let part : Made words left rest Part → ⊥ = λ p. part_or_whole told one events refused old new before holds (of_events words left rest Part command script es which is reads p) wrote in
+    c.status_of.ensures ∙ (whole_said r refused (λ x e. one_end told one events x refused old new (of_events words left rest (Whole x) command script es which is reads (h.wrote x e)) wrote) (no_stop r (λ e. no_command words command which (h.usage e)) (λ at e. none (h.bad_script at e).0) (λ e. none (h.read_fault e).1) (λ e. part (h.write_fault e).1) (λ e. elim (h.memory e) [ inl same ↦ none same | inr p ↦ part p ]) (λ e. none (h.too_long e).1))
     ∙ said refused)

@@ -1,0 +1,33 @@
+use Rattle.file_plan.specs.View.{plan_view}
+use Rattle.build_plain.specs.Work.{work, PermsWork}
+use Rattle.build_plain.proofs.Stands.{all_stand}
+use Rattle.build_plain.proofs.Works.{any_ok, no_rise}
+use Rattle.build_plain.proofs.building.build_planned.Goals as goal
+
+pub build_perms-requires : goal.build_perms-requires
+build_perms-requires g c = record {
+  stand = all_stand c.args.files.now (plan_view c.args.plan.now) c.file_plan_laws.ensures.stand c.requires.plan;
+  known = c.in_ok-shapes.ensures.known;
+}
+
+pub returns-clause-ok : goal.returns-clause-ok
+returns-clause-ok g c = c.build_perms.ensures.ok
+
+pub returns-clause-steps : goal.returns-clause-steps
+returns-clause-steps g c = any_ok c.build_perms.result c.in_ok-shapes.ensures.steps
+
+pub returns-clause-work : goal.returns-clause-work
+returns-clause-work g c = c.build_perms.ensures.work
+
+pub returns-clause-most_steps : goal.returns-clause-most_steps
+returns-clause-most_steps g c = c.read_shapes.ensures.at_most
+
+pub returns-clause-at_most : goal.returns-clause-at_most
+returns-clause-at_most g c = c.build_perms.ensures.at_most
+
+pub returns-in_err-shapes-clause-most_steps : goal.returns-in_err-shapes-clause-most_steps
+returns-in_err-shapes-clause-most_steps g c = c.read_shapes.ensures.at_most
+
+pub returns-in_err-shapes-clause-at_most : goal.returns-in_err-shapes-clause-at_most
+returns-in_err-shapes-clause-at_most g c =
+    no_rise (PermsWork c.args.files.now (plan_view c.args.plan.now)) (work 0 c.args.merges.now c.args.evals.now)
