@@ -1,10 +1,8 @@
 use Rattle.std.proofs.Common.{◌≡◌, List, [], ◌∷◌, ◌++◌, ◌⊎◌, inl, inr, refl, sym, ap, subst, append_assoc}
-use Rattle.ring.specs.Routes.{In, Leads, IsRoute, IsClosedRoute, HasNoRing}
+use Rattle.ring.specs.Lists.{In}
+use Rattle.ring.specs.Routes.{Leads, IsRoute, IsClosedRoute, HasNoRing}
 use Rattle.ring.specs.Order.{Follows}
-
--- each way on from a node ends
-pub data Ends {N : Type 0} (needs : N → List N) : N → Type 0 where
-  ends : {v : N} → ((w : N) → In w (needs v) → Ends needs w) → Ends needs v
+pub use Rattle.ring.specs.Existence.{IsGrounded as Ends, grounded as ends}
 
 pub ends_next : {N : Type 0} (needs : N → List N) (v w : N) → Ends needs v → In w (needs v) → Ends needs w
 ends_next needs v w (ends f) i = f w i
@@ -21,6 +19,10 @@ pub in_left : {N : Type 0} (xs ys : List N) (x : N) → In x xs → In x (xs ++ 
 in_left [] ys x i = absurd i
 in_left (y ∷ xs) ys x (inl e) = inl e
 in_left (y ∷ xs) ys x (inr i) = inr (in_left xs ys x i)
+
+pub in_right : {N : Type 0} (xs ys : List N) (x : N) → In x ys → In x (xs ++ ys)
+in_right [] ys x i = i
+in_right (y ∷ xs) ys x i = inr (in_right xs ys x i)
 
 pub in_cases : {N : Type 0} (xs ys : List N) (x : N) → In x (xs ++ ys) → In x xs ⊎ In x ys
 in_cases [] ys x i = inr i

@@ -1,6 +1,7 @@
 -- A graph has one first ring from a root.
 use Rattle.std.proofs.Common.{◌≡◌, List, [], ◌∷◌, ◌++◌, inl, inr, refl, sym, ap, ◌∙◌, subst, append_assoc}
-use Rattle.ring.specs.Routes.{In, AreApart, Precedes, IsRoute, Closes, NotAfter, IsNotAfter, IsFirstClosedRoute, IsPartOf, IsRing}
+use Rattle.ring.specs.Lists.{In, AreApart}
+use Rattle.ring.specs.Routes.{Precedes, IsRoute, Closes, NotAfter, IsNotAfter, IsFirstClosedRoute, IsPartOf, IsRing}
 
 precedes_one : {N : Type 0} (x y : N) (zs : List N) → Precedes x y zs → Precedes y x zs → ⊥
 precedes_one x y [] p q = absurd p

@@ -1,6 +1,7 @@
 -- What holds of a graph holds of it with its nodes renamed.
 use Rattle.std.proofs.Common.{◌≡◌, List, [], ◌∷◌, ◌++◌, inl, inr, refl, sym, ap, ◌∙◌, subst, map}
-use Rattle.ring.specs.Routes.{In, AreApart, Precedes, Leads, IsRoute, Closes, IsClosedRoute, NotAfter, IsNotAfter, IsFirstClosedRoute, IsPartOf, IsRing, HasNoRing, IsReached}
+use Rattle.ring.specs.Lists.{In, AreApart}
+use Rattle.ring.specs.Routes.{Precedes, Leads, IsRoute, Closes, IsClosedRoute, NotAfter, IsNotAfter, IsFirstClosedRoute, IsPartOf, IsRing, HasNoRing, IsReached}
 use Rattle.ring.specs.Order.{Follows, IsOrder}
 use Rattle.ring.specs.Values.{Comes, comes, AllCome, none, more}
 use Rattle.ring.specs.Renaming.{IsRenaming, SameSteps}

@@ -2,13 +2,15 @@ use Rattle.std.proofs.Common.{◌≡◌, ◌≢◌, ℕ, zero, suc, ◌+◌, ◌
 use Rattle.std.proofs.lemmas.Bool.{cases_eq, cases_lt}
 use Rattle.std.proofs.lemmas.List.{get_or_past}
 use Rattle.std.proofs.lemmas.List.Elements.{All-nil, All-cons}
-use Rattle.ring.specs.Routes.{In, AreApart, Precedes, Leads, IsRoute, Closes, NotAfter, IsNotAfter, IsFirstClosedRoute, IsRing, HasNoRing, IsReached}
+use Rattle.ring.specs.Lists.{In, AreApart}
+use Rattle.ring.specs.Routes.{Precedes, Leads, IsRoute, Closes, NotAfter, IsNotAfter, IsFirstClosedRoute, IsRing, HasNoRing, IsReached}
 use Rattle.ring.specs.Order.{Follows, IsOrder}
 use Rattle.ring.specs.Stack.{nodes, IsFrom}
 use Rattle.ring.specs.declared.search.Frame.{Frame}
 use Rattle.ring.specs.declared.search.Mark.{Mark}
 use Rattle.ring.specs.declared.search.Mark.TheVariants.{New, Open, Done}
-use Rattle.ring.proofs.Ends.{in_last, in_left, in_cases, closed_alive, no_ring, order_ends, follows_push}
+use Rattle.ring.proofs.ApartLists.{not_again, apart_left, not_closed, apart_push}
+use Rattle.ring.proofs.Ends.{in_last, in_left, in_right, in_cases, closed_alive, no_ring, order_ends, follows_push}
 
 -- x is at the place k
 abbrev pub At : {N : Type 0} → ℕ → List N → N → Type 0
@@ -61,32 +63,9 @@ before_mono P Q f zero xs e = tt
 before_mono P Q f (suc k) [] e = tt
 before_mono P Q f (suc k) (x ∷ xs) e = (f x e.0, before_mono P Q f k xs e.1)
 
-not_again : (front : List ℕ) (last : ℕ) → AreApart (front ++ last ∷ []) → In last front → ⊥
-not_again [] last a i = i
-not_again (x ∷ xs) last a (inl p) = a.0 (subst (λ (z : ℕ). In z (xs ++ last ∷ [])) p (in_last xs last))
-not_again (x ∷ xs) last a (inr i) = not_again xs last a.1 i
-
-apart_left : (xs ys : List ℕ) → AreApart (xs ++ ys) → AreApart xs
-apart_left [] ys a = tt
-apart_left (x ∷ xs) ys a = ((λ i. a.0 (in_left xs ys x i)), apart_left xs ys a.1)
-
--- No closed route is a part of what is apart.
-not_closed : (route more : List ℕ) → AreApart (route ++ more) → Closes route → ⊥
-not_closed route more a c = not_again c.front c.last (subst AreApart c.whole (apart_left route more a)) c.again
-
 nodes_append : (xs ys : List Frame) → nodes (xs ++ ys) ≡ nodes xs ++ nodes ys
 nodes_append [] ys = refl
 nodes_append (f ∷ fs) ys = ap (λ (vs : List ℕ). f.node ∷ vs) (nodes_append fs ys)
-
-apart_push : (xs : List ℕ) (x : ℕ) → AreApart xs → (In x xs → ⊥) → AreApart (xs ++ x ∷ [])
-apart_push [] x a n = ((λ i. i), tt)
-apart_push (y ∷ ys) x a n = (
-  (λ i. elim (in_cases ys (x ∷ []) y i) [
-    | inl j ↦ a.0 j
-    | inr j ↦ elim j [ inl p ↦ n (inl (sym p)) | inr z ↦ absurd z ]
-  ]),
-  apart_push ys x a.1 (λ i. n (inr i)),
-)
 
 abbrev pub mark : List Mark → ℕ → Mark
 mark marks v = get_or marks v New
@@ -407,10 +386,6 @@ module _ (needs : ℕ → List ℕ) where
 all_in : (P : ℕ → Type 0) (xs : List ℕ) → ((x : ℕ) → In x xs → P x) → All P xs
 all_in P [] h = All-nil P
 all_in P (x ∷ xs) h = All-cons P x xs (h x (inl refl)) (all_in P xs (λ y i. h y (inr i)))
-
-in_right : (xs ys : List ℕ) (x : ℕ) → In x ys → In x (xs ++ ys)
-in_right [] ys x i = i
-in_right (y ∷ xs) ys x i = inr (in_right xs ys x i)
 
 module _ (needs : ℕ → List ℕ) (root : ℕ) (marks : List Mark) (n : ℕ) where
   pub order_within : (order : List ℕ) → length marks ≡ n → Searching needs root marks [] order → All (λ v. v < n) order

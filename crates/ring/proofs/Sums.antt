@@ -4,7 +4,7 @@ use Rattle.std.proofs.lemmas.Bool.{cases_eq}
 use Rattle.std.proofs.lemmas.List.{take_more}
 use Rattle.std.specs.List.{sum_by}
 use Rattle.std.proofs.lemmas.List.Sums.{sum_by-cons}
-use Rattle.ring.specs.Routes.{In}
+use Rattle.ring.specs.Lists.{In}
 use Rattle.ring.specs.Order.{Follows}
 use Rattle.ring.specs.Values.{comes, AllCome, none, more, total_step, IsTotal}
 use Rattle.ring.proofs.Ends.{in_cases}

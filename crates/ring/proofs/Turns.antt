@@ -7,7 +7,8 @@ use Rattle.ring.specs.declared.search.Frame.{Frame}
 use Rattle.ring.specs.declared.search.Mark.{Mark}
 use Rattle.ring.specs.declared.search.Mark.TheVariants.{New, Open, Done}
 use Rattle.std.proofs.lemmas.List.{get_or_read}
-use Rattle.ring.specs.Routes.{In, IsRing}
+use Rattle.ring.specs.Lists.{In}
+use Rattle.ring.specs.Routes.{IsRing}
 use Rattle.ring.specs.Stack.{nodes, IsFrom}
 use Rattle.ring.proofs.Searches.{At, at_get_or, Searching, advance, enter, leave, found, top_open, top_within}
 use Rattle.ring.proofs.Work.{weight, new_work, left_work, left_append, work_set}

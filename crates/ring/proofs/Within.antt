@@ -2,7 +2,8 @@
 use Rattle.std.proofs.Common.{ℕ, zero, suc, ◌<◌, List, [], ◌∷◌, ◌++◌, length, All, inl, inr, sym, subst, Vec}
 use Rattle.std.proofs.lemmas.List.Elements.{All-head, All-tail}
 use Rattle.std.specs.declared.alloc.Global.{Global}
-use Rattle.ring.specs.Routes.{In, Leads, IsRoute, IsReached}
+use Rattle.ring.specs.Lists.{In}
+use Rattle.ring.specs.Routes.{Leads, IsRoute, IsReached}
 use Rattle.ring.specs.Graph.{needs_in, IsGraph}
 
 in_all : (P : ℕ → Type 0) (xs : List ℕ) (w : ℕ) → All P xs → In w xs → P w

@@ -1,7 +1,10 @@
-pub mod Answer
-pub mod Graph
-pub mod Order
-pub mod Renaming
+pub mod Lists
 pub mod Routes
-pub mod Stack
+pub mod Order
 pub mod Values
+pub mod Existence
+pub mod Renaming
+pub mod Graph
+pub mod Answer
+pub mod Laws
+pub mod Stack

@@ -1,6 +1,7 @@
 -- Orders of the nodes of a graph, in which each node follows what it needs.
 use Rattle.std.specs.Prelude.{List, [], ◌∷◌, ◌++◌}
-use Rattle.ring.specs.Routes.{In, AreApart, IsReached}
+use Rattle.ring.specs.Lists.{In, AreApart}
+use Rattle.ring.specs.Routes.{IsReached}
 
 -- Each node of the list comes after all that it needs, which may also be among those seen before.
 abbrev pub Follows : {N : Type 0} → (N → List N) → List N → List N → Type 0

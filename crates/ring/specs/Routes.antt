@@ -1,15 +1,6 @@
 -- Routes of a graph in which each node needs others, in an order of its own, and the ring of the first that closes.
 use Rattle.std.specs.Prelude.{◌≡◌, ◌≢◌, List, [], ◌∷◌, ◌++◌, ◌⊎◌}
-
--- x is one of xs
-abbrev pub In : {N : Type 0} → N → List N → Type 0
-In x [] = ⊥
-In x (y ∷ ys) = (x ≡ y) ⊎ In x ys
-
--- no two are alike
-abbrev pub AreApart : {N : Type 0} → List N → Type 0
-AreApart [] = Unit {0}
-AreApart (x ∷ xs) = (In x xs → ⊥) × AreApart xs
+pub use Rattle.ring.specs.Lists.{In, AreApart}
 
 -- x stands in the list before the first place of y
 abbrev pub Precedes : {N : Type 0} → N → N → List N → Type 0

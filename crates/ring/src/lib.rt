@@ -13,6 +13,9 @@ mod search;
 mod tests;
 mod totals;
 
-pub use laws::{one_ring, one_total, one_value, reached_within, renamed_graph, renamed_values};
+pub use laws::{
+    each_graph_answers, grounded_values, list_words, one_ring, one_total, one_value,
+    reached_within, renamed_graph, renamed_values,
+};
 pub use search::{Found, is_graph, ring_or_order};
 pub use totals::capped_totals;

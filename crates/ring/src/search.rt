@@ -1,6 +1,7 @@
 // The search for the first closed route, with a stack of its own.
 ghost use Rattle.std.specs.Prelude.{◌≡◌, ◌<◌, ◌↔◌, length, All, IfOk, IsTrue};
-ghost use Rattle.ring.specs.Routes.{In, IsRing, HasNoRing};
+ghost use Rattle.ring.specs.Lists.{In};
+ghost use Rattle.ring.specs.Routes.{IsRing, HasNoRing};
 ghost use Rattle.ring.specs.Order.{IsOrder};
 ghost use Rattle.ring.specs.Graph.{needs_in, IsGraph};
 ghost use Rattle.ring.specs.Stack.{nodes, IsFrom};
@@ -71,11 +72,11 @@ pub fn is_graph(graph: &[Vec<usize>]) -> bool
 pub fn ring_or_order(alloc: Global, graph: &[Vec<usize>], root: usize) -> Result<Found, AllocError>
     requires root { root < length graph.now }
     requires graph { IsGraph graph.now }
-    ensures ring { IfOk result (λ found. IfRing found (λ ring. IsRing (needs_in graph.now) root ring)) }
-    ensures no_ring { IfOk result (λ found. IfOrder found (λ order. HasNoRing (needs_in graph.now) root)) }
-    ensures order { IfOk result (λ found. IfOrder found (λ order. IsOrder (needs_in graph.now) root order)) }
-    ensures ring_within { IfOk result (λ found. IfRing found (λ ring. All (λ v. v < length graph.now) ring)) }
-    ensures order_within { IfOk result (λ found. IfOrder found (λ order. All (λ v. v < length graph.now) order)) }
+    ensures ring { IfOk result (λ f. IfRing f (IsRing (needs_in graph.now) root)) }
+    ensures no_ring { IfOk result (λ f. IfOrder f (λ _. HasNoRing (needs_in graph.now) root)) }
+    ensures order { IfOk result (λ f. IfOrder f (IsOrder (needs_in graph.now) root)) }
+    ensures ring_within { IfOk result (λ f. IfRing f (All (λ v. v < length graph.now))) }
+    ensures order_within { IfOk result (λ f. IfOrder f (All (λ v. v < length graph.now))) }
 {
     let mut marks = vec![in alloc; Mark::New; graph.len()]?;
     let mut order = Vec::new(alloc);

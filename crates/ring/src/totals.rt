@@ -1,9 +1,8 @@
 // Totals of nodes, each of its own and of what it needs.
 ghost use Rattle.std.specs.Prelude.{◌≡◌, ℕ, ◌+◌, ◌<◌, List, length, [], All, IfOk, min, slice_index};
 ghost use Rattle.std.specs.List.{sum_by};
-ghost use Rattle.ring.specs.Routes.{In};
 ghost use Rattle.ring.specs.Order.{Follows};
-ghost use Rattle.ring.specs.Values.{IsTotal};
+ghost use Rattle.ring.specs.Values.{AreTotals};
 ghost use Rattle.ring.specs.Graph.{needs_in, IsGraph};
 
 use std::alloc::{AllocError, Global};
@@ -37,7 +36,7 @@ pub fn capped_totals(
     requires order { Follows (needs_in graph.now) [] order.now }
     requires own { length own.now ≡ length graph.now }
     ensures long { IfOk result (λ table. length table.items ≡ length graph.now) }
-    ensures totals { IfOk result (λ table. (v : ℕ) → In v order.now → IsTotal (needs_in graph.now) own.now v (slice_index table.items v)) }
+    ensures totals { IfOk result (λ t. AreTotals (needs_in graph.now) own.now order.now t.items) }
 {
     let mut table = vec![in alloc; 0; graph.len()]?;
     for v in order {

@@ -1,5 +1,5 @@
 use Rattle.std.proofs.Common.{arith, rules, ◌<◌, ◌∙◌, ◌++◌, [], ◌∷◌, sym, subst, List, ap, length-set, length, set}
-use Rattle.ring.specs.Routes.{In}
+use Rattle.ring.specs.Lists.{In}
 use Rattle.ring.specs.Stack.{nodes, IsFrom}
 use Rattle.ring.specs.Graph.{needs_in}
 use Rattle.ring.specs.declared.search.Frame.{Frame}

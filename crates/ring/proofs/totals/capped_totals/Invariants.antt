@@ -1,5 +1,5 @@
 use Rattle.std.proofs.Common.{◌≡◌, ℕ, length, get_or, take}
-use Rattle.ring.specs.Routes.{In}
+use Rattle.ring.specs.Lists.{In}
 use Rattle.ring.specs.Graph.{needs_in}
 use Rattle.ring.specs.Values.{IsTotal}
 use Rattle.ring.proofs.totals.capped_totals.Given as goal
