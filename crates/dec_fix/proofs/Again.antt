@@ -1,4 +1,4 @@
--- What is written is read again, whatever follows that can't go on a number.
+-- What is written is read again, whatever follows that can't go on a number. Proofs of other crates may cite this.
 use Rattle.std.proofs.Common.{◌≡◌, ℕ, zero, suc, ◌+◌, ◌-◌, ◌*◌, ◌/◌, ◌%◌, ◌^◌, ◌<◌, inl, inr, List, [], ◌∷◌, ◌++◌, length, refl, ◌∙◌, ap, arith, append_assoc, Bool, true, false, ◌&&◌, lit<, ◌==◌, nat_lt, ℤ, pos, negsuc}
 use Rattle.std.proofs.Math.Nat.{pow-suc, one-le-pow, mul_comm, div-le_self, div-add-mod'}
 use lib.Arith.{mod-mul}

@@ -1,4 +1,4 @@
--- The readers split exactly the texts of JSON numbers, each into its parts.
+-- The readers split exactly the texts of JSON numbers, each into its parts. Proofs of other crates may cite this.
 use Rattle.std.proofs.Common.{◌≡◌, ℕ, ◌<◌, ◌==◌, ◌||◌, ◌⊎◌, inl, inr, List, [], ◌∷◌, ◌++◌, length, refl, sym, ◌∙◌, ap, subst, arith, append-nil, Bool, true, false, Some, None, Option, if◌then◌else◌}
 use Rattle.std.specs.Prelude.{option_map, option_and_then}
 use Rattle.std.specs.Str.{all_ascii_digits}

@@ -1,15 +1,15 @@
-pub mod Scaling
-pub mod Digits
-pub mod Short
+mod Scaling
+mod Digits
+mod Short
 pub mod OneShortest
 pub mod SameNumber
-pub mod Placed
-pub mod LastDigits
+mod Placed
+mod LastDigits
 pub mod Numeral
 pub mod Again
 pub mod Pointed
 pub mod Grammar
-pub mod Exactness
-pub mod Exact
-pub mod Range
+mod Exactness
+mod Exact
+mod Range
 pub mod ReadingBack

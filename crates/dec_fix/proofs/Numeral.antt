@@ -1,4 +1,4 @@
--- The digits of a whole number have no leading zero.
+-- The digits of a whole number have no leading zero. Proofs of other crates may cite this.
 use Rattle.std.proofs.Common.{◌≡◌, ℕ, ◌+◌, ◌%◌, ◌^◌, ◌<◌, List, [], ◌∷◌, ◌++◌, refl, arith, Bool, true, false}
 use Rattle.std.specs.Prelude.{nat_lt}
 use Rattle.std.specs.Fmt.{decimal}

@@ -5,7 +5,7 @@ use Rattle.std.proofs.lemmas.Bool.{cases_lt}
 use Rattle.std.proofs.lemmas.Nat.{pow-add}
 use Rattle.dec_fix.specs.Decimal.{Decimal, shortest}
 use Rattle.dec_fix.specs.Reading.{within}
-use Rattle.dec_fix.specs.Significand.{Holds, IsLast}
+use Rattle.dec_fix.specs.inner.Significand.{Holds, IsLast}
 use Rattle.dec_fix.proofs.Scaling.{scaled_up, scaled_none}
 use Rattle.dec_fix.proofs.Short.{shortest_up, shortest_down, shortest_zero}
 

@@ -1,4 +1,4 @@
--- What is written with a point is read again.
+-- What is written with a point is read again. Proofs of other crates may cite this.
 use Rattle.std.proofs.Common.{◌≡◌, ℕ, zero, suc, ◌+◌, ◌*◌, ◌/◌, ◌%◌, ◌^◌, ◌<◌, List, [], ◌∷◌, ◌++◌, refl, ◌∙◌, ap, arith, append_assoc, append-nil, Bool, true, false, ◌==◌, ℤ, pos, negsuc}
 use Rattle.std.specs.Fmt.{decimal}
 use Rattle.std.proofs.lemmas.Fmt.{decimal_is_IsNumeral_wide}

@@ -6,7 +6,7 @@ use Rattle.std.specs.Ordering.{int_cmp}
 use Rattle.std.proofs.lemmas.Bool.{cases_lt}
 use Rattle.std.proofs.lemmas.Bool.Decides.{nat_tests}
 use Rattle.dec_fix.specs.Decimal.{Decimal}
-use Rattle.dec_fix.specs.Arithmetic.{IsPart}
+use Rattle.dec_fix.specs.Arithmetic.{IsFromZeroToOne}
 
 between : (c : ℤ) (low high : ℕ) → int_cmp c (pos low) ≢ Less → int_cmp c (pos high) ≢ Greater → unsigned_abs c ≤ high
 between (pos n) low high l h = elim (cases_lt high n) [
@@ -15,5 +15,5 @@ between (pos n) low high l h = elim (cases_lt high n) [
 ]
 between (negsuc n) low high l h = absurd (l refl)
 
-pub part_size : (d : Decimal) → IsPart d → unsigned_abs d.c ≤ 10 ^ d.s
+pub part_size : (d : Decimal) → IsFromZeroToOne d → unsigned_abs d.c ≤ 10 ^ d.s
 part_size d h = omega (arith, between d.c (0 * 10 ^ d.s) (1 * 10 ^ d.s) h.low h.high)

@@ -1,4 +1,5 @@
 -- One number in several forms: by signs and sizes, through a third, and in the one form that is short.
+-- Proofs of other crates may cite this.
 use Rattle.std.proofs.Common.{◌≡◌, ◌≢◌, inl, ℕ, zero, suc, ◌+◌, ◌*◌, ◌/◌, ◌^◌, ◌<◌, refl, sym, ◌∙◌, ap, subst, arith, lit<, Bool, true, false, ℤ, pos, negsuc}
 use Rattle.std.specs.Prelude.{◌*ℤ◌, unsigned_abs}
 use Rattle.std.proofs.Math.Nat.{mul-div_cancel, one-le-pow}

@@ -2,7 +2,7 @@
 use Rattle.std.proofs.Common.{◌≡◌, ℕ, ◌+◌, ◌*◌, ◌%◌, ◌^◌, ◌<◌, ◌≤◌, inl, inr, min, arith, add-one}
 use Rattle.std.proofs.Math.Nat.{pow-suc, pow-zero, one-le-pow, min-eq_left, min-eq_right, le-mul_of_pos_right}
 use Rattle.std.proofs.lemmas.Bool.{cases_lt}
-use Rattle.dec_fix.specs.Significand.{Holds}
+use Rattle.dec_fix.specs.inner.Significand.{Holds}
 
 pub ten_step : (n k : ℕ) → n * 10 * 10 ^ k ≡ n * 10 ^ (k + 1)
 ten_step n k = rw (add-one k, pow-suc 10 k) (omega arith)

@@ -24,7 +24,7 @@ abbrev pub over_1000 : Decimal → Decimal
 over_1000 d = decimal_of (is_negative d.c) (unsigned_abs d.c) (d.s + 3)
 
 -- a number from 0 to 1
-pub record IsPart (d : Decimal) : Type 0 where
+pub record IsFromZeroToOne (d : Decimal) : Type 0 where
   pub low : order_with d 0 ≢ Less
   pub high : order_with d 1 ≢ Greater
 

@@ -1,6 +1,7 @@
 -- A number at the front of a text, of any length, and what follows it: an optional `-`, digits, and optionally a point and digits.
 use Rattle.std.specs.Prelude.{ℕ, ◌==◌, ◌&&◌, ◌||◌, not, Bool, true, List, [], ◌∷◌, ◌++◌, length, nat_lt, if◌then◌else◌}
 use Rattle.std.specs.Char.{is_ascii_digit}
+use Rattle.tk_io.specs.Characters.{full_stop}
 use Rattle.dec_fix.specs.Decimal.{Decimal, decimal_of}
 use Rattle.dec_fix.specs.Spelling.{value}
 use Rattle.dec_fix.specs.Reading.{digits_front, digits_rest, sign_at}
@@ -9,7 +10,7 @@ use Rattle.dec_fix.specs.Reading.{digits_front, digits_rest, sign_at}
 abbrev pub fraction_after : Bool → List ℕ → List ℕ → Decimal × List ℕ
 fraction_after negative whole [] = (decimal_of negative (value whole) 0, [])
 fraction_after negative whole (c ∷ t) =
-    if (c == 46) && nat_lt 0 (length (digits_front t)) then (decimal_of negative (value (whole ++ digits_front t)) (length (digits_front t)), digits_rest t)
+    if (c == full_stop) && nat_lt 0 (length (digits_front t)) then (decimal_of negative (value (whole ++ digits_front t)) (length (digits_front t)), digits_rest t)
     else (decimal_of negative (value whole) 0, c ∷ t)
 
 abbrev pub unsigned_at : Bool → List ℕ → Decimal × List ℕ
@@ -21,7 +22,7 @@ number_at t = unsigned_at (sign_at t).0 (sign_at t).1
 -- the text can't go on a number
 abbrev pub ends_number : List ℕ → Bool
 ends_number [] = true
-ends_number (c ∷ t) = not (is_ascii_digit c || (c == 46))
+ends_number (c ∷ t) = not (is_ascii_digit c || (c == full_stop))
 
 abbrev pub ends_digits : List ℕ → Bool
 ends_digits [] = true

@@ -4,5 +4,4 @@ pub mod Reading
 pub mod Following
 pub mod Writing
 pub mod Arithmetic
-pub mod Significand
-pub mod Shown
+pub mod inner

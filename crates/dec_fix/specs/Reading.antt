@@ -1,6 +1,7 @@
 -- The number that a text spells, as a function of the text.
 use Rattle.std.specs.Prelude.{ℕ, ◌+◌, ◌*◌, ◌^◌, ◌==◌, ◌&&◌, ◌||◌, Bool, true, false, List, [], ◌∷◌, ◌++◌, length, nat_lt, nat_le, Option, Some, None, if◌then◌else◌, option_map, option_and_then, unsigned_abs}
 use Rattle.std.specs.Char.{is_ascii_digit}
+use Rattle.tk_io.specs.Characters.{plus_sign, hyphen, full_stop, digit_zero, capital_e, small_e}
 use Rattle.dec_fix.specs.Decimal.{Decimal, signed, decimal_of}
 use Rattle.dec_fix.specs.Spelling.{value}
 
@@ -25,25 +26,25 @@ pub record Split : Type 0 where
 -- whether a `-` stands at the front, and what follows
 abbrev pub sign_at : List ℕ → Bool × List ℕ
 sign_at [] = (false, [])
-sign_at (c ∷ t) = if c == 45 then (true, t) else (false, c ∷ t)
+sign_at (c ∷ t) = if c == hyphen then (true, t) else (false, c ∷ t)
 
 -- digits without a leading zero, save `0` itself
 abbrev pub is_whole : List ℕ → Bool
 is_whole [] = false
 is_whole (c ∷ []) = true
-is_whole (c ∷ d ∷ t) = if c == 48 then false else true
+is_whole (c ∷ d ∷ t) = if c == digit_zero then false else true
 
 -- a point and digits or nothing, and what follows
 abbrev pub fraction_at : List ℕ → Option (List ℕ × List ℕ)
 fraction_at [] = Some ([], [])
 fraction_at (c ∷ t) =
-    if c == 46 then (if length (digits_front t) == 0 then None else Some (digits_front t, digits_rest t))
+    if c == full_stop then (if length (digits_front t) == 0 then None else Some (digits_front t, digits_rest t))
     else Some ([], c ∷ t)
 
 -- whether the exponent is below 0, and what follows its sign
 abbrev pub exponent_sign_at : List ℕ → Bool × List ℕ
 exponent_sign_at [] = (false, [])
-exponent_sign_at (c ∷ t) = if c == 45 then (true, t) else (if c == 43 then (false, t) else (false, c ∷ t))
+exponent_sign_at (c ∷ t) = if c == hyphen then (true, t) else (if c == plus_sign then (false, t) else (false, c ∷ t))
 
 -- digits to the end
 abbrev pub last_digits_at : Bool × List ℕ → Option (Bool × List ℕ)
@@ -54,7 +55,7 @@ last_digits_at p =
 -- nothing, or an exponent to the end
 abbrev pub exponent_at : List ℕ → Option (Bool × List ℕ)
 exponent_at [] = Some (false, [])
-exponent_at (c ∷ t) = if (c == 101) || (c == 69) then last_digits_at (exponent_sign_at t) else None
+exponent_at (c ∷ t) = if (c == small_e) || (c == capital_e) then last_digits_at (exponent_sign_at t) else None
 
 -- a point and digits or nothing, and an exponent or nothing
 abbrev pub split_tail : Bool → List ℕ → List ℕ → Option Split

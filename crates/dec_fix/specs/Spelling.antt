@@ -1,6 +1,7 @@
 -- JSON numbers as RFC 8259 section 6 spells them, and which number each is.
 use Rattle.std.specs.Prelude.{◌≡◌, ℕ, ◌+◌, ◌-◌, ◌*◌, ◌^◌, ◌<◌, ◌⊎◌, Bool, List, [], ◌∷◌, ◌++◌, length, slice_index, IsTrue, ⊤, if◌then◌else◌}
 use Rattle.std.specs.Str.{all_ascii_digits}
+use Rattle.tk_io.specs.Characters.{plus_sign, hyphen, full_stop, digit_zero, capital_e, small_e}
 use Rattle.dec_fix.specs.Decimal.{Decimal, IsSameNumber, signed}
 
 pub data Sign : Type 0 where
@@ -22,16 +23,16 @@ pub record Parts : Type 0 where
 
 -- the text of these parts
 abbrev pub minus_text : Bool → List ℕ
-minus_text negative = if negative then 45 ∷ [] else []
+minus_text negative = if negative then hyphen ∷ [] else []
 
 abbrev pub fraction_text : List ℕ → List ℕ
 fraction_text [] = []
-fraction_text (d ∷ ds) = 46 ∷ (d ∷ ds)
+fraction_text (d ∷ ds) = full_stop ∷ (d ∷ ds)
 
 abbrev pub sign_text : Sign → List ℕ
 sign_text unsigned = []
-sign_text plus = 43 ∷ []
-sign_text minus = 45 ∷ []
+sign_text plus = plus_sign ∷ []
+sign_text minus = hyphen ∷ []
 
 abbrev pub exponent_text : Exponent → List ℕ
 exponent_text none = []
@@ -48,11 +49,11 @@ pub record IsDigits (ds : List ℕ) : Type 0 where
 -- digits, where a leading zero stands alone
 pub record IsInt (ds : List ℕ) : Type 0 where
   pub digits : IsDigits ds
-  pub zero_alone : slice_index ds 0 ≡ 48 → length ds ≡ 1
+  pub zero_alone : slice_index ds 0 ≡ digit_zero → length ds ≡ 1
 
 abbrev pub IsExponent : Exponent → Type 0
 IsExponent none = ⊤
-IsExponent (power letter sign ds) = ((letter ≡ 101) ⊎ (letter ≡ 69)) × IsDigits ds
+IsExponent (power letter sign ds) = ((letter ≡ small_e) ⊎ (letter ≡ capital_e)) × IsDigits ds
 
 -- the parts are those of a JSON number
 pub record IsNumber (p : Parts) : Type 0 where
@@ -63,7 +64,7 @@ pub record IsNumber (p : Parts) : Type 0 where
 -- the whole number that digits write behind those of n
 abbrev pub value_after : ℕ → List ℕ → ℕ
 value_after n [] = n
-value_after n (c ∷ t) = value_after (n * 10 + (c - 48)) t
+value_after n (c ∷ t) = value_after (n * 10 + (c - digit_zero)) t
 
 -- the whole number that digits write
 abbrev pub value : List ℕ → ℕ

@@ -6,8 +6,8 @@ ghost use Rattle.std.specs.Str.{all_ascii_digits};
 ghost use Rattle.dec_fix.specs.Decimal.{Decimal, IsExact, shortest};
 ghost use Rattle.dec_fix.specs.Spelling.{Spells};
 ghost use Rattle.dec_fix.specs.Reading.{digits_front, digits_rest, sign_at, is_whole, fraction_at, exponent_sign_at, exponent_at, split_of, within, size_of, places_of, number_of};
-ghost use Rattle.dec_fix.specs.Significand.{IsLast};
-ghost use Rattle.dec_fix.specs.Shown.{split_view};
+ghost use Rattle.dec_fix.specs.inner.Significand.{IsLast};
+ghost use Rattle.dec_fix.specs.inner.View.{split_view};
 
 use crate::decimal::{Dec, LIMIT, NotDec};
 use crate::parts::Parts;

@@ -2,7 +2,7 @@
 
 ghost use Rattle.std.specs.Prelude.{◌≡◌, ℕ, ◌+◌, ◌*◌, ◌^◌, ◌≤◌, ◌<◌, length, min, IsTrue};
 ghost use Rattle.std.specs.Str.{all_ascii_digits};
-ghost use Rattle.dec_fix.specs.Significand.{Holds};
+ghost use Rattle.dec_fix.specs.inner.Significand.{Holds};
 ghost use Rattle.dec_fix.specs.Spelling.{value, value_after};
 
 use crate::decimal::LIMIT;

@@ -1,11 +1,12 @@
 -- When a text is a name of the Format Module, and when names are the path of a group or of a token.
 use Rattle.std.specs.Prelude.{◌≡◌, ◌≢◌, ℕ, List, [], ◌∷◌, ◌++◌, ◌⊎◌, ◌<◌, length, All, slice_index, codes}
+use Rattle.tk_io.specs.Characters.{dollar_sign, full_stop, left_brace, right_brace}
 
 -- a text that is not empty, does not begin with '$' and holds no '.', '{' or '}'
 pub record IsName (text : List ℕ) : Type 0 where
   pub some : 0 < length text
-  pub first : slice_index text 0 ≢ 36
-  pub plain : All (λ b. (b ≢ 46) × (b ≢ 123) × (b ≢ 125)) text
+  pub first : slice_index text 0 ≢ dollar_sign
+  pub plain : All (λ b. (b ≢ full_stop) × (b ≢ left_brace) × (b ≢ right_brace)) text
 
 -- the name of the token that stands for its group
 abbrev pub root_name : List ℕ

@@ -1,24 +1,25 @@
 -- How references are spelled: curly aliases, and pointers by RFC 6901 after a '#'.
 use Rattle.std.specs.Prelude.{◌≡◌, ◌≢◌, ℕ, List, [], ◌∷◌, ◌++◌, ◌⊎◌, codes, ◌==◌, if◌then◌else◌}
 use Rattle.std.specs.List.{flat_map, join_with_byte}
+use Rattle.tk_io.specs.Characters.{number_sign, full_stop, solidus, left_brace, right_brace, tilde}
 use Rattle.name_path.specs.Names.{AreNames, IsTokenPath}
 use Rattle.name_path.specs.declared.place.Place.{Place}
 
 -- a step of a pointer, with '~' as "~0" and '/' as "~1" (RFC 6901 section 3)
 abbrev pub escaped : List ℕ → List ℕ
-escaped step = flat_map (λ b. if b == 126 then codes "~0" else if b == 47 then codes "~1" else b ∷ []) step
+escaped step = flat_map (λ b. if b == tilde then codes "~0" else if b == solidus then codes "~1" else b ∷ []) step
 
 -- '#' and each step after a '/'
 abbrev pub pointer_text : List (List ℕ) → List ℕ
-pointer_text steps = 35 ∷ flat_map (λ step. 47 ∷ escaped step) steps
+pointer_text steps = number_sign ∷ flat_map (λ step. solidus ∷ escaped step) steps
 
 -- names joined by '.'
 abbrev pub path_text : List (List ℕ) → List ℕ
-path_text path = join_with_byte 46 path
+path_text path = join_with_byte full_stop path
 
 -- a path in braces
 abbrev pub curly_text : List (List ℕ) → List ℕ
-curly_text path = 123 ∷ (path_text path ++ 125 ∷ [])
+curly_text path = left_brace ∷ (path_text path ++ right_brace ∷ [])
 
 -- what stands between a token's path and the steps into its value
 abbrev pub value_step : List ℕ

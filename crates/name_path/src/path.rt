@@ -1,5 +1,5 @@
 // Paths of names.
-ghost use Rattle.std.specs.Prelude.{◌≡◌, ◌++◌, ◌∷◌, ◌↔◌, [], length, Some, None, IfOk, OnOk, OnErr, IsTrue, slice_get, option_map, refl, map};
+ghost use Rattle.std.specs.Prelude.{◌≡◌, ◌==◌, ◌++◌, ◌∷◌, ◌↔◌, [], length, Some, None, IfOk, OnOk, OnErr, IsTrue, slice_get, option_map, refl, map};
 ghost use Rattle.std.specs.Cmp as Cmp;
 ghost use Rattle.std.specs.Cmp.Lexicographic.{pointwise, nat_list_eq_equiv, nat_list_cmp_total, texts_ties, lists_equiv, lists_total, lists_ties, lists_per};
 ghost use Rattle.std.specs.Str.{bytes_eq};
@@ -15,7 +15,7 @@ use tk_io::{NoMemory, Sequence, Text};
 
 /// A path of names, seen as their list. It is empty for the root group. Paths are ordered name by name, so `a.b` stands
 /// before `a-b.c`.
-#[derive(Drop)]
+#[derive(Debug, Drop)]
 pub struct Path<'s> {
     names: SmallVec<Text<'s>, 3>,
 }
@@ -46,6 +46,13 @@ impl<'s> Path<'s> {
         ensures { result ≡ length self.now }
     {
         self.names.len()
+    }
+
+    /// Whether there are none, as in the root's.
+    pub fn is_empty(&self) -> bool
+        ensures { result ≡ (length self.now == 0) }
+    {
+        self.len() == 0
     }
 
     /// The i-th name, counted from 0; none where i is not below the length.
@@ -143,7 +150,8 @@ impl<'s> Eq for Path<'s> {
 impl<'s> PartialOrd for Path<'s> {
     ghost partial_cmp = { λ x y. Some (names_cmp x y) };
 
-    ghost laws = { Cmp.partial_order_from_agreeing_total names_cmp (lists_total nat_list_cmp_total) (λ x y. refl) (λ x y. lists_ties text_cmp texts_ties x y) };
+    ghost laws = { Cmp.partial_order_from_agreeing_total names_cmp
+        (lists_total nat_list_cmp_total) (λ x y. refl) (λ x y. lists_ties text_cmp texts_ties x y) };
 
     fn partial_cmp(&self, other: &Self) -> Option<Ordering> {
         Some(self.cmp(other))

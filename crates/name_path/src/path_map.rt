@@ -1,10 +1,10 @@
 // A finite map under paths.
-ghost use Rattle.std.specs.Prelude.{◌≡◌, List, ℕ, T, Some, IfOk, OnOk, OnErr, cond, map as map_list};
-ghost use Rattle.std.specs.BTreeMap.{is_at};
+ghost use Rattle.std.specs.Prelude.{◌≡◌, ◌==◌, List, ℕ, T, OnOk, OnErr};
 ghost use Rattle.std.specs.FinMap as map;
 ghost use Rattle.std.specs.FinMap.{is_sorted};
 ghost use Rattle.std.specs.List.{slice_get};
 ghost use Rattle.std.specs.Option.{option_copied, option_map};
+ghost use Rattle.tk_io.specs.Entries.{PutsEntry};
 ghost use Rattle.tk_io.specs.Order.{names_cmp};
 ghost use Rattle.tk_io.specs.Search.{IsKeyPlace};
 ghost use Rattle.tk_io.specs.Shown.{shown_by};
@@ -94,6 +94,13 @@ impl<'s, V> PathMap<'s, V> {
         self.entries.as_slice().len()
     }
 
+    /// Whether there are none.
+    pub fn is_empty(&self) -> bool
+        ensures { result ≡ (map.len self.now == 0) }
+    {
+        self.len() == 0
+    }
+
     /// The value under the path, or none where the path is not there.
     pub fn get(&self, path: &Path<'s>) -> Option<&V>
         ensures { option_copied result ≡ map.get self.now path.now }
@@ -110,19 +117,6 @@ impl<'s, V> PathMap<'s, V> {
         ensures { shown_by (λ k. k) (λ v. v) result.now ≡ map.entries self.now }
     {
         self.entries.as_slice()
-    }
-
-    /// All entries in path order.
-    pub fn entries(&self, alloc: Global) -> Result<Vec<(&Path<'s>, &V)>, NoMemory>
-        ensures { IfOk result
-            (λ es. map_list {B = List (List ℕ) × V}
-            (λ e. (e.0.now, e.1.now)) es.items ≡ map.entries self.now) }
-    {
-        let mut list = Vec::new(alloc);
-        for (path, value) in self.as_slice() {
-            list.push((path, value))?;
-        }
-        Ok(list)
     }
 
     /// The i-th entry in path order, counted from 0; none where i is not below the length.
@@ -143,9 +137,7 @@ impl<'s, V: Drop> PathMap<'s, V> {
     pub fn put(&mut self, path: &Path<'s>, value: V) -> Result<(), NoMemory>
         ensures ok { OnOk result (self.new ≡ map.insert self.old path.now value) }
         // What stands at each path afterwards.
-        ensures at { OnOk result ((q : List (List ℕ))
-            → map.get self.new q
-            ≡ cond (is_at (names_cmp path.now) q) (Some value) (map.get self.old q)) }
+        ensures at { OnOk result (PutsEntry self.old self.new path.now value) }
         ensures err { OnErr result (self.new ≡ self.old) }
     {
         match place_of(self.entries.as_slice(), path) {

@@ -5,7 +5,7 @@ use crate::{Path, Trail};
 use tk_io::{NoMemory, Sequence};
 
 /// A place: a token and the steps into its written value. Places are ordered by token and then by trail.
-#[derive(PartialEq, Eq, PartialOrd, Ord, Drop)]
+#[derive(Debug, PartialEq, Eq, PartialOrd, Ord, Drop)]
 pub struct Place<'s> {
     /// The token's path.
     pub token: Path<'s>,

@@ -234,12 +234,13 @@ fn value_at(map: &PathMap<'static, u8>, i: usize) -> u8 {
 fn keeps_values_in_path_order(rt: HostRuntime) -> Result<(), Fail> {
     let alloc = rt.alloc();
     let mut map = PathMap::new(alloc);
+    assert!(rt; map.is_empty());
     put(&mut map, alloc, &["a-b", "c"], 3)?;
     put(&mut map, alloc, &["a", "b"], 1)?;
     put(&mut map, alloc, &[], 1)?;
     put(&mut map, alloc, &["a", "b"], 2)?;
     assert_eq!(rt; map.len(), 3);
-    assert_eq!(rt; map.entries(alloc)?.len(), 3);
+    assert!(rt; !map.is_empty());
     assert_eq!(rt; value_at(&map, 0), 1);
     assert_eq!(rt; value_at(&map, 1), 2);
     assert_eq!(rt; value_at(&map, 2), 3);
@@ -253,6 +254,16 @@ fn keeps_values_in_path_order(rt: HostRuntime) -> Result<(), Fail> {
     assert!(rt; map.at(8).is_none());
     let path = path_of(alloc, &["a", "b"])?;
     assert!(rt; map.get(&path).is_some());
+    Ok(())
+}
+
+#[test]
+fn tells_whether_there_are_names_and_steps(rt: HostRuntime) -> Result<(), Fail> {
+    let whole = read_pointer(rt.alloc(), &Text::of("#/a"))?;
+    assert!(rt; !whole.token.is_empty() && whole.trail.is_empty());
+    let part = read_pointer(rt.alloc(), &Text::of("#/a/$value/0"))?;
+    assert!(rt; !part.trail.is_empty());
+    assert!(rt; Path::new(rt.alloc()).is_empty());
     Ok(())
 }
 

@@ -1,5 +1,5 @@
 // Trails of steps.
-ghost use Rattle.std.specs.Prelude.{◌≡◌, ◌++◌, ◌∷◌, [], length, Some, IfOk, OnOk, OnErr, slice_get, option_map, refl};
+ghost use Rattle.std.specs.Prelude.{◌≡◌, ◌==◌, ◌++◌, ◌∷◌, [], length, Some, IfOk, OnOk, OnErr, slice_get, option_map, refl};
 ghost use Rattle.std.specs.Cmp as Cmp;
 ghost use Rattle.std.specs.Cmp.Lexicographic.{pointwise, nat_list_eq_equiv, nat_list_cmp_total, texts_ties, lists_equiv, lists_total, lists_ties, lists_per};
 ghost use Rattle.std.specs.Str.{bytes_eq};
@@ -11,7 +11,7 @@ use std::marker::Model;
 use tk_io::{NoMemory, Text};
 
 /// Steps into a value, seen as their list: names of members, and indices of items in decimal digits. Any text is a step.
-#[derive(Drop)]
+#[derive(Debug, Drop)]
 pub struct Trail<'s> {
     steps: Vec<Text<'s>>,
 }
@@ -39,6 +39,13 @@ impl<'s> Trail<'s> {
         ensures { result ≡ length self.now }
     {
         self.steps.len()
+    }
+
+    /// Whether there are none.
+    pub fn is_empty(&self) -> bool
+        ensures { result ≡ (length self.now == 0) }
+    {
+        self.len() == 0
     }
 
     /// The i-th step, counted from 0; none where i is not below the length.
@@ -102,7 +109,8 @@ impl<'s> Eq for Trail<'s> {
 impl<'s> PartialOrd for Trail<'s> {
     ghost partial_cmp = { λ x y. Some (names_cmp x y) };
 
-    ghost laws = { Cmp.partial_order_from_agreeing_total names_cmp (lists_total nat_list_cmp_total) (λ x y. refl) (λ x y. lists_ties text_cmp texts_ties x y) };
+    ghost laws = { Cmp.partial_order_from_agreeing_total names_cmp
+        (lists_total nat_list_cmp_total) (λ x y. refl) (λ x y. lists_ties text_cmp texts_ties x y) };
 
     fn partial_cmp(&self, other: &Self) -> Option<Ordering> {
         Some(self.cmp(other))

@@ -1,8 +1,10 @@
+pub mod Characters
 pub mod Causes
 pub mod Reading
 pub mod Writing
 pub mod Memory
 pub mod Order
+pub mod Entries
 pub mod FilesData
 pub mod Shown
 pub mod Text

@@ -2,14 +2,14 @@
 use Rattle.std.specs.Prelude.{◌≡◌, ◌<◌, ◌⊎◌, ℕ, List, Contains}
 
 -- a source: what it has left, which calls fail, and how many calls and faults there were
-pub record Feed : Type 0 where
+pub record SourceInMemory : Type 0 where
   pub left : List ℕ
   pub fails : List ℕ
   pub calls : ℕ
   pub faults : ℕ
 
 -- a sink: what was written, how many bytes fit in all and how many in a call, which calls fail, and how many there were
-pub record Tray : Type 0 where
+pub record SinkInMemory : Type 0 where
   pub written : List ℕ
   pub room : ℕ
   pub most : ℕ

@@ -1,4 +1,4 @@
--- Where a search of a list in order ends.
+-- Where a search of a list in order ends: for the maps here, and for those of other crates.
 use Rattle.std.specs.Prelude.{◌≡◌, ℕ, List, length, Result, MatchResult}
 use Rattle.std.specs.declared.cmp.Ordering.{Ordering}
 use Rattle.std.specs.declared.cmp.Ordering.TheVariants.{Less, Equal, Greater}

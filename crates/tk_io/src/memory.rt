@@ -2,7 +2,7 @@
 ghost use Rattle.std.specs.Prelude.{◌≡◌, [], ◌-◌, ◌≤◌, ◌<◌, ◌↔◌, Some, Contains, min, length, IsErr, IfOk, OnErr};
 ghost use Rattle.std.specs.Io.KnownBytes.{ReadConsumes, WriteAppends};
 ghost use Rattle.tk_io.specs.Causes.{HasCause, following};
-ghost use Rattle.tk_io.specs.Memory.{Feed, Tray, MustFail};
+ghost use Rattle.tk_io.specs.Memory.{MustFail};
 
 use crate::{Failed, Sink, Source};
 use std::marker::Model;
@@ -17,11 +17,16 @@ pub struct MemSource<'a> {
 }
 
 impl<'a> Model for MemSource<'a> {
-    ghost use Rattle.tk_io.specs.Memory.{Feed};
+    ghost use Rattle.tk_io.specs.Memory.{SourceInMemory};
 
-    ghost Value = { Feed };
+    ghost Value = { SourceInMemory };
 
-    ghost view = { λ s. record { left = s.bytes.now; fails = s.fails.now; calls = s.calls; faults = s.faults } };
+    ghost view = { λ s. record {
+      left = s.bytes.now;
+      fails = s.fails.now;
+      calls = s.calls;
+      faults = s.faults;
+    } };
 }
 
 impl<'a> MemSource<'a> {
@@ -82,11 +87,18 @@ pub struct MemSink<'a> {
 
 impl<'a> Model for MemSink<'a> {
     ghost use Rattle.std.specs.Prelude.{◌≤◌, take, length};
-    ghost use Rattle.tk_io.specs.Memory.{Tray};
+    ghost use Rattle.tk_io.specs.Memory.{SinkInMemory};
 
-    ghost Value = { Tray };
+    ghost Value = { SinkInMemory };
 
-    ghost view = { λ s. record { written = take s.len s.room.now; room = length s.room.now; most = s.most; fails = s.fails.now; calls = s.calls; faults = s.faults } };
+    ghost view = { λ s. record {
+      written = take s.len s.room.now;
+      room = length s.room.now;
+      most = s.most;
+      fails = s.fails.now;
+      calls = s.calls;
+      faults = s.faults;
+    } };
 
     ghost invariant = { λ s. (1 ≤ s.most) × (s.len ≤ length s.room.now) };
 }

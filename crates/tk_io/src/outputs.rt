@@ -1,11 +1,10 @@
 // The outputs of a build.
-ghost use Rattle.std.specs.Prelude.{◌≡◌, ◌==◌, List, ℕ, Some, cond, OnOk, OnErr};
-ghost use Rattle.std.specs.BTreeMap.{is_at};
+ghost use Rattle.std.specs.Prelude.{◌≡◌, ◌==◌, OnOk, OnErr};
 ghost use Rattle.std.specs.FinMap as map;
 ghost use Rattle.std.specs.List.{slice_get};
 ghost use Rattle.std.specs.Option.{option_map};
 ghost use Rattle.std.specs.String.{string_bytes};
-ghost use Rattle.tk_io.specs.Order.{text_cmp};
+ghost use Rattle.tk_io.specs.Entries.{PutsEntry};
 ghost use Rattle.tk_io.specs.Shown.{shown_by};
 
 use crate::{Bytes, NoMemory, TextMap};
@@ -86,9 +85,7 @@ impl Outputs {
     pub fn insert(&mut self, path: &str, body: Bytes) -> Result<(), NoMemory>
         ensures ok { OnOk result (self.new ≡ map.insert self.old path.now body) }
         // What stands at each path afterwards.
-        ensures at { OnOk result ((q : List ℕ)
-            → map.get self.new q
-            ≡ cond (is_at (text_cmp path.now) q) (Some body) (map.get self.old q)) }
+        ensures at { OnOk result (PutsEntry self.old self.new path.now body) }
         ensures err { OnErr result (self.new ≡ self.old) }
     {
         self.bodies.put(path, body)

@@ -8,7 +8,7 @@ use std::alloc::Global;
 use std::marker::Model;
 
 /// A list of items that grows at its end, seen as the list of what its items are seen as.
-#[derive(Drop)]
+#[derive(Debug, Drop)]
 pub struct Sequence<T> {
     items: Vec<T>,
 }

@@ -62,6 +62,8 @@ pub fn read_all<S: Source>(alloc: Global, src: &mut S, limit: u64) -> Result<Byt
         → TakesAtMost limit (S.left src.old) (S.left src.new) }
     ensures fault { IsErrOf result ReadStop.ReadFault → Rose (S.faults src.old) (S.faults src.new) }
     ensures later { S.faults src.old ≤ S.faults src.new }
+    // Each other answer leaves the count of faults.
+    ensures kept { (IsErrOf result ReadStop.ReadFault → ⊥) → S.faults src.new ≡ S.faults src.old }
 {
     let mut all = Bytes::new(alloc);
     let mut taken: u64 = 0;

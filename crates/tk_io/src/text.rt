@@ -19,12 +19,12 @@ use std::rc::RcStr;
 
 /// A text, seen as the bytes of its UTF-8. It borrows from a source, or shares an owned text where the source spells
 /// it by escapes.
-#[derive(Drop)]
+#[derive(Debug, Drop)]
 pub struct Text<'s> {
     kept: Kept<'s>,
 }
 
-#[derive(Drop)]
+#[derive(Debug, Drop)]
 enum Kept<'s> {
     Slice(&'s str),
     Shared(RcStr),

@@ -1,11 +1,11 @@
 // A finite map under owned texts, the pattern of every map whose values contracts see whole.
-ghost use Rattle.std.specs.Prelude.{◌≡◌, ◌==◌, List, ℕ, T, Some, None, OnOk, OnErr, cond, length};
-ghost use Rattle.std.specs.BTreeMap.{is_at};
+ghost use Rattle.std.specs.Prelude.{◌≡◌, ◌==◌, List, ℕ, T, OnOk, OnErr, length};
 ghost use Rattle.std.specs.FinMap as map;
 ghost use Rattle.std.specs.FinMap.{is_sorted};
 ghost use Rattle.std.specs.List.{slice_get};
 ghost use Rattle.std.specs.Option.{option_copied, option_map};
 ghost use Rattle.std.specs.String.{string_bytes};
+ghost use Rattle.tk_io.specs.Entries.{PutsEntry, RemovesEntry};
 ghost use Rattle.tk_io.specs.Order.{text_cmp};
 ghost use Rattle.tk_io.specs.Search.{IsKeyPlace};
 ghost use Rattle.tk_io.specs.Shown.{shown_by};
@@ -37,7 +37,8 @@ impl<V> Model for TextMap<V> {
 
     ghost view = { λ m. map.from_sorted (shown_by string_bytes (λ v. v) m.entries.items) };
 
-    ghost invariant = { λ m. T (is_sorted text_cmp (shown_by string_bytes (λ v. v) m.entries.items)) };
+    ghost invariant = { λ m. T
+        (is_sorted text_cmp (shown_by string_bytes (λ v. v) m.entries.items)) };
 }
 
 // Where the key stands among entries whose keys rise, or where it belongs.
@@ -125,9 +126,7 @@ impl<V: Drop> TextMap<V> {
     pub fn put(&mut self, key: &str, value: V) -> Result<(), NoMemory>
         ensures ok { OnOk result (self.new ≡ map.insert self.old key.now value) }
         // What stands at each key afterwards.
-        ensures at { OnOk result ((q : List ℕ)
-            → map.get self.new q
-            ≡ cond (is_at (text_cmp key.now) q) (Some value) (map.get self.old q)) }
+        ensures at { OnOk result (PutsEntry self.old self.new key.now value) }
         ensures err { OnErr result (self.new ≡ self.old) }
     {
         match place_of(self.entries.as_slice(), key) {
@@ -147,8 +146,7 @@ impl<V: Drop> TextMap<V> {
     pub fn del(&mut self, key: &str)
         ensures gone { self.new ≡ map.remove self.old key.now }
         // What stands at each key afterwards.
-        ensures at { (q : List ℕ)
-            → map.get self.new q ≡ cond (is_at (text_cmp key.now) q) None (map.get self.old q) }
+        ensures at { RemovesEntry self.old self.new key.now }
     {
         match place_of(self.entries.as_slice(), key) {
             Ok(i) => {

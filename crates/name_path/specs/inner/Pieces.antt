@@ -1,5 +1,6 @@
 -- Texts cut into pieces.
 use Rattle.std.specs.Prelude.{◌≡◌, ◌≢◌, ℕ, List, [], ◌∷◌, ◌++◌, ◌⊎◌, All}
+use Rattle.tk_io.specs.Characters.{full_stop}
 use Rattle.name_path.specs.Reference.{value_step}
 
 -- no text holds the byte
@@ -8,7 +9,7 @@ EachLacks byte texts = All (λ text. All (λ b. b ≢ byte) text) texts
 
 -- one or more texts without '.'
 abbrev pub ArePlain : List (List ℕ) → Type 0
-ArePlain texts = (texts ≢ []) × EachLacks 46 texts
+ArePlain texts = (texts ≢ []) × EachLacks full_stop texts
 
 -- no text is this one
 abbrev pub LacksStep : List ℕ → List (List ℕ) → Type 0

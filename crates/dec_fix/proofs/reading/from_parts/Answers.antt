@@ -1,5 +1,5 @@
 use Rattle.std.proofs.Common.{◌++◌, arith, length}
-use Rattle.dec_fix.specs.Significand.{Holds}
+use Rattle.dec_fix.specs.inner.Significand.{Holds}
 use Rattle.dec_fix.specs.Spelling.{value}
 use Rattle.dec_fix.specs.declared.significand.TheConstants.{FAR}
 use Rattle.dec_fix.proofs.Digits.{value_after-append}

@@ -1,6 +1,6 @@
 use Rattle.std.proofs.Common.{ℕ, ◌+◌, ◌^◌, ◌≤◌, take}
 use Rattle.dec_fix.specs.Spelling.{value_after}
-use Rattle.dec_fix.specs.Significand.{Holds}
+use Rattle.dec_fix.specs.inner.Significand.{Holds}
 use Rattle.dec_fix.proofs.significand.with_digits.Given as goal
 
 abbrev pub invariant-loop-c : goal.invariant-loop-c
