@@ -13,7 +13,8 @@ pub fn first_special(bytes: &[u8], from: usize) -> usize
     ensures first { result ≡ from + position_or_len is_special (drop from bytes.now) }
     ensures within { result ≤ length bytes.now }
     ensures passed { All (λ x. is_special x ≡ false) (slice_range bytes.now from result) }
-    ensures stopped { result < length bytes.now → IsTrue (is_special (slice_index bytes.now result)) }
+    ensures stopped { result < length bytes.now
+        → IsTrue (is_special (slice_index bytes.now result)) }
 {
     let mut at = from;
     while bytes.len() - at >= BLOCK {

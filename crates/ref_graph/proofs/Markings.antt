@@ -2,7 +2,7 @@
 use Rattle.std.proofs.Common.{◌≡◌, ℕ, Bool, true, false, not, ◌||◌, ◌&&◌, List, ◌++◌, refl, sym, ap, ◌∙◌, nat_eq}
 use Rattle.std.proofs.lemmas.List.Folds.{list_any-append}
 use Rattle.ref_graph.specs.Edges.{is_in}
-use Rattle.ref_graph.specs.Marking.{is_marked, Marking}
+use Rattle.ref_graph.specs.inner.Marking.{is_marked, Marking}
 
 or_again : (a b c : Bool) → ((a || b) || c) ≡ (a || (b || c))
 or_again true b c = refl

@@ -6,7 +6,7 @@ use Rattle.std.proofs.lemmas.List.{get_or_past}
 use Rattle.std.proofs.lemmas.List.Folds.{list_any-append, list_any_at}
 use Rattle.std.proofs.lemmas.Map.Views.{list_any-from_Contains, Contains-from_any}
 use Rattle.ref_graph.specs.Edges.{is_in}
-use Rattle.ref_graph.specs.Marking.{is_marked, Marking}
+use Rattle.ref_graph.specs.inner.Marking.{is_marked, Marking}
 use Rattle.ref_graph.specs.Walk.{targets_of, Walk, stays, goes, LeadsTo}
 use Rattle.ref_graph.proofs.Sets.{neq, eq_self}
 

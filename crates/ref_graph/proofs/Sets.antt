@@ -43,6 +43,14 @@ eq_self a = eq-eqb a a refl
 pub neq : (a b : ℕ) → (a ≡ b → ⊥) → nat_eq a b ≡ false
 neq a b ne = grind (arith, nat_tests)
 
+-- whether a list has a number, asked the other way round
+pub asked : (xs : List ℕ) (x : ℕ) → list_any (λ y. nat_eq y x) xs ≡ is_in xs x
+asked [] x = refl
+asked (y ∷ xs) x = ap (λ (b : Bool). b || list_any (λ z. nat_eq z x) xs) (turned y x) ∙ ap (λ (b : Bool). nat_eq x y || b) (asked xs x)
+  where
+    turned : (a b : ℕ) → nat_eq a b ≡ nat_eq b a
+    turned a b = grind (arith, nat_tests)
+
 more_in : (xs : List ℕ) (i w : ℕ) → i < length xs → is_in (take (i + 1) xs) w ≡ (is_in (take i xs) w || nat_eq w (get_or xs i 0))
 more_in xs i w h = list_any_more (nat_eq w) xs i 0 h
 
@@ -108,21 +116,21 @@ set_more xs i s n less update so_far q =
     turned false false = refl
 
 -- a target that is not kept
-pub taken_away : (ss : List (BTreeSet ℕ)) (node target : ℕ) (kept s n : BTreeSet ℕ) → contains nat_cmp kept target ≡ false → target < length ss → s ≡ get_or ss target s
-    → ((q : ℕ) → contains nat_cmp n q ≡ cond (is_at (nat_cmp node) q) false (contains nat_cmp s q)) → IsRemoved ss (set ss target n) node (target ∷ []) kept
-taken_away ss node target kept s n is within read update w v =
+pub taken_away : (ss : List (BTreeSet ℕ)) (node target : ℕ) (is_kept : Bool) (s n : BTreeSet ℕ) → is_kept ≡ false → target < length ss → s ≡ get_or ss target s
+    → ((q : ℕ) → contains nat_cmp n q ≡ cond (is_at (nat_cmp node) q) false (contains nat_cmp s q)) → IsRemoved ss (set ss target n) node (target ∷ []) (λ _. is_kept)
+taken_away ss node target is_kept s n is within read update w v =
     elim (cases_eq w target) [
-      | inl p ↦ subst (λ (x : ℕ). has_source (set ss target n) x v ≡ (has_source ss x v && not (nat_eq v node && ((nat_eq x target || false) && not (contains nat_cmp kept x))))) (sym p)
+      | inl p ↦ subst (λ (x : ℕ). has_source (set ss target n) x v ≡ (has_source ss x v && not (nat_eq v node && ((nat_eq x target || false) && not is_kept)))) (sym p)
           (has_same ss target n v within
           ∙ (update v
           ∙ (ap (λ (b : Bool). cond b false (contains nat_cmp s v)) (at_eq node v)
           ∙ (ap (λ (b : Bool). cond (nat_eq v node) false b) (sym (has_read ss target s v within read))
           ∙ (gone (nat_eq v node) (has_source ss target v)
           ∙ (ap (λ (b : Bool). has_source ss target v && not (nat_eq v node && ((true || false) && not b))) (sym is)
-          ∙ ap (λ (b : Bool). has_source ss target v && not (nat_eq v node && ((b || false) && not (contains nat_cmp kept target)))) (sym (eq_self target))))))))
+          ∙ ap (λ (b : Bool). has_source ss target v && not (nat_eq v node && ((b || false) && not is_kept))) (sym (eq_self target))))))))
       | inr q ↦ has_other ss target w n v q
-          ∙ (other (has_source ss w v) (nat_eq v node) (not (contains nat_cmp kept w))
-          ∙ ap (λ (b : Bool). has_source ss w v && not (nat_eq v node && ((b || false) && not (contains nat_cmp kept w)))) (sym (neq w target q)))
+          ∙ (other (has_source ss w v) (nat_eq v node) (not is_kept)
+          ∙ ap (λ (b : Bool). has_source ss w v && not (nat_eq v node && ((b || false) && not is_kept))) (sym (neq w target q)))
     ]
   where
     gone : (e h : Bool) → cond e false h ≡ (h && not (e && ((true || false) && not false)))
@@ -137,21 +145,49 @@ taken_away ss node target kept s n is within read update w v =
     other false true k = refl
     other false false k = refl
 
-module _ (old mid new : List (BTreeSet ℕ)) (node : ℕ) (before after : List ℕ) (kept : BTreeSet ℕ) where
+-- whether the one target is kept, as a test of any number
+kept_there : (w t : ℕ) (kept : ℕ → Bool) (is_kept : Bool) → is_kept ≡ kept t → ((nat_eq w t || false) && not is_kept) ≡ (nat_eq w t && not (kept w))
+kept_there w t kept is_kept is =
+    elim (cases_eq w t) [
+      | inl p ↦ subst (λ (b : Bool). ((nat_eq w t || false) && not b) ≡ (nat_eq w t && not (kept w))) (ap kept p ∙ sym is) (ap (λ (b : Bool). b && not (kept w)) (sym (or_false (nat_eq w t))))
+      | inr q ↦ subst (λ (b : Bool). ((b || false) && not is_kept) ≡ (b && not (kept w))) (sym (neq w t q)) refl
+    ]
+
+module _ (old ss new : List (BTreeSet ℕ)) (node : ℕ) (targets : List ℕ) (i : ℕ) (kept : ℕ → Bool) (is_kept : Bool) where
+  -- one more target that is not kept
+  pub removed_more : i < length targets → is_kept ≡ kept (get_or targets i 0) → IsRemoved old ss node (take i targets) kept
+      → IsRemoved ss new node (get_or targets i 0 ∷ []) (λ _. is_kept) → IsRemoved old new node (take (i + 1) targets) kept
+  removed_more less is removed last w v =
+      let t = get_or targets i 0 in
+      last w v
+      ∙ (ap (λ (b : Bool). b && not (nat_eq v node && ((nat_eq w t || false) && not is_kept))) (removed w v)
+      ∙ (ap (λ (b : Bool). (has_source old w v && not (nat_eq v node && (is_in (take i targets) w && not (kept w)))) && not (nat_eq v node && b)) (kept_there w (get_or targets i 0) kept is_kept is)
+      ∙ (joined (has_source old w v) (nat_eq v node) (is_in (take i targets) w) (nat_eq w t) (kept w)
+      ∙ ap (λ (b : Bool). has_source old w v && not (nat_eq v node && (b && not (kept w)))) (sym (more_in targets i w less)))))
+    where
+      joined : (h e m q k : Bool) → ((h && not (e && (m && not k))) && not (e && (q && not k))) ≡ (h && not (e && ((m || q) && not k)))
+      joined false e m q k = refl
+      joined true false m q k = refl
+      joined true true false q k = refl
+      joined true true true true true = refl
+      joined true true true true false = refl
+      joined true true true false true = refl
+      joined true true true false false = refl
+
+module _ (old mid new : List (BTreeSet ℕ)) (node : ℕ) (before after : List ℕ) where
   -- the first targets were added, and then those taken away that were not there before
-  pub restored : (k : ℕ) → ((w : ℕ) → has_source old w node ≡ is_in before w) → ((q : ℕ) → contains nat_cmp kept q ≡ is_in before q)
-      → IsAdded old mid node (take k after) → IsRemoved mid new node after kept → (w v : ℕ) → has_source new w v ≡ has_source old w v
-  restored k source keeps added removed w v =
+  pub restored : (k : ℕ) → ((w : ℕ) → has_source old w node ≡ is_in before w)
+      → IsAdded old mid node (take k after) → IsRemoved mid new node after (is_in before) → (w v : ℕ) → has_source new w v ≡ has_source old w v
+  restored k source added removed w v =
       elim (cases_eq v node) [
         | inl p ↦ subst (λ (x : ℕ). has_source new w x ≡ has_source old w x) (sym p)
             (removed w node
-            ∙ (ap (λ (b : Bool). b && not (nat_eq node node && (is_in after w && not (contains nat_cmp kept w)))) (added w node ∙ ap (λ (b : Bool). b || (nat_eq node node && is_in (take k after) w)) (source w))
-            ∙ (ap (λ (b : Bool). (is_in before w || (nat_eq node node && is_in (take k after) w)) && not (nat_eq node node && (is_in after w && not b))) (keeps w)
+            ∙ (ap (λ (b : Bool). b && not (nat_eq node node && (is_in after w && not (is_in before w)))) (added w node ∙ ap (λ (b : Bool). b || (nat_eq node node && is_in (take k after) w)) (source w))
             ∙ (ap (λ (b : Bool). (is_in before w || (b && is_in (take k after) w)) && not (b && (is_in after w && not (is_in before w)))) (eq_self node)
-            ∙ (at_node (is_in before w) (is_in (take k after) w) (is_in after w) (in_front after k w) ∙ sym (source w))))))
+            ∙ (at_node (is_in before w) (is_in (take k after) w) (is_in after w) (in_front after k w) ∙ sym (source w)))))
         | inr q ↦ removed w v
-            ∙ (ap (λ (b : Bool). b && not (nat_eq v node && (is_in after w && not (contains nat_cmp kept w)))) (added w v)
-            ∙ (ap (λ (b : Bool). (has_source old w v || (b && is_in (take k after) w)) && not (b && (is_in after w && not (contains nat_cmp kept w)))) (neq v node q)
+            ∙ (ap (λ (b : Bool). b && not (nat_eq v node && (is_in after w && not (is_in before w)))) (added w v)
+            ∙ (ap (λ (b : Bool). (has_source old w v || (b && is_in (take k after) w)) && not (b && (is_in after w && not (is_in before w)))) (neq v node q)
             ∙ elsewhere (has_source old w v)))
       ]
     where

@@ -32,9 +32,9 @@ abbrev pub IsAdded : List (BTreeSet ℕ) → List (BTreeSet ℕ) → ℕ → Lis
 IsAdded old new node targets = (w v : ℕ) → has_source new w v ≡ (has_source old w v || (nat_eq v node && is_in targets w))
 
 -- the node was taken away from the sources of the targets that are not kept, and nothing else changed
-abbrev pub IsRemoved : List (BTreeSet ℕ) → List (BTreeSet ℕ) → ℕ → List ℕ → BTreeSet ℕ → Type 0
-IsRemoved old new node targets kept =
-    (w v : ℕ) → has_source new w v ≡ (has_source old w v && not (nat_eq v node && (is_in targets w && not (contains nat_cmp kept w))))
+abbrev pub IsRemoved : List (BTreeSet ℕ) → List (BTreeSet ℕ) → ℕ → List ℕ → (ℕ → Bool) → Type 0
+IsRemoved old new node targets is_kept =
+    (w v : ℕ) → has_source new w v ≡ (has_source old w v && not (nat_eq v node && (is_in targets w && not (is_kept w))))
 
 -- the node is a source of the targets alone, and nothing else changed
 abbrev pub IsReplaced : List (BTreeSet ℕ) → List (BTreeSet ℕ) → ℕ → List ℕ → Type 0

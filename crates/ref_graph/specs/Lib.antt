@@ -1,3 +1,3 @@
-pub mod Edges
-pub mod Marking
 pub mod Walk
+pub mod Edges
+pub mod inner

@@ -72,8 +72,10 @@ impl Graph {
     /// The nodes from which a walk of none or more edges leads to one of the changed ones, ascending.
     pub fn reach(&self, changed: &[usize]) -> Result<Marks, NoMemory>
         requires { All (λ c. c < length self.now) changed.now }
-        ensures found { IfOk result (λ marks. (v : ℕ) → LeadsTo self.now changed.now v → Contains marks v) }
-        ensures only { IfOk result (λ marks. (v : ℕ) → Contains marks v → LeadsTo self.now changed.now v) }
+        ensures found { IfOk result
+            (λ marks. (v : ℕ) → LeadsTo self.now changed.now v → Contains marks v) }
+        ensures only { IfOk result
+            (λ marks. (v : ℕ) → Contains marks v → LeadsTo self.now changed.now v) }
         ensures within { IfOk result (λ marks. All (λ v. v < length self.now) marks) }
         ensures ascending { IfOk result (λ marks. IsStrictlyIncreasing marks) }
     {

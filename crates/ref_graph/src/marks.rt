@@ -2,7 +2,7 @@
 ghost use Rattle.std.specs.Prelude.{◌≡◌, ℕ, ◌<◌, ◌++◌, [], ◌∷◌, length, slice_set, slice_index_or, All, IfOk, OnOk, if◌then◌else◌, false, true};
 ghost use Rattle.std.specs.List.Sorted.{IsStrictlyIncreasing};
 ghost use Rattle.ref_graph.specs.Edges.{is_in};
-ghost use Rattle.ref_graph.specs.Marking.{is_marked, Marking};
+ghost use Rattle.ref_graph.specs.inner.Marking.{is_marked, Marking};
 
 use crate::Marks;
 use std::alloc::Global;

@@ -60,23 +60,18 @@ fn add_source(
 }
 
 /// Takes the node away from the sources of the target, unless that is kept.
-fn remove_unless_kept(
-    sources: &mut Vec<BTreeSet<usize>>,
-    node: usize,
-    target: usize,
-    kept: &BTreeSet<usize>,
-)
+fn remove_unless_kept(sources: &mut Vec<BTreeSet<usize>>, node: usize, target: usize, is_kept: bool)
     requires { target < length sources.old.items }
     ensures long { length sources.new.items ≡ length sources.old.items }
-    ensures removed { IsRemoved sources.old.items sources.new.items node (target ∷ []) kept.now }
+    ensures removed { IsRemoved sources.old.items sources.new.items node (target ∷ []) (λ _. is_kept) }
 {
-    if kept.contains(&target) {
+    if is_kept {
         return;
     }
     let _ = sources[target].remove(&node);
 }
 
-/// Takes the node away from the sources of each of the targets that is not kept.
+/// Takes the node away from the sources of each of the targets that is not in the set.
 fn remove_source(
     sources: &mut Vec<BTreeSet<usize>>,
     node: usize,
@@ -85,10 +80,26 @@ fn remove_source(
 )
     requires { All (λ w. w < length sources.old.items) targets.now }
     ensures long { length sources.new.items ≡ length sources.old.items }
-    ensures removed { IsRemoved sources.old.items sources.new.items node targets.now kept.now }
+    ensures removed { IsRemoved sources.old.items sources.new.items node targets.now (contains nat_cmp kept.now) }
 {
     for target in targets {
-        remove_unless_kept(sources, node, *target, kept);
+        remove_unless_kept(sources, node, *target, kept.contains(target));
+    }
+}
+
+/// Takes the node away from the sources of each of the targets that is not in the list.
+fn take_back_source(
+    sources: &mut Vec<BTreeSet<usize>>,
+    node: usize,
+    targets: &[usize],
+    kept: &[usize],
+)
+    requires { All (λ w. w < length sources.old.items) targets.now }
+    ensures long { length sources.new.items ≡ length sources.old.items }
+    ensures removed { IsRemoved sources.old.items sources.new.items node targets.now (is_in kept.now) }
+{
+    for target in targets {
+        remove_unless_kept(sources, node, *target, kept.contains(target));
     }
 }
 
@@ -108,11 +119,10 @@ pub fn replace_source(
     ensures ok { OnOk result (IsReplaced sources.old.items sources.new.items node new.now) }
     ensures err { OnErr result ((w v : ℕ) → has_source sources.new.items w v ≡ has_source sources.old.items w v) }
 {
-    let before = set_of(alloc, old)?;
     let after = set_of(alloc, new)?;
     match add_source(sources, node, new) {
         Err(refused) => {
-            remove_source(sources, node, new, &before);
+            take_back_source(sources, node, new, old);
             Err(refused)
         }
         Ok(()) => {

@@ -1,7 +1,7 @@
 use Rattle.std.proofs.Common.{◌≡◌, ℕ, ◌<◌, nat_lt, ◌&&◌, All}
 use Rattle.std.specs.List.Sorted.{IsStrictlyIncreasing}
 use Rattle.ref_graph.specs.Edges.{is_in}
-use Rattle.ref_graph.specs.Marking.{is_marked}
+use Rattle.ref_graph.specs.inner.Marking.{is_marked}
 use Rattle.ref_graph.proofs.marks.listed.Given as goal
 
 abbrev pub invariant-loop-node : goal.invariant-loop-node

@@ -1,5 +1,5 @@
 use Rattle.std.proofs.Common.{◌≡◌, ℕ, List, ◌++◌}
-use Rattle.ref_graph.specs.Marking.{Marking}
+use Rattle.ref_graph.specs.inner.Marking.{Marking}
 use Rattle.ref_graph.proofs.marks.mark_sources.Given as goal
 
 abbrev pub invariant-loop-node : goal.invariant-loop-node

@@ -4,7 +4,7 @@ use Rattle.std.proofs.lemmas.Result.{IfOk-weaker}
 use Rattle.std.specs.declared.vec.Vec.{Vec}
 use Rattle.std.specs.declared.alloc.Global.{Global}
 use Rattle.ref_graph.specs.Edges.{rows_of}
-use Rattle.ref_graph.specs.Marking.{is_marked, Marking}
+use Rattle.ref_graph.specs.inner.Marking.{is_marked, Marking}
 use Rattle.ref_graph.specs.Walk.{LeadsTo}
 use Rattle.ref_graph.proofs.Rows.{are_sources, sources_within}
 use Rattle.ref_graph.proofs.Reaches.{Reaching, start, advance, in_graph, found, only, all_within, no_nodes}
