@@ -11,14 +11,15 @@ use Rattle.std.specs.Option.{unwrap_or}
 use Rattle.std.specs.Ordering.{is_lt, eq_by_cmp}
 use Rattle.std.specs.Str.{bytes_eq}
 use Rattle.tk_io.specs.Order.{text_cmp}
-use Rattle.edit_script.specs.Delta.{ChangeData, Delta, Held, IsDelta, AreDeltas, change_of, changed, applied, replayed, held_at}
+use Rattle.tk_io.specs.FilesData.{FilesData}
+use Rattle.edit_script.specs.Delta.{ChangeData, Delta, IsDelta, AreDeltas, change_of, changed, applied, replayed, held_at}
 use Rattle.edit_script.specs.inner.Merge.{AreChanges}
 use Rattle.edit_script.specs.Stream.{commits_text, commits_pieces, stream_of, stream_pieces, line_text, pieces_of, record_line, record_of}
 use Rattle.edit_script.specs.declared.line.Line.TheVariants.{StreamHead, Commit, Done}
 use Rattle.edit_script.proofs.Rising.{same_key, equal, missing, not_below, first, second}
 
 -- changes of the entries of outputs are a delta
-pub delta_of : (old new : Held) (ds : List ChangeData) → AreChanges (map.entries old) (map.entries new) ds → IsDelta old new (map.from_sorted ds) × (ds ≡ map.entries (map.from_sorted {R = text_cmp} ds))
+pub delta_of : (old new : FilesData) (ds : List ChangeData) → AreChanges (map.entries old) (map.entries new) ds → IsDelta old new (map.from_sorted ds) × (ds ≡ map.entries (map.from_sorted {R = text_cmp} ds))
 delta_of old new ds m = (
   λ q.
       map.get-from_sorted text_cmp ds q m.rise
@@ -26,16 +27,16 @@ delta_of old new ds m = (
   sym (map.entries-from_sorted text_cmp ds m.rise),
 )
 
-pub one_delta : (old new : Held) (d e : Delta) → IsDelta old new d → IsDelta old new e → d ≡ e
+pub one_delta : (old new : FilesData) (d e : Delta) → IsDelta old new d → IsDelta old new e → d ≡ e
 one_delta old new d e g h = map.same_map nat_list_cmp_total same_key d e (λ q. g q ∙ sym (h q))
 
 -- what stands at a path after a change of this path, or of another
-changed_at : (held : Held) (p q : List ℕ) (v : Option (List ℕ)) → map.get (changed held (p, v)) q ≡ cond (eq_by_cmp text_cmp q p) v (map.get held q)
+changed_at : (held : FilesData) (p q : List ℕ) (v : Option (List ℕ)) → map.get (changed held (p, v)) q ≡ cond (eq_by_cmp text_cmp q p) v (map.get held q)
 changed_at held p q None = map.get-remove nat_list_cmp_total held p q
 changed_at held p q (Some b) = map.get-insert nat_list_cmp_total held p b q
 
 -- what stands at a path after changes of rising paths
-applied_at : (cs : List ChangeData) (held : Held) (q : List ℕ) → T (is_sorted text_cmp cs) → map.get (applied cs held) q ≡ unwrap_or (find text_cmp q cs) (map.get held q)
+applied_at : (cs : List ChangeData) (held : FilesData) (q : List ℕ) → T (is_sorted text_cmp cs) → map.get (applied cs held) q ≡ unwrap_or (find text_cmp q cs) (map.get held q)
 applied_at [] held q h = refl
 applied_at ((p, v) ∷ cs) held q h =
     applied_at cs (changed held (p, v)) q (second (below_all text_cmp p cs) (is_sorted text_cmp cs) h)
@@ -58,17 +59,17 @@ made (Some a) (Some b) =
       | false ↦ λ t. refl
     ] refl
 
-pub delta_makes : (old new : Held) (d : Delta) → IsDelta old new d → applied (map.entries d) old ≡ new
+pub delta_makes : (old new : FilesData) (d : Delta) → IsDelta old new d → applied (map.entries d) old ≡ new
 delta_makes old new d h =
     map.same_map nat_list_cmp_total same_key (applied (map.entries d) old) new (λ q.
     applied_at (map.entries d) old q (map.entries_sorted d)
     ∙ (ap (λ o. unwrap_or o (map.get old q)) (sym (map.get-entries d q) ∙ h q) ∙ made (map.get old q) (map.get new q)))
 
 -- the default at an index within a list
-another : (os : List Held) (o b : Held) (k : ℕ) → k ≤ length os → get_or (o ∷ os) k o ≡ get_or (o ∷ os) k b
+another : (os : List FilesData) (o b : FilesData) (k : ℕ) → k ≤ length os → get_or (o ∷ os) k o ≡ get_or (o ∷ os) k b
 another os o b k l = get_or_default (o ∷ os) k o b (omega arith)
 
-pub deltas_make : (before : Held) (held : List Held) (ds : List Delta) (k : ℕ) → AreDeltas before held ds → k ≤ length held → replayed (take k ds) before ≡ held_at before held k
+pub deltas_make : (before : FilesData) (held : List FilesData) (ds : List Delta) (k : ℕ) → AreDeltas before held ds → k ≤ length held → replayed (take k ds) before ≡ held_at before held k
 deltas_make before held ds zero h l = refl
 deltas_make before [] ds (suc k) h l = absurd (omega arith)
 deltas_make before (o ∷ os) [] (suc k) h l = absurd h
@@ -106,7 +107,7 @@ pieces_stream ds =
     ∙ (ap (λ l. l ++ (last ++ [])) (pieces_commits 1 ds) ∙ ap (λ l. commits_text 1 ds ++ l) (append-nil last)))
     ∙ sym (append_assoc (line_text StreamHead) (commits_text 1 ds) last)
 
-pub one_more_delta : (before : Held) (held : List Held) (ds : List Delta) (new : Held) (d : Delta) → AreDeltas before held ds → IsDelta (held_at before held (length held)) new d → AreDeltas before (held ++ new ∷ []) (ds ++ d ∷ [])
+pub one_more_delta : (before : FilesData) (held : List FilesData) (ds : List Delta) (new : FilesData) (d : Delta) → AreDeltas before held ds → IsDelta (held_at before held (length held)) new d → AreDeltas before (held ++ new ∷ []) (ds ++ d ∷ [])
 one_more_delta before [] [] new d h is = (is, tt)
 one_more_delta before [] (e ∷ ds) new d h is = absurd h
 one_more_delta before (o ∷ os) [] new d h is = absurd h

@@ -3,7 +3,7 @@ use Rattle.std.proofs.Common.{◌≡◌, ◌<◌, ◌≤◌, ℕ, ◌+◌, ◌-�
 use Rattle.std.proofs.lemmas.List.{append_cancel_left, take_at, length-take-le}
 use Rattle.std.specs.List.{AllByRecursion, flat_map}
 use Rattle.std.specs.Str.{IsUtf8, IsValidUpTo}
-use Rattle.edit_script.specs.Script.{EventData, EventFits, event_text, header, IsScript, IsStop, IsScriptStop}
+use Rattle.edit_script.specs.Script.{EventData, EventFits, event_text, header, IsScript, IsScriptEnd, IsScriptStop}
 use Rattle.edit_script.proofs.Spelled.{not_empty, same_front_event}
 
 abbrev pub events_text : List EventData → List ℕ
@@ -67,7 +67,7 @@ no_reading text rest es h absent some fs script =
     absurd (omega (arith, most, some, ends_at text rest es h, ap length script.0, length-append header (events_text fs)))
 
 -- .. and this is the stop
-pub stops : (text rest : List ℕ) (es : List EventData) (n : ℕ) → IsReadTo text es rest → NoEvent rest → n ≡ length text - length rest → IsStop text n
+pub stops : (text rest : List ℕ) (es : List EventData) (n : ℕ) → IsReadTo text es rest → NoEvent rest → n ≡ length text - length rest → IsScriptEnd text n
 stops text rest es n h absent at =
     let size = ends_at text rest es h in
     let here : length (header ++ events_text es) ≡ n = omega (arith, length-append header (events_text es), size, at) in
@@ -86,7 +86,7 @@ stops text rest es n h absent at =
     }
 
 -- a text without the header
-pub no_header : (text : List ℕ) → ((rest : List ℕ) → text ≡ header ++ rest → ⊥) → ((es : List EventData) → IsScript text es → ⊥) × IsStop text 0
+pub no_header : (text : List ℕ) → ((rest : List ℕ) → text ≡ header ++ rest → ⊥) → ((es : List EventData) → IsScript text es → ⊥) × IsScriptEnd text 0
 no_header text absent = (
   λ es script. absent (events_text es) script.0,
   record {
@@ -101,13 +101,13 @@ no_header text absent = (
 at_most : (m n : ℕ) → (n < m → ⊥) → m ≤ n
 at_most m n f = elim (ltb n m) as (λ t. ltb n m ≡ t → m ≤ n) [ true ↦ λ t. absurd (f (ltb-true n m t)) | false ↦ λ t. ltb-false n m t ] refl
 
-earlier_stop : (bytes : List ℕ) (m n : ℕ) → IsStop bytes m → IsStop bytes n → m < n → ⊥
+earlier_stop : (bytes : List ℕ) (m n : ℕ) → IsScriptEnd bytes m → IsScriptEnd bytes n → m < n → ⊥
 earlier_stop bytes m n g h l = ⊎_elim (λ zero_is. absurd (omega arith)) (λ front. g.longest n l front) h.front
 
 earlier_break : (bytes : List ℕ) (m n : ℕ) → IsValidUpTo bytes m → IsValidUpTo bytes n → m < n → ⊥
 earlier_break bytes m n g h l = g.longest n l h.front
 
-same_place : (bytes : List ℕ) (m n : ℕ) → (¬ (IsUtf8 bytes) × IsValidUpTo bytes m) ⊎ (IsUtf8 bytes × IsStop bytes m) → (¬ (IsUtf8 bytes) × IsValidUpTo bytes n) ⊎ (IsUtf8 bytes × IsStop bytes n) → m ≡ n
+same_place : (bytes : List ℕ) (m n : ℕ) → (¬ (IsUtf8 bytes) × IsValidUpTo bytes m) ⊎ (IsUtf8 bytes × IsScriptEnd bytes m) → (¬ (IsUtf8 bytes) × IsValidUpTo bytes n) ⊎ (IsUtf8 bytes × IsScriptEnd bytes n) → m ≡ n
 same_place bytes m n (inl g) (inl h) = omega (arith, at_most m n (earlier_break bytes n m h.1 g.1), at_most n m (earlier_break bytes m n g.1 h.1))
 same_place bytes m n (inl g) (inr h) = absurd (g.0 h.0)
 same_place bytes m n (inr g) (inl h) = absurd (h.0 g.0)

@@ -12,7 +12,7 @@ use Rattle.std.specs.Str.Parse.{AllDigits}
 use Rattle.std.specs.Borrow.{Bor}
 use Rattle.std.specs.Option.{MatchOption}
 use Rattle.edit_script.specs.inner.Cut.{lacks, IsCut}
-use Rattle.edit_script.specs.Shown.{event_of}
+use Rattle.edit_script.specs.View.{event_view}
 use Rattle.edit_script.specs.declared.event.Event.{Event}
 use Rattle.edit_script.specs.inner.Line.{first_line, behind_line}
 use Rattle.edit_script.specs.Script.{EventData, put, del, commit, EventFits, IsScript, event_text, header, is_dots, is_path, is_path_byte, is_segment}
@@ -179,7 +179,7 @@ put_cut words path digits p t cut fits is = cut_once 32 path p digits (decimal (
 
 -- what stands at a text's front, by its first line
 pub event_found : (text line behind : List ℕ) (r : Option (Event × Bor (List ℕ))) → IsCut 10 text line behind
-    → MatchOption r ((e : EventData) → (rest : List ℕ) → EventFits e → line ≡ first_line e → behind ≡ behind_line e ++ rest → ⊥) (λ p. (line ≡ first_line (event_of p.0)) × (behind ≡ behind_line (event_of p.0) ++ p.1.now) × EventFits (event_of p.0))
-    → MatchOption r ((e : EventData) → (rest : List ℕ) → EventFits e → text ≡ event_text e ++ rest → ⊥) (λ p. (text ≡ event_text (event_of p.0) ++ p.1.now) × EventFits (event_of p.0))
+    → MatchOption r ((e : EventData) → (rest : List ℕ) → EventFits e → line ≡ first_line e → behind ≡ behind_line e ++ rest → ⊥) (λ p. (line ≡ first_line (event_view p.0)) × (behind ≡ behind_line (event_view p.0) ++ p.1.now) × EventFits (event_view p.0))
+    → MatchOption r ((e : EventData) → (rest : List ℕ) → EventFits e → text ≡ event_text e ++ rest → ⊥) (λ p. (text ≡ event_text (event_view p.0) ++ p.1.now) × EventFits (event_view p.0))
 event_found text line behind None cut h = λ e rest fits is. let (a, b) = same_line e line behind rest fits cut.0 (sym cut.1 ∙ is) in h e rest fits a b
-event_found text line behind (Some p) cut h = (cut.1 ∙ (ap₂ (λ x y. x ++ 10 ∷ y) h.0 h.1 ∙ sym (spelled (event_of p.0) p.1.now)), h.2)
+event_found text line behind (Some p) cut h = (cut.1 ∙ (ap₂ (λ x y. x ++ 10 ∷ y) h.0 h.1 ∙ sym (spelled (event_view p.0) p.1.now)), h.2)

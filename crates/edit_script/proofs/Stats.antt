@@ -1,10 +1,10 @@
 -- The short statistics, commit after commit, and the numbers of a commit.
-use Rattle.std.proofs.Common.{◌≡◌, ◌∙◌, ℕ, zero, suc, ◌+◌, ◌<◌, List, [], ◌∷◌, ◌++◌, length, drop, Some, None, refl, sym, ap, arith, append_assoc, append-nil}
-use Rattle.std.proofs.lemmas.Option.{none-some, same_Some}
+use Rattle.std.proofs.Common.{◌≡◌, ◌∙◌, ℕ, suc, ◌+◌, ◌<◌, ◌≤◌, List, [], ◌∷◌, ◌++◌, length, drop, get_or, Some, None, refl, sym, ap, arith, append_assoc, append-nil, drop-cons, add-one}
+use Rattle.std.proofs.Common.{map as map_list}
+use Rattle.std.proofs.lemmas.List.{get_or-map, drop_all, length-map}
 use Rattle.std.specs.FinMap as map
-use Rattle.std.specs.List.{slice_get}
 use Rattle.edit_script.specs.Delta.{ChangeData, Delta}
-use Rattle.edit_script.specs.Shown.{Lined}
+use Rattle.edit_script.specs.View.{Lined}
 use Rattle.edit_script.specs.Stats.{bare, gone_count, written_count, short_line, short_lines, short_stats}
 use Rattle.edit_script.specs.Stream.{line_text}
 use Rattle.edit_script.specs.declared.line.Line.TheVariants.{StatsHead, Done}
@@ -32,9 +32,6 @@ counts_whole [] = refl
 counts_whole ((path, None) ∷ cs) = omega (arith, counts_whole cs)
 counts_whole ((path, Some bytes) ∷ cs) = omega (arith, counts_whole cs)
 
-next : (i : ℕ) → suc i ≡ i + 1
-next i = omega arith
-
 pub bare_length : (cs : List Lined) → length (bare cs) ≡ length cs
 bare_length [] = refl
 bare_length (c ∷ cs) = ap suc (bare_length cs)
@@ -43,18 +40,16 @@ gone_apart : (c : ChangeData) (cs : List ChangeData) → gone_count (c ∷ cs) �
 gone_apart (path, None) cs = omega arith
 gone_apart (path, Some bytes) cs = omega arith
 
-gone_from : (cs : List Lined) (i : ℕ) (c : Lined) → slice_get cs i ≡ Some c → gone_count (bare (drop i cs)) ≡ gone_count (c.0 ∷ []) + gone_count (bare (drop (suc i) cs))
-gone_from [] i c e = absurd (none-some c e)
-gone_from (x ∷ cs) zero c e = gone_apart x.0 (bare cs) ∙ ap (λ y. gone_count (y.0 ∷ []) + gone_count (bare cs)) (same_Some x c e)
-gone_from (x ∷ cs) (suc i) c e = gone_from cs i c e
+-- what goes is what goes first and behind it
+pub gone_left : (left rest : List Lined) (c : Lined) → left ≡ c ∷ rest → gone_count (bare left) ≡ gone_count (c.0 ∷ []) + gone_count (bare rest)
+gone_left left rest c e = ap (λ cs. gone_count (bare cs)) e ∙ gone_apart c.0 (bare rest)
 
--- what goes from a place on is what goes at it and behind it
-pub gone_at : (cs : List Lined) (i : ℕ) (c : Lined) → slice_get cs i ≡ Some c → gone_count (bare (drop i cs)) ≡ gone_count (c.0 ∷ []) + gone_count (bare (drop (i + 1) cs))
-gone_at cs i c e = gone_from cs i c e ∙ ap (λ n. gone_count (c.0 ∷ []) + gone_count (bare (drop n cs))) (next i)
+-- the change of a turn is the first of those left, and at the end none is left
+pub first_left : {A B : Type 0} (v : A → B) (xs : List A) (i : ℕ) (x : A) → i < length xs → x ≡ get_or xs i x → drop i (map_list v xs) ≡ v x ∷ drop (i + 1) (map_list v xs)
+first_left v xs i x h e =
+    let within : i < length (map_list v xs) = omega (arith, h, length-map xs v) in
+    let cut : drop i (map_list v xs) ≡ get_or (map_list v xs) i (v x) ∷ drop (i + 1) (map_list v xs) = rw add-one (drop-cons (map_list v xs) i (v x) within) in
+    cut ∙ ap (λ y. y ∷ drop (i + 1) (map_list v xs)) (get_or-map v xs i x (v x) h ∙ ap v (sym e))
 
--- nothing stands only behind the end
-pub none_below : (cs : List Lined) (i n : ℕ) → None ≡ slice_get cs i → i < n → n ≡ length cs → ⊥
-none_below [] i n e h size = absurd (omega (arith, h, size))
-none_below (x ∷ cs) zero n e h size = none-some x e
-none_below (x ∷ cs) (suc i) zero e h size = absurd (omega (arith, h))
-none_below (x ∷ cs) (suc i) (suc n) e h size = none_below cs i n e (omega (arith, h)) (omega (arith, size))
+pub none_left : {A B : Type 0} (v : A → B) (xs : List A) (i : ℕ) → length xs ≤ i → drop i (map_list v xs) ≡ []
+none_left v xs i h = drop_all i (map_list v xs) (omega (arith, h, length-map xs v))

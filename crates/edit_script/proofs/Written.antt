@@ -6,7 +6,7 @@ use Rattle.std.specs.List.{slice_get}
 use Rattle.std.proofs.KnownBytes.{Appends-trans}
 use Rattle.tk_io.specs.Writing.{AppendsFront, AppendsPart}
 use Rattle.edit_script.specs.Delta.{ChangeData}
-use Rattle.edit_script.specs.Shown.{Lined, with_line}
+use Rattle.edit_script.specs.View.{Lined, with_line}
 
 pub on_err : {T E P : Type 0} (r : Result T E) → P → OnErr r P
 on_err (Ok x) p = tt

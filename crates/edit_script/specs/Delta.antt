@@ -2,11 +2,8 @@
 use Rattle.std.specs.Prelude.{◌≡◌, ℕ, List, [], ◌∷◌, Option, Some, None, if◌then◌else◌, get_or}
 use Rattle.std.specs.FinMap as map
 use Rattle.std.specs.Str.{bytes_eq}
+use Rattle.tk_io.specs.FilesData.{FilesData}
 use Rattle.tk_io.specs.Order.{text_cmp}
-
--- outputs: from path to bytes
-abbrev pub Held : Type 0
-Held = map.FinMap text_cmp (List ℕ)
 
 -- from path to its new bytes, or to none where the output is held no more
 abbrev pub Delta : Type 0
@@ -24,31 +21,31 @@ change_of (Some old) None = Some None
 change_of (Some old) (Some new) = if bytes_eq old new then None else Some (Some new)
 
 -- the delta says of each path how it changed
-abbrev pub IsDelta : Held → Held → Delta → Type 0
+abbrev pub IsDelta : FilesData → FilesData → Delta → Type 0
 IsDelta old new delta = (path : List ℕ) → map.get delta path ≡ change_of (map.get old path) (map.get new path)
 
 -- outputs after a change
-abbrev pub changed : Held → ChangeData → Held
+abbrev pub changed : FilesData → ChangeData → FilesData
 changed held (path, None) = map.remove held path
 changed held (path, Some bytes) = map.insert held path bytes
 
 -- outputs after changes, one after another
-abbrev pub applied : List ChangeData → Held → Held
+abbrev pub applied : List ChangeData → FilesData → FilesData
 applied [] held = held
 applied (c ∷ cs) held = applied cs (changed held c)
 
 -- outputs after the changes of deltas, one after another
-abbrev pub replayed : List Delta → Held → Held
+abbrev pub replayed : List Delta → FilesData → FilesData
 replayed [] held = held
 replayed (d ∷ ds) held = replayed ds (applied (map.entries d) held)
 
 -- each delta leads from what was held before to the next outputs
-abbrev pub AreDeltas : Held → List Held → List Delta → Type 0
+abbrev pub AreDeltas : FilesData → List FilesData → List Delta → Type 0
 AreDeltas before [] [] = Unit {0}
 AreDeltas before [] (d ∷ ds) = ⊥
 AreDeltas before (o ∷ os) [] = ⊥
 AreDeltas before (o ∷ os) (d ∷ ds) = IsDelta before o d × AreDeltas o os ds
 
 -- what is held after the k-th of these outputs, counted from 1, and before the first of them
-abbrev pub held_at : Held → List Held → ℕ → Held
+abbrev pub held_at : FilesData → List FilesData → ℕ → FilesData
 held_at before os k = get_or (before ∷ os) k before

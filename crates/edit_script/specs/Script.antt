@@ -4,6 +4,8 @@ use Rattle.std.specs.Char.{is_ascii_alphanumeric}
 use Rattle.std.specs.Fmt.{decimal}
 use Rattle.std.specs.List.{AllByRecursion, flat_map, list_all, slice_split}
 use Rattle.std.specs.Str.{IsUtf8, IsValidUpTo, bytes_eq}
+use Rattle.tk_io.specs.Characters.{full_stop, hyphen, low_line, solidus}
+use Rattle.edit_script.specs.declared.path.TheConstants.{LONGEST_PATH}
 
 -- an event: a path is given a text, a path is given up, or what stands is committed
 pub data EventData : Type 0 where
@@ -18,7 +20,7 @@ event_text (del path) = codes "del " ++ path ++ codes "\n"
 event_text commit = codes "commit\n"
 
 abbrev pub is_path_byte : ℕ → Bool
-is_path_byte b = is_ascii_alphanumeric b || ((b == 46) || ((b == 95) || (b == 45)))
+is_path_byte b = is_ascii_alphanumeric b || ((b == full_stop) || ((b == low_line) || (b == hyphen)))
 
 abbrev pub is_dots : List ℕ → Bool
 is_dots s = bytes_eq s (codes ".") || bytes_eq s (codes "..")
@@ -27,9 +29,9 @@ is_dots s = bytes_eq s (codes ".") || bytes_eq s (codes "..")
 abbrev pub is_segment : List ℕ → Bool
 is_segment s = not (is_dots s) && (not (length s == 0) && list_all is_path_byte s)
 
--- 1 to 200 bytes: segments joined by `/`
+-- at most so many bytes: segments joined by `/`
 abbrev pub is_path : List ℕ → Bool
-is_path path = nat_le (length path) 200 && list_all is_segment (slice_split (λ b. b == 47) path)
+is_path path = nat_le (length path) LONGEST_PATH && list_all is_segment (slice_split (λ b. b == solidus) path)
 
 -- a path is one, and a put's text is text whose length has at most eight digits
 abbrev pub EventFits : EventData → Type 0
@@ -49,11 +51,11 @@ abbrev pub IsScriptFront : List ℕ → ℕ → Type 0
 IsScriptFront bytes n = (n ≤ length bytes) × ((es : List EventData) × IsScript (take n bytes) es)
 
 -- the end of the longest front that is a script, or 0 where none is
-pub record IsStop (bytes : List ℕ) (n : ℕ) : Type 0 where
+pub record IsScriptEnd (bytes : List ℕ) (n : ℕ) : Type 0 where
   pub front : (n ≡ 0) ⊎ IsScriptFront bytes n
   pub longest : (m : ℕ) → n < m → IsScriptFront bytes m → ⊥
 
 -- where bytes that are no script are refused: at the first byte that is not UTF-8, and in a text at the stop
 pub record IsScriptStop (bytes : List ℕ) (n : ℕ) : Type 0 where
   pub none : (es : List EventData) → IsScript bytes es → ⊥
-  pub place : (¬ (IsUtf8 bytes) × IsValidUpTo bytes n) ⊎ (IsUtf8 bytes × IsStop bytes n)
+  pub place : (¬ (IsUtf8 bytes) × IsValidUpTo bytes n) ⊎ (IsUtf8 bytes × IsScriptEnd bytes n)

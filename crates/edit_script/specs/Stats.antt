@@ -4,7 +4,7 @@ use Rattle.std.specs.FinMap as map
 use Rattle.edit_script.specs.declared.line.Line.{Line}
 use Rattle.edit_script.specs.declared.line.Line.TheVariants.{StatsHead, Short, Done}
 use Rattle.edit_script.specs.Delta.{ChangeData, Delta}
-use Rattle.edit_script.specs.Shown.{Lined}
+use Rattle.edit_script.specs.View.{Lined}
 use Rattle.edit_script.specs.Stream.{line_text}
 
 -- how many of the changes have new bytes

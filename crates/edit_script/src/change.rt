@@ -2,7 +2,7 @@
 ghost use Rattle.std.specs.Prelude.{◌≡◌, [], ◌∷◌, ◌++◌, OnOk, OnErr, length, ◌==◌, map};
 ghost use Rattle.std.specs.List.{slice_get};
 ghost use Rattle.std.specs.Option.{option_map};
-ghost use Rattle.edit_script.specs.Shown.{lined_of};
+ghost use Rattle.edit_script.specs.View.{change_view};
 
 use std::alloc::Global;
 use std::marker::Model;
@@ -27,13 +27,13 @@ pub struct Changes<'a> {
 impl<'a> Model for Changes<'a> {
     ghost use Rattle.std.specs.Prelude.{List, map};
     ghost use Rattle.std.specs.Coded.{coded×, coded_list, coded_option, coded_ℕ};
-    ghost use Rattle.edit_script.specs.Shown.{Lined, lined_of};
+    ghost use Rattle.edit_script.specs.View.{Lined, change_view};
 
     ghost Value = { List Lined };
 
     ghost coded = { coded_list (coded× (coded× (coded_list coded_ℕ) (coded_option (coded_list coded_ℕ))) (coded_list coded_ℕ)) };
 
-    ghost view = { λ c. map lined_of c.items.items };
+    ghost view = { λ c. map change_view c.items.items };
 }
 
 impl<'a> Changes<'a> {
@@ -62,21 +62,21 @@ impl<'a> Changes<'a> {
 
     /// The changes, in order.
     pub fn as_slice(&self) -> &[Change<'a>]
-        ensures { map lined_of result.now ≡ self.now }
+        ensures { map change_view result.now ≡ self.now }
     {
         self.items.as_slice()
     }
 
     /// The i-th change, counted from 0; none where i is not below the length.
     pub fn at(&self, i: usize) -> Option<&Change<'a>>
-        ensures { option_map (λ c. lined_of c.now) result ≡ slice_get self.now i }
+        ensures { option_map (λ c. change_view c.now) result ≡ slice_get self.now i }
     {
         self.items.as_slice().get(i)
     }
 
     /// Adds the change at the end. Where memory runs out the change is dropped and the list stays.
     pub fn push(&mut self, item: Change<'a>) -> Result<(), NoMemory>
-        ensures ok { OnOk result (self.new ≡ self.old ++ lined_of item.entry ∷ []) }
+        ensures ok { OnOk result (self.new ≡ self.old ++ change_view item.entry ∷ []) }
         ensures err { OnErr result (self.new ≡ self.old) }
     {
         self.items.push(item)?;

@@ -2,7 +2,7 @@
 ghost use Rattle.std.specs.Prelude.{◌≡◌, [], ◌∷◌, ◌++◌, OnOk, OnErr, length, ◌==◌, map};
 ghost use Rattle.std.specs.List.{slice_get};
 ghost use Rattle.std.specs.Option.{option_map};
-ghost use Rattle.edit_script.specs.Shown.{event_of};
+ghost use Rattle.edit_script.specs.View.{event_view};
 
 use std::alloc::Global;
 use std::marker::Model;
@@ -30,13 +30,13 @@ impl<'s> Model for Events<'s> {
     ghost use Rattle.std.specs.Coded.{coded_list};
     ghost use Rattle.edit_script.specs.Codes.{coded_event};
     ghost use Rattle.edit_script.specs.Script.{EventData};
-    ghost use Rattle.edit_script.specs.Shown.{event_of};
+    ghost use Rattle.edit_script.specs.View.{event_view};
 
     ghost Value = { List EventData };
 
     ghost coded = { coded_list coded_event };
 
-    ghost view = { λ e. map event_of e.items.items };
+    ghost view = { λ e. map event_view e.items.items };
 }
 
 impl<'s> Events<'s> {
@@ -65,21 +65,21 @@ impl<'s> Events<'s> {
 
     /// The events, in order.
     pub fn as_slice(&self) -> &[Event<'s>]
-        ensures { map event_of result.now ≡ self.now }
+        ensures { map event_view result.now ≡ self.now }
     {
         self.items.as_slice()
     }
 
     /// The i-th event, counted from 0; none where i is not below the length.
     pub fn at(&self, i: usize) -> Option<&Event<'s>>
-        ensures { option_map (λ e. event_of e.now) result ≡ slice_get self.now i }
+        ensures { option_map (λ e. event_view e.now) result ≡ slice_get self.now i }
     {
         self.items.as_slice().get(i)
     }
 
     /// Adds the event at the end. Where memory runs out the list stays.
     pub fn push(&mut self, item: Event<'s>) -> Result<(), NoMemory>
-        ensures ok { OnOk result (self.new ≡ self.old ++ event_of item.entry ∷ []) }
+        ensures ok { OnOk result (self.new ≡ self.old ++ event_view item.entry ∷ []) }
         ensures err { OnErr result (self.new ≡ self.old) }
     {
         self.items.push(item)?;

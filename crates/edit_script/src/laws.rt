@@ -4,11 +4,11 @@ ghost use Rattle.std.specs.FinMap as map;
 ghost use Rattle.std.specs.List.{concat, flat_map, slice_get};
 ghost use Rattle.std.specs.Str.{IsUtf8};
 ghost use Rattle.tk_io.specs.FilesData.{FilesData};
-ghost use Rattle.edit_script.specs.Delta.{Held, ChangeData, Delta, IsDelta, AreDeltas, applied, replayed, held_at};
+ghost use Rattle.edit_script.specs.Delta.{ChangeData, Delta, IsDelta, AreDeltas, applied, replayed, held_at};
 ghost use Rattle.edit_script.specs.Files.{AreFilesAfter, AreFilesAt, up_to, commit_count, whole};
 ghost use Rattle.edit_script.specs.Script.{EventData, put, del, commit, IsScript, IsScriptStop};
 ghost use Rattle.edit_script.specs.declared.line.Line.TheVariants.{StreamHead, StatsHead, Commit as CommitLine, Done};
-ghost use Rattle.edit_script.specs.Shown.{Lined, with_line};
+ghost use Rattle.edit_script.specs.View.{Lined, with_line};
 ghost use Rattle.edit_script.specs.Stats.{short_line, short_lines, short_stats};
 ghost use Rattle.edit_script.specs.Stream.{commits_text, line_text, pieces_of, record_of, stream_of, stream_pieces};
 
@@ -68,19 +68,19 @@ pub fn counted_commits()
 
 /// There is one delta from some outputs to others.
 pub fn one_delta()
-    ensures { (old : Held) → (new : Held) → (d : Delta) → (e : Delta) → IsDelta old new d
+    ensures { (old : FilesData) → (new : FilesData) → (d : Delta) → (e : Delta) → IsDelta old new d
         → IsDelta old new e → d ≡ e }
 {}
 
 /// A delta makes the new outputs of the old.
 pub fn delta_applies()
-    ensures { (old : Held) → (new : Held) → (d : Delta) → IsDelta old new d
+    ensures { (old : FilesData) → (new : FilesData) → (d : Delta) → IsDelta old new d
         → applied (map.entries d) old ≡ new }
 {}
 
 /// The first k deltas make the k-th outputs of what was held before the first of them.
 pub fn deltas_apply()
-    ensures { (before : Held) → (held : List Held) → (ds : List Delta) → (k : ℕ)
+    ensures { (before : FilesData) → (held : List FilesData) → (ds : List Delta) → (k : ℕ)
         → AreDeltas before held ds → k ≤ length held
         → replayed (take k ds) before ≡ held_at before held k }
 {}
@@ -93,8 +93,9 @@ pub fn carried_lines()
 
 /// One more delta.
 pub fn one_more_delta()
-    ensures { (before : Held) → (held : List Held) → (ds : List Delta) → (new : Held) → (d : Delta)
-        → AreDeltas before held ds → IsDelta (held_at before held (length held)) new d
+    ensures { (before : FilesData) → (held : List FilesData) → (ds : List Delta)
+        → (new : FilesData) → (d : Delta) → AreDeltas before held ds
+        → IsDelta (held_at before held (length held)) new d
         → AreDeltas before (held ++ new ∷ []) (ds ++ d ∷ []) }
 {}
 

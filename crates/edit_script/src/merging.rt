@@ -7,7 +7,7 @@ ghost use Rattle.std.specs.FinMap as finite;
 ghost use Rattle.tk_io.specs.Order.{text_cmp};
 ghost use Rattle.edit_script.specs.Delta.{Delta, ChangeData, IsDelta};
 ghost use Rattle.edit_script.specs.inner.Merge.{Entries, AreChanges, IsStep, found_changes, shown, shown_entry};
-ghost use Rattle.edit_script.specs.Shown.{with_line};
+ghost use Rattle.edit_script.specs.View.{with_line};
 
 use crate::record_line::{file_line, gone_line};
 use crate::{Change, Changes};

@@ -5,12 +5,15 @@ ghost use Rattle.edit_script.specs.Script.{is_dots, is_path, is_path_byte, is_se
 
 use crate::cut::cut_at_first;
 
+/// The most bytes of a path.
+pub(crate) const LONGEST_PATH: usize = 200;
+
 /// Whether the text is 1 to 200 bytes of segments joined by `/`, each of one or more ASCII letters, digits, `.`, `_` and
 /// `-`, and none of them `.` or `..`.
 pub fn is_path(path: &str) -> bool
     ensures { result ≡ is_path path.now }
 {
-    path.len() <= 200 && has_segments(path)
+    path.len() <= LONGEST_PATH && has_segments(path)
 }
 
 fn has_segments(path: &str) -> bool

@@ -3,7 +3,7 @@ ghost use Rattle.std.specs.Prelude.{◌≡◌, Some, None, IfOk, OnOk, OnErr};
 ghost use Rattle.std.specs.Io.KnownBytes.{Appends};
 ghost use Rattle.tk_io.specs.Causes.{HasCause};
 ghost use Rattle.tk_io.specs.Writing.{AppendsPart};
-ghost use Rattle.edit_script.specs.Shown.{lined_of, with_line};
+ghost use Rattle.edit_script.specs.View.{change_view, with_line};
 ghost use Rattle.edit_script.specs.Stream.{record_line, record_of};
 
 use crate::Change;
@@ -42,11 +42,13 @@ pub(crate) fn file_line(alloc: Global, path: &str, bytes: &[u8]) -> Result<Bytes
 /// # Errors
 /// `Failed` only where the sink's faults rose; a part of the record was appended then, and not all of it.
 pub fn write_change<K: Sink>(out: &mut K, change: &Change<'_>) -> Result<(), Failed>
-    requires { lined_of change.now ≡ with_line (lined_of change.now).0 }
+    requires { change_view change.now ≡ with_line (change_view change.now).0 }
     ensures whole { OnOk result
-        (Appends (K.written out.old) (K.written out.new) (record_of (lined_of change.now).0)) }
+        (Appends (K.written out.old) (K.written out.new)
+        (record_of (change_view change.now).0)) }
     ensures part { OnErr result
-        (AppendsPart (K.written out.old) (K.written out.new) (record_of (lined_of change.now).0)) }
+        (AppendsPart (K.written out.old) (K.written out.new)
+        (record_of (change_view change.now).0)) }
     ensures cause { HasCause (K.faults out.old) (K.faults out.new) result }
 {
     match change {

@@ -1,8 +1,8 @@
 // Reading a script.
 ghost use Rattle.std.specs.Prelude.{◌≡◌, ℕ, List, ◌++◌, ◌∷◌, Err, IfOk, MatchOption, length};
 ghost use Rattle.std.specs.Fmt.{decimal};
-ghost use Rattle.edit_script.specs.Script.{EventData, EventFits, IsScript, IsStop, event_text, put};
-ghost use Rattle.edit_script.specs.Shown.{event_of};
+ghost use Rattle.edit_script.specs.Script.{EventData, EventFits, IsScript, IsScriptEnd, event_text, put};
+ghost use Rattle.edit_script.specs.View.{event_view};
 ghost use Rattle.edit_script.specs.inner.Line.{first_line, behind_line};
 ghost use Rattle.edit_script.specs.declared.script.ScriptStop.TheVariants.{NoMemory as OutOfMemory};
 
@@ -47,7 +47,8 @@ pub fn read_script<'s>(alloc: Global, text: &'s str) -> Result<Events<'s>, Scrip
     ensures none { (at : ℕ) → result ≡ Err (ScriptStop.BadScript at) → (es : List EventData)
         → IsScript text.entry.now es → ⊥ }
     // .. and then at the stop.
-    ensures stop { (at : ℕ) → result ≡ Err (ScriptStop.BadScript at) → IsStop text.entry.now at }
+    ensures stop { (at : ℕ) → result ≡ Err (ScriptStop.BadScript at)
+        → IsScriptEnd text.entry.now at }
 {
     let mut events = Events::new(alloc);
     let Some(mut rest) = text.strip_prefix("tokc-script 1\n") else {
@@ -67,7 +68,7 @@ pub fn read_script<'s>(alloc: Global, text: &'s str) -> Result<Events<'s>, Scrip
 fn next_event(text: &str) -> Option<(Event<'_>, &str)>
     ensures { MatchOption result ((e : EventData) → (rest : List ℕ) → EventFits e
         → text.now ≡ event_text e ++ rest → ⊥)
-        (λ p. (text.now ≡ event_text (event_of p.0) ++ p.1.now) × EventFits (event_of p.0)) }
+        (λ p. (text.now ≡ event_text (event_view p.0) ++ p.1.now) × EventFits (event_view p.0)) }
 {
     let (line, behind) = cut_at_first(text, '\n')?;
     event_of_line(line, behind)
@@ -77,7 +78,7 @@ fn next_event(text: &str) -> Option<(Event<'_>, &str)>
 fn event_of_line<'s>(line: &'s str, behind: &'s str) -> Option<(Event<'s>, &'s str)>
     ensures { MatchOption result ((e : EventData) → (rest : List ℕ) → EventFits e
         → line.entry.now ≡ first_line e → behind.entry.now ≡ behind_line e ++ rest → ⊥)
-        (λ p. (line.entry.now ≡ first_line (event_of p.0)) × (behind.entry.now ≡ behind_line (event_of p.0) ++ p.1.now) × EventFits (event_of p.0)) }
+        (λ p. (line.entry.now ≡ first_line (event_view p.0)) × (behind.entry.now ≡ behind_line (event_view p.0) ++ p.1.now) × EventFits (event_view p.0)) }
 {
     if line == "commit" {
         return Some((Event::Commit, behind));

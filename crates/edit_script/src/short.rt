@@ -1,13 +1,13 @@
 // The line of a commit in the short statistics, and its numbers.
 ghost use Rattle.std.specs.Prelude.{◌≡◌, ◌≤◌, [], ◌∷◌};
-ghost use Rattle.edit_script.specs.Shown.{lined_of};
+ghost use Rattle.edit_script.specs.View.{change_view};
 ghost use Rattle.edit_script.specs.Stats.{bare, gone_count, short_line};
 
 use crate::{Change, Changes, Line};
 
 // 1 where the change is of an output that is held no more, else 0.
 fn gone_by(change: &Change<'_>) -> usize
-    ensures count { result ≡ gone_count ((lined_of change.now).0 ∷ []) }
+    ensures count { result ≡ gone_count ((change_view change.now).0 ∷ []) }
     ensures bound { result ≤ 1 }
 {
     match change {
@@ -21,10 +21,8 @@ fn gone_count(changes: &Changes<'_>) -> usize
     ensures { result ≡ gone_count (bare changes.now) }
 {
     let mut count = 0;
-    for i in 0..changes.len() {
-        if let Some(change) = changes.at(i) {
-            count += gone_by(change);
-        }
+    for change in changes.as_slice() {
+        count += gone_by(change);
     }
     count
 }

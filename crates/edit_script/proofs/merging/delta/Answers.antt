@@ -8,7 +8,7 @@ use Rattle.std.specs.String.{string_bytes}
 use Rattle.tk_io.specs.Order.{text_cmp}
 use Rattle.edit_script.specs.Delta.{ChangeData, Delta, IsDelta}
 use Rattle.edit_script.specs.inner.Merge.{AreChanges, shown}
-use Rattle.edit_script.specs.Shown.{Lined, with_line}
+use Rattle.edit_script.specs.View.{Lined, with_line}
 use Rattle.edit_script.proofs.Deltas.{delta_of}
 use Rattle.edit_script.proofs.merging.delta.Goals as goal
 

@@ -2,7 +2,7 @@ use Rattle.std.proofs.Common.{◌++◌, length, drop, map, ap, sym, ◌∙◌, a
 use Rattle.std.proofs.lemmas.List.{map-append}
 use Rattle.std.specs.Option.{option_map}
 use Rattle.edit_script.specs.inner.Merge.{shown, shown_entry, found_changes}
-use Rattle.edit_script.specs.Shown.{with_line}
+use Rattle.edit_script.specs.View.{with_line}
 use Rattle.edit_script.proofs.Rising.{at_head, step_bound, nearer, leads_on, leads_all}
 use Rattle.edit_script.proofs.merging.merge.Goals as goal
 

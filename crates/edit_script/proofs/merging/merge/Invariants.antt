@@ -2,7 +2,7 @@
 use Rattle.std.proofs.Common.{◌≡◌, ◌+◌, ◌-◌, ◌≤◌, List, length, map}
 use Rattle.edit_script.specs.Delta.{ChangeData}
 use Rattle.edit_script.specs.inner.Merge.{shown}
-use Rattle.edit_script.specs.Shown.{with_line}
+use Rattle.edit_script.specs.View.{with_line}
 use Rattle.edit_script.proofs.Rising.{Leads}
 use Rattle.edit_script.proofs.merging.merge.Given as goal
 

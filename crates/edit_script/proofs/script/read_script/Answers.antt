@@ -1,6 +1,6 @@
 use Rattle.std.proofs.Common.{◌≡◌, ◌<◌, ◌-◌, length, sym, subst, arith}
 use Rattle.std.proofs.lemmas.Bool.Decides.{nat_tests}
-use Rattle.edit_script.specs.Script.{IsStop}
+use Rattle.edit_script.specs.Script.{IsScriptEnd}
 use Rattle.edit_script.proofs.Readings.{no_header, no_reading, stops}
 use Rattle.edit_script.proofs.script.read_script.Goals as goal
 
@@ -10,7 +10,7 @@ returns-in_default-clause-none c at is = (no_header c.args.text.now c.in_default
 pub returns-in_default-clause-stop : goal.returns-in_default-clause-stop
 returns-in_default-clause-stop c at is =
     let here : 0 ≡ at = cc in
-    subst (IsStop c.args.text.now) here (no_header c.args.text.now c.in_default.ensures.cases).1
+    subst (IsScriptEnd c.args.text.now) here (no_header c.args.text.now c.in_default.ensures.cases).1
 
 pub returns-in_default-next_event-clause-none : goal.returns-in_default-next_event-clause-none
 returns-in_default-next_event-clause-none c at is =

@@ -1,20 +1,29 @@
-use Rattle.std.proofs.Common.{◌≡◌, ◌+◌, ◌≤◌, ℕ, List, Some, [], ◌∷◌, drop, sym, arith}
-use Rattle.std.specs.List.{slice_get}
-use Rattle.edit_script.specs.Shown.{Lined, lined_of}
+use Rattle.std.proofs.Common.{◌≡◌, ◌+◌, ℕ, List, [], ◌∷◌, drop, map, ap, ◌∙◌, arith}
+use Rattle.edit_script.specs.View.{Lined, change_view}
 use Rattle.edit_script.specs.Stats.{bare, gone_count}
-use Rattle.edit_script.proofs.Stats.{gone_at, none_below}
-use Rattle.edit_script.proofs.short.gone_count.Goals.{in-Some, in_default}
+use Rattle.edit_script.proofs.Stats.{first_left, gone_left, none_left}
 use Rattle.edit_script.proofs.short.gone_count.Goals as goal
 
--- one change more is counted
-counted : (cs : List Lined) (c : Lined) (i all before more now : ℕ) → slice_get cs i ≡ Some c → before + gone_count (bare (drop i cs)) ≡ all → more ≡ gone_count (c.0 ∷ []) → now ≡ before + more → now + gone_count (bare (drop (i + 1) cs)) ≡ all
-counted cs c i all before more now e h m n = omega (arith, h, m, n, gone_at cs i c e)
+-- one change more is counted, and all are
+counted : (left rest : List Lined) (c : Lined) (all before more : ℕ) → left ≡ c ∷ rest → before + gone_count (bare left) ≡ all → more ≡ gone_count (c.0 ∷ []) → (before + more) + gone_count (bare rest) ≡ all
+counted left rest c all before more e h m = omega (arith, h, m, gone_left left rest c e)
 
-pub loop-i-preserved : goal.loop-i-preserved
-loop-i-preserved c =
-    let cs = c.args.changes.now in
-    elim c.match-at.branch [
-      | in-Some w ↦
-          (counted cs (lined_of w.in-Some.change.now) c.loop-i.i (gone_count (bare cs)) c.loop-i.count w.gone_by-count.result c.match-at.count (sym w.in-Some.ensures) c.loop-i.invariant.0 w.gone_by-count.ensures.count w.count-is, omega (arith, c.loop-i.invariant.1, w.gone_by-count.ensures.bound, w.count-is))
-      | in_default w ↦ absurd (none_below cs c.loop-i.i c.len-i-end.result w.in_default.ensures c.loop-i-test.true c.len-i-end.ensures)
-    ]
+whole : (left : List Lined) (all count : ℕ) → left ≡ [] → count + gone_count (bare left) ≡ all → count ≡ all
+whole left all count e h = omega (arith, h, ap (λ cs. gone_count (bare cs)) e)
+
+pub loop-change-preserved : goal.loop-change-preserved
+loop-change-preserved c =
+    let items = c.as_slice-change-items.result.now in
+    let all = map change_view items in
+    let i = c.loop-change.change-index in
+    let x = c.change-item.result in (
+      counted (drop i all) (drop (i + 1) all) (change_view x) (gone_count (bare all)) c.loop-change.count c.gone_by-count.result (first_left change_view items i x c.loop-change-test.true c.change-item.is)
+          c.loop-change.invariant.0 c.gone_by-count.ensures.count,
+      omega (arith, c.loop-change.invariant.1, c.gone_by-count.ensures.bound),
+    )
+
+pub returns : goal.returns
+returns c =
+    let items = c.as_slice-change-items.result.now in
+    whole (drop c.loop-change.change-index (map change_view items)) (gone_count (bare (map change_view items))) c.loop-change.count (none_left change_view items c.loop-change.change-index c.loop-change-test.false) c.loop-change.invariant.0
+    ∙ ap (λ cs. gone_count (bare cs)) c.as_slice-change-items.ensures

@@ -1,6 +1,6 @@
 use Rattle.std.proofs.Common.{◌≡◌, ◌∙◌, ◌+◌, ◌-◌, ℕ, List, length, map, ap, arith, sym, refl}
 use Rattle.edit_script.specs.Delta.{ChangeData}
-use Rattle.edit_script.specs.Shown.{Lined}
+use Rattle.edit_script.specs.View.{Lined}
 use Rattle.edit_script.specs.Stats.{bare, gone_count, written_count, short_line}
 use Rattle.edit_script.specs.declared.line.Line.TheVariants.{Short}
 use Rattle.edit_script.proofs.Stats.{counts_whole, bare_length}

@@ -8,18 +8,20 @@ use Rattle.edit_script.specs.Script.{EventData, put, del, commit}
 use Rattle.edit_script.specs.Delta.{ChangeData}
 use Rattle.edit_script.specs.Stream.{record_line}
 
-abbrev pub event_of : Event → EventData
-event_of (Put path text) = put path.now text.now
-event_of (Del path) = del path.now
-event_of Commit = commit
+-- an event, with the bytes of its path and its text
+abbrev pub event_view : Event → EventData
+event_view (Put path text) = put path.now text.now
+event_view (Del path) = del path.now
+event_view Commit = commit
 
 -- a change and the line that it carries
 abbrev pub Lined : Type 0
 Lined = ChangeData × List ℕ
 
-abbrev pub lined_of : Change → Lined
-lined_of (Gone path line) = ((path.now, None), line)
-lined_of (Written path bytes line) = ((path.now, Some bytes.now), line)
+-- a change as plain data, with its line
+abbrev pub change_view : Change → Lined
+change_view (Gone path line) = ((path.now, None), line)
+change_view (Written path bytes line) = ((path.now, Some bytes.now), line)
 
 -- a change with its record's first line
 abbrev pub with_line : ChangeData → Lined
