@@ -12,7 +12,7 @@ use Rattle.json_span.specs.Grammar.{Name, number}
 use Rattle.json_span.specs.Steered.{rules}
 
 -- each byte of the rule is below 128; the one name is that of numbers
-abbrev is_ascii : Rule Name → Bool
+abbrev pub is_ascii : Rule Name → Bool
 is_ascii empty = true
 is_ascii (byte low high) = nat_lt high 128
 is_ascii (seq r s) = is_ascii r && is_ascii s
@@ -31,7 +31,7 @@ and_right false b e = cc
 below : (low high c : ℕ) → within low high c ≡ true → nat_lt high 128 ≡ true → c < 128
 below low high c h e = grind (arith, nat_tests)
 
-one_ascii : (c : ℕ) → c < 128 → IsAscii (c ∷ [])
+pub one_ascii : (c : ℕ) → c < 128 → IsAscii (c ∷ [])
 one_ascii c h zero = h
 one_ascii c h (suc i) = omega arith
 

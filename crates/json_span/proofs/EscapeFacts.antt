@@ -113,7 +113,7 @@ hex_ascii a h = grind (arith, nat_tests)
 pub fourth_ascii : (a b c d n : ℕ) → unit_of a b c d ≡ Some n → d < 128
 fourth_ascii a b c d n e = hex_ascii d (digits_in a b c d n e).fourth_hex
 
-short_small : (x c : ℕ) → short_of x ≡ Some c → c < 128
+pub short_small : (x c : ℕ) → short_of x ≡ Some c → c < 128
 short_small x c e = grind (arith, nat_tests)
 
 pub short_stands : (t : List ℕ) (r : ℕ) → get_or t 0 0 ≡ 92 → (get_or t 1 0 ≡ 117 → ⊥) → ((c : ℕ) → short_of (get_or t 1 0) ≡ Some c → r ≡ c) → Stands t r 2
@@ -123,7 +123,7 @@ short_stands t r e n h s u x =
     let one : encode_utf8 r ≡ k.character ∷ [] = ap encode_utf8 same ∙ encode_ascii k.character (short_small (get_or t 1 0) k.character k.stands) in
     (k.rest, k.content, k.same ∙ sym (ap (λ z. z ++ k.rest) one))
 
-scalar_alone : (n : ℕ) → n < 65536 → (is_high n || is_low n) ≡ false → IsScalar n
+pub scalar_alone : (n : ℕ) → n < 65536 → (is_high n || is_low n) ≡ false → IsScalar n
 scalar_alone n h e = grind (arith, nat_tests)
 
 scalar_pair : (h l : ℕ) → is_high h ≡ true → is_low l ≡ true → IsScalar (joined_pair h l)
@@ -146,7 +146,7 @@ pair_stands t n l r e f h paired hl g s u x =
     (two.rest, two.content, two.same ∙ ap (λ z. encode_utf8 z ++ two.rest) (sym (g ∙ ap (λ z. joined_pair z l) same ∙ ap (joined_pair k.number) low)))
 
 -- what is known of a text that begins an escape
-short_letter : (x c : ℕ) → short_of x ≡ Some c → x < 128
+pub short_letter : (x c : ℕ) → short_of x ≡ Some c → x < 128
 short_letter x c e = grind (arith, nat_tests)
 
 two_in : (t s u : List ℕ) → Content t s u → get_or t 0 0 ≡ 92 → 2 ≤ length t

@@ -33,6 +33,8 @@ pub mod Slices
 pub mod Saying
 pub mod SaidShown
 pub mod SliceSaid
+pub mod StringsAreUtf8
+pub mod SaidFits
 pub mod SaidCut
 pub mod Composing
 pub mod Insides

@@ -10,7 +10,7 @@ use Rattle.json_span.proofs.Saying.{shows_says}
 
 module _ {K : Type 0} (num : List ℕ → K) (d : ℕ) where
   mutual
-    moved_same : (n : Placed) → plain_of num (moved d n) ≡ plain_of num n
+    pub moved_same : (n : Placed) → plain_of num (moved d n) ≡ plain_of num n
     moved_same (placed v start end) = tree_same v
 
     tree_same : (v : Tree) → plain_tree num (moved_tree d v) ≡ plain_tree num v

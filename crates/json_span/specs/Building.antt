@@ -1,5 +1,5 @@
 -- What building a value gives.
-use Rattle.std.specs.Prelude.{◌≡◌, ℕ, ◌+◌, ◌^◌, ◌<◌, ◌≤◌, true, false, List, ◌++◌, length, drop, Option, Some, None}
+use Rattle.std.specs.Prelude.{◌≡◌, ℕ, ◌+◌, ◌^◌, ◌<◌, ◌≤◌, true, false, List, ◌++◌, length, drop, set, Option, Some, None}
 use Rattle.grammar.specs.Grammar.{named, seq, within}
 use Rattle.grammar.specs.Predict.{begins, first}
 use Rattle.json_span.specs.Grammar.{value, ws, one}
@@ -9,7 +9,7 @@ use Rattle.json_span.specs.Flaw.{Flaw, equal_names, too_deep, flaw_in}
 use Rattle.json_span.specs.Steered.{Bracket, square, curly, ahead, close_of, more_of, list_of}
 use Rattle.json_span.specs.Scan.{Reaches, Halts}
 use Rattle.json_span.specs.Answer.{IsAnswer, shows}
-use Rattle.json_span.specs.Table.{spans}
+use Rattle.json_span.specs.Table.{span, spans}
 use Rattle.json_span.specs.declared.table.Span.{Span}
 use Rattle.json_span.specs.declared.build.Built.{Built}
 use Rattle.json_span.specs.declared.build.Built.TheVariants.{Whole, Flawed}
@@ -76,6 +76,10 @@ GoesOn b text at (Closed end) = IsClose b text at end
 
 abbrev pub HaltsBehind : Bracket → List ℕ → ℕ → ℕ → Type 0
 HaltsBehind b text at stop = Halts (seq ws (more_of b)) text at stop
+
+-- a list's span, whose next value stands behind all that were kept, is put in its place
+abbrev pub IsClosed : List Span → ℕ → ℕ → ℕ → ℕ → ℕ → List Span → Type 0
+IsClosed old index name name_end start end new = new ≡ set old index (span name name_end start end (length old))
 
 abbrev pub empty_tree : Bracket → Tree
 empty_tree square = an_array no_elements

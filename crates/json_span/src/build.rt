@@ -1,6 +1,6 @@
 //! Building the tree of a value, down to a depth. Behind a flaw the syntax alone is read on.
 
-ghost use Rattle.std.specs.Prelude.{◌≡◌, ◌+◌, ◌≤◌, ◌<◌, true, false, length, drop, IfOk, IfErr, OnOk};
+ghost use Rattle.std.specs.Prelude.{◌≡◌, ◌+◌, ◌≤◌, ◌<◌, ◌^◌, true, false, length, drop, IfOk, IfErr, OnOk};
 ghost use Rattle.grammar.specs.Grammar.{named};
 ghost use Rattle.grammar.specs.Predict.{begins, first};
 ghost use Rattle.json_span.specs.Grammar.{value};
@@ -8,7 +8,7 @@ ghost use Rattle.json_span.specs.Steered.{ahead, list_of, square, curly};
 ghost use Rattle.json_span.specs.Kinds.{bracket_of};
 ghost use Rattle.json_span.specs.Scan.{Reaches};
 ghost use Rattle.json_span.specs.Skipping.{StopsAt};
-ghost use Rattle.json_span.specs.Building.{GoesOn, Gives, Opens, HaltsBehind, IsSmall, end_of_built};
+ghost use Rattle.json_span.specs.Building.{GoesOn, Gives, Opens, HaltsBehind, IsSmall, IsClosed, end_of_built};
 
 use crate::bytes::{Class, has, row_end};
 use crate::flaw::Flaw;
@@ -61,6 +61,22 @@ fn next_of(text: &str, at: usize, bracket: Bracket) -> Result<Next, usize>
     }
     let end = row_end(text, behind, &[bracket.close()])?;
     Ok(Next::Closed(end))
+}
+
+// Puts the span of a list in its place, once all values in it stand behind that place.
+fn close(nodes: &mut Vec<Span>, index: usize, name: u32, name_end: u32, start: u32, end: u32)
+    requires within { index < length nodes.old.items }
+    requires small { length nodes.old.items < 2 ^ 32 }
+    ensures { IsClosed nodes.old.items index name name_end start end nodes.new.items }
+{
+    let next = nodes.len() as u32;
+    nodes[index] = Span {
+        name,
+        name_end,
+        start,
+        end,
+        next,
+    };
 }
 
 /// Builds the value that stands there; `room` says how many brackets may open in it.
@@ -207,14 +223,7 @@ fn build_array(
         match next_of(text, behind, Bracket::Square)? {
             Next::Item(item) => next = item,
             Next::Closed(end) => {
-                let last = nodes.len() as u32;
-                nodes[index] = Span {
-                    name,
-                    name_end,
-                    start: at as u32,
-                    end: end as u32,
-                    next: last,
-                };
+                close(nodes, index, name, name_end, at as u32, end as u32);
                 return Ok(Built::Whole(end));
             }
         }
@@ -270,14 +279,7 @@ fn build_object(
                 if let Some(flaw) = again {
                     return Ok(Built::Flawed(flaw, end));
                 }
-                let last = nodes.len() as u32;
-                nodes[index] = Span {
-                    name,
-                    name_end,
-                    start: at as u32,
-                    end: end as u32,
-                    next: last,
-                };
+                close(nodes, index, name, name_end, at as u32, end as u32);
                 return Ok(Built::Whole(end));
             }
         }

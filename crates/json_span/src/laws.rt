@@ -1,6 +1,7 @@
 //! Laws over the definitions alone, for the layers above.
 
 ghost use Rattle.json_span.specs.Laws.{TextsShow, FrontsArePrefixes, FrontsGoOn, ShowsOne, OneAnswer, EachHasAnswer, ShowsSay, SaysBefore, SaysShow, SaysOne, SlicesSay};
+ghost use Rattle.json_span.specs.FitsIn.{SaidFits};
 ghost use Rattle.json_span.specs.Flaws.{FirstIsLeast, NoneIsNone};
 ghost use Rattle.json_span.specs.Parts.{SlicesShow};
 ghost use Rattle.json_span.specs.SpellingLaws.{InsidesFollow, InsidesJoin, JoinedReadBack, PlainStays, StringsReadBack};
@@ -22,14 +23,15 @@ pub fn json_laws()
     ensures none { NoneIsNone }
 {}
 
-/// What a text shows it says without places, and back; it says one value; and what a value's text says, it says whatever follows. `Number` is what
-/// is kept of a number.
+/// What a text shows it says without places, and back; it says one value; and what a value's text says, it says whatever follows. What a text of
+/// UTF-8 says has strings and names of UTF-8, and no list with more parts than the text has bytes. `Number` is what is kept of a number.
 pub fn plain_laws<Number>()
     ensures shown { ShowsSay Number }
     ensures framed { SaysBefore Number }
     ensures said { SaysShow Number }
     ensures one { SaysOne Number }
     ensures slices { SlicesSay Number }
+    ensures fits { SaidFits Number }
 {}
 
 /// Texts that say values, put together with commas and brackets, say the array of the values, and members put together so say the object; and only such

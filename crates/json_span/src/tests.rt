@@ -135,6 +135,38 @@ fn long_string(rt: HostRuntime) -> Result<(), Fail> {
     Ok(())
 }
 
+/// What stands behind a million characters of a string, and where the text is refused.
+static LONG: [(&str, usize); 2] = [("\u{1f}", 1000006), (r"\q", 1000007)];
+
+#[test]
+fn long_string_refused(rt: HostRuntime) -> Result<(), Fail> {
+    for (end, at) in &LONG {
+        let mut text = Vec::new(rt.alloc());
+        text.extend_from_slice(br#"{"a":""#)?;
+        for _ in 0..1000u32 {
+            text.extend_from_slice(&[b'x'; 1000])?;
+        }
+        text.extend_from_slice(end.as_bytes())?;
+        assert_eq!(rt;
+            fault(rt.alloc(), &text),
+            Some(JsonFault::Syntax(*at)),
+            "{end}"
+        );
+    }
+    Ok(())
+}
+
+fn first_item(alloc: Global, text: &str) -> Option<(usize, usize)> {
+    let list = root(alloc, text.as_bytes()).ok()?;
+    let item = list.as_array()?.next()?;
+    Some((item.start(), item.end()))
+}
+
+#[test]
+fn item_of_a_list(rt: HostRuntime) {
+    assert_eq!(rt; first_item(rt.alloc(), "[1]"), Some((1, 2)));
+}
+
 /// The values of a level, each with the offsets of its name's string, or 0 where it has none.
 type Level<'d, 's> = Vec<(usize, usize, NodeRef<'d, 's>)>;
 

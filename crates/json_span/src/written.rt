@@ -1,6 +1,7 @@
 // How a string is written.
 ghost use Rattle.std.specs.Prelude.{◌≡◌, ◌∷◌, List, ℕ, true, ◌++◌, ◌<◌, OnOk, OnErr};
 ghost use Rattle.lane_scan.specs.Bytes.{is_special};
+ghost use Rattle.tk_io.specs.Writing.{Extends};
 ghost use Rattle.json_span.specs.Spelling.{hex_digit, escaped, inside_text, string_text, are_bytes};
 ghost use Rattle.json_span.specs.Reading.{StringAt};
 
@@ -17,7 +18,8 @@ fn hex_digit(n: u8) -> u8
 // The escape of a byte that cannot stand for itself.
 fn write_escape(byte: u8, out: &mut Bytes) -> Result<(), NoMemory>
     requires special { is_special byte ≡ true }
-    ensures { OnOk result (out.new ≡ out.old ++ escaped byte) }
+    ensures ok { OnOk result (out.new ≡ out.old ++ escaped byte) }
+    ensures err { OnErr result (Extends out.old out.new) }
 {
     if byte == b'"' || byte == b'\\' {
         return out.append(&[b'\\', byte]);
@@ -32,9 +34,10 @@ fn write_escape(byte: u8, out: &mut Bytes) -> Result<(), NoMemory>
     ])
 }
 
-// Runs of plain bytes as they are, and escapes between them.
+// Runs of plain bytes as they are, and escapes between them; of a refusal a part may stay.
 fn put_inside(text: &[u8], out: &mut Bytes) -> Result<(), NoMemory>
-    ensures { OnOk result (out.new ≡ out.old ++ inside_text text.now) }
+    ensures ok { OnOk result (out.new ≡ out.old ++ inside_text text.now) }
+    ensures err { OnErr result (Extends out.old out.new) }
 {
     let mut at = 0;
     loop {
@@ -49,20 +52,12 @@ fn put_inside(text: &[u8], out: &mut Bytes) -> Result<(), NoMemory>
 }
 
 fn put_string(text: &[u8], out: &mut Bytes) -> Result<(), NoMemory>
-    ensures { OnOk result (out.new ≡ out.old ++ string_text text.now) }
+    ensures ok { OnOk result (out.new ≡ out.old ++ string_text text.now) }
+    ensures err { OnErr result (Extends out.old out.new) }
 {
     out.append(b"\"")?;
     put_inside(text, out)?;
     out.append(b"\"")
-}
-
-fn add_inside(text: &[u8], out: &mut Bytes) -> Result<(), NoMemory>
-    ensures ok { OnOk result (out.new ≡ out.old ++ inside_text text.now) }
-    ensures err { OnErr result (out.new ≡ out.old) }
-{
-    let mut scratch = out.fresh();
-    put_inside(text, &mut scratch)?;
-    out.append(scratch.as_slice())
 }
 
 /// The string of these bytes in quotes; it reads back as they are (`spelling_laws`). Where memory runs out nothing is written.
@@ -70,9 +65,9 @@ pub fn write_string_bytes(text: &[u8], out: &mut Bytes) -> Result<(), NoMemory>
     ensures text { OnOk result (out.new ≡ out.old ++ string_text text.now) }
     ensures err { OnErr result (out.new ≡ out.old) }
 {
-    let mut scratch = out.fresh();
-    put_string(text, &mut scratch)?;
-    out.append(scratch.as_slice())
+    let start = out.len();
+    let written = put_string(text, out);
+    out.all_or_nothing(start, written)
 }
 
 /// The string in quotes.
@@ -94,5 +89,7 @@ pub fn write_string_inside(text: &str, out: &mut Bytes) -> Result<(), NoMemory>
     ensures reads { (u : List ℕ) → StringAt (34 ∷ (inside_text text.now ++ (34 ∷ u))) text.now u }
     ensures bytes { are_bytes text.now ≡ true }
 {
-    add_inside(text.as_bytes(), out)
+    let start = out.len();
+    let written = put_inside(text.as_bytes(), out);
+    out.all_or_nothing(start, written)
 }
