@@ -1,6 +1,7 @@
 pub mod OneAnswer
 mod BareTrees
 mod Counting
+mod EachAnswers
 mod Expands
 mod Expansions
 mod Finding

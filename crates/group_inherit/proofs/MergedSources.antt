@@ -7,8 +7,7 @@ use Rattle.token_tree.specs.Shape.{properties_of, put_children, group_of, shape_
 use Rattle.token_tree.specs.Tree.{Properties, Child, Group, Children, no_children, child, Named, children_of, group_with}
 use Rattle.group_inherit.specs.Laws.{SourcesInOrder}
 use Rattle.group_inherit.specs.Merging.{over_properties, named, over, over_members, over_child, empty_group, merged_over, merged}
-use Rattle.group_inherit.proofs.Merges.{over_none}
-use Rattle.group_inherit.proofs.Overs.{named_entries}
+use Rattle.group_inherit.proofs.Merges.{over_members_alone}
 use Rattle.group_inherit.proofs.Puts.{either_none}
 
 last_over : (before : Group) (gs : List Group) (g : Group) → merged_over before (gs ++ g ∷ []) ≡ over g (merged_over before gs)
@@ -18,17 +17,10 @@ last_over before (x ∷ gs) g = last_over (over x before) gs g
 pub sources_in_order : SourcesInOrder
 sources_in_order = (refl, λ sources last. last_over empty_group sources last)
 
--- members over none
-members_alone : (cs : Children) → over_members cs map.empty ≡ named cs
-members_alone no_children = refl
-members_alone (child name c cs) =
-    ap (λ x. map.insert (over_members cs map.empty) name (over_child c x)) (map.get-empty text_cmp name)
-    ∙ (ap (map.insert (over_members cs map.empty) name) (over_none c) ∙ ap (λ m. map.insert m name c) (members_alone cs))
-
 pub one_source : (ps : Properties) (members : Named) → merged (group_with ps members ∷ []) ≡ group_with ps members
 one_source ps members =
     let own : over_properties ps (record { kind = None; deprecated = None; extends = None }) ≡ ps = λ i. record { kind = either_none ps.kind i; deprecated = either_none ps.deprecated i; extends = either_none ps.extends i } in
-    ap₂ group_with own (members_alone (children_of (map.entries members)) ∙ named_entries members)
+    ap₂ group_with own (over_members_alone members map.empty refl)
 
 one_shown : (file text : List ℕ) (v : Tree) → merged (group_of file text v ∷ []) ≡ group_of file text v
 one_shown file text a_null = one_source (properties_of file []) map.empty

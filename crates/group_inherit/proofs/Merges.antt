@@ -11,13 +11,13 @@ use Rattle.tk_io.specs.Order.{text_cmp}
 use Rattle.tk_io.proofs.TextMaps.{text_cmp-IsAntisymmetric}
 use Rattle.token_tree.specs.Shown.{child_view, member_view}
 use Rattle.token_tree.specs.declared.tree.Member.{Member}
-use Rattle.token_tree.specs.Tree.{Child, a_token, a_group, Named, children_of}
+use Rattle.token_tree.specs.Tree.{Child, a_token, a_group, Children, no_children, child, Named, children_of}
 use Rattle.group_inherit.specs.inner.Halves.{Ahead}
-use Rattle.group_inherit.specs.Merging.{over_members, over_child, stands}
+use Rattle.group_inherit.specs.Merging.{named, over_members, over_child, stands}
 use Rattle.group_inherit.specs.Putting.{put_all}
 use Rattle.group_inherit.proofs.Halves.{turned, ahead_none, stops}
 use Rattle.group_inherit.proofs.Naming.{sorted_drop}
-use Rattle.group_inherit.proofs.Overs.{same_name, get_named, get_over}
+use Rattle.group_inherit.proofs.Overs.{same_name, get_named, named_entries, get_over}
 use Rattle.group_inherit.proofs.Turns.{first_left}
 use Rattle.group_inherit.proofs.Puts.{first, none_below, get_put_all, either_none}
 
@@ -125,6 +125,18 @@ over_nothing later earlier e = ap (λ l. over_members (children_of l) earlier) (
     nothing : (es : Entries) → length es ≡ 0 → es ≡ []
     nothing [] h = refl
     nothing (x ∷ es) h = absurd (omega (arith, h))
+
+-- over no members a group keeps its own
+
+members_alone : (cs : Children) → over_members cs map.empty ≡ named cs
+members_alone no_children = refl
+members_alone (child name c cs) =
+    ap (λ x. map.insert (over_members cs map.empty) name (over_child c x)) (map.get-empty text_cmp name)
+    ∙ (ap (map.insert (over_members cs map.empty) name) (over_none c) ∙ ap (λ m. map.insert m name c) (members_alone cs))
+
+pub over_members_alone : (later earlier : Named) → earlier ≡ map.empty → over_members (children_of (map.entries later)) earlier ≡ later
+over_members_alone later earlier e =
+    ap (over_members (children_of (map.entries later))) e ∙ (members_alone (children_of (map.entries later)) ∙ named_entries later)
 
 -- nothing is merged yet
 pub none_merged : (xs ys : Entries) (m : Named) → m ≡ map.empty → (q : List ℕ) → left_or xs ys m q ≡ stands (find text_cmp q xs) (find text_cmp q ys)

@@ -1,16 +1,18 @@
 -- Children by their names.
-use Rattle.std.proofs.Common.{◌≡◌, ℕ, zero, suc, drop, Bool, true, false, cond, List, [], ◌∷◌, Some, None, inl, inr, refl, sym, ap, ◌∙◌, subst, Ordering, Less, Equal, Greater, is_eq, T, ◌&&◌}
-use Rattle.std.proofs.lemmas.Bool.{cases_Bool}
+use Rattle.std.proofs.Common.{◌≡◌, ℕ, zero, suc, drop, Bool, true, false, cond, List, [], ◌∷◌, Some, None, inl, inr, refl, sym, ap, ap₂, ◌∙◌, subst, Ordering, Less, Equal, Greater, is_eq, T, ◌&&◌}
+use Rattle.std.proofs.lemmas.Bool.{cases_Bool, false≢true}
 use Rattle.std.proofs.lemmas.Option.{none-some}
 use Rattle.std.specs.Cmp.{tied_itself}
 use Rattle.std.specs.Cmp.Lexicographic.{nat_list_cmp_total}
 use Rattle.std.specs.FinMap as map_of
 use Rattle.std.specs.FinMap.Entries.{is_sorted, below_all}
 use Rattle.std.specs.Ordering.{eq_by_cmp, is_lt}
+use Rattle.std.specs.Str.{bytes_eq}
 use Rattle.tk_io.specs.Order.{text_cmp}
 use Rattle.tk_io.proofs.TextMaps.{text_cmp-IsAntisymmetric}
-use Rattle.token_tree.specs.Tree.{Child, Children, no_children, child, children_of}
-use Rattle.group_inherit.specs.Merging.{named}
+use Rattle.token_tree.proofs.Names.{same_text, text_same}
+use Rattle.token_tree.specs.Tree.{Child, Group, group, Children, no_children, child, children_of, child_among, child_at as first_child_at}
+use Rattle.group_inherit.specs.Merging.{named, child_at}
 use Rattle.group_inherit.specs.inner.Numbering.{LacksName}
 
 tied : (r : Ordering) → is_eq r ≡ true → r ≡ Equal
@@ -35,6 +37,25 @@ get_there name c cs q e = get_child name c cs q ∙ ap (λ b. cond b (Some c) (m
 
 pub get_none : (q : List ℕ) → map_of.get (named no_children) q ≡ None
 get_none q = map_of.get-empty text_cmp q
+
+-- the first child of a name stands there
+
+same_name_test : (q k : List ℕ) → eq_by_cmp text_cmp q k ≡ bytes_eq k q
+same_name_test q k = elim (cases_Bool (bytes_eq k q)) [
+  | inl t ↦ ap (eq_by_cmp text_cmp q) (same_text k q t) ∙ (name_itself q ∙ sym t)
+  | inr f ↦ elim (cases_Bool (eq_by_cmp text_cmp q k)) [
+    | inl t ↦ absurd (false≢true (sym f ∙ text_same k q (sym (same_name q k t))))
+    | inr g ↦ g ∙ sym f
+  ]
+]
+
+first_among : (name : List ℕ) (cs : Children) → map_of.get (named cs) name ≡ child_among name cs
+first_among name no_children = get_none name
+first_among name (child k c cs) =
+    get_child k c cs name ∙ ap₂ (λ b o. cond b (Some c) o) (same_name_test name k) (first_among name cs)
+
+pub first_of_name : (name : List ℕ) (g : Group) → child_at name g ≡ first_child_at name g
+first_of_name name (group ps cs) = first_among name cs
 
 -- a name that is not there
 pub lacked : (name : List ℕ) (cs : Children) → LacksName name cs → map_of.get (named cs) name ≡ None

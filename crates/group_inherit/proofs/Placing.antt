@@ -23,10 +23,10 @@ tied Less e = cc
 tied Equal e = refl
 tied Greater e = cc
 
-same_path_at : (p q : GroupPath) → is_at (names_cmp p) q ≡ true → p ≡ q
+pub same_path_at : (p q : GroupPath) → is_at (names_cmp p) q ≡ true → p ≡ q
 same_path_at p q e = slice_cmp-IsAntisymmetric (slice_cmp-IsAntisymmetric nat_cmp-IsAntisymmetric) p q (tied (names_cmp p q) e)
 
-path_itself : (p : GroupPath) → is_at (names_cmp p) p ≡ true
+pub path_itself : (p : GroupPath) → is_at (names_cmp p) p ≡ true
 path_itself p = ap is_eq (tied_itself (lists_total nat_list_cmp_total) p)
 
 pub no_places : (nodes : List GroupAt) (m : Places) → m ≡ map_of.empty → ArePlaces nodes 0 m

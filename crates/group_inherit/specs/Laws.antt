@@ -1,12 +1,12 @@
 -- Laws of what trees come to.
-use Rattle.std.specs.Prelude.{◌≡◌, ◌≢◌, ℕ, List, [], ◌∷◌, ◌++◌, Option, None, Some, map as map_list, All, T}
+use Rattle.std.specs.Prelude.{◌≡◌, ◌≢◌, ◌⊎◌, ℕ, List, [], ◌∷◌, ◌++◌, Option, None, Some, map as map_list, All, T}
 use Rattle.std.specs.FinMap as map
 use Rattle.std.specs.FinMap.{is_sorted}
 use Rattle.ring.specs.Routes.{In}
 use Rattle.tk_io.specs.Order.{names_cmp}
 use Rattle.json_span.specs.Tree.{Placed}
 use Rattle.token_tree.specs.Shape.{shape_of}
-use Rattle.token_tree.specs.Tree.{Properties, Child, a_token, a_group, Group, Named, group_with}
+use Rattle.token_tree.specs.Tree.{Properties, Child, a_token, a_group, Group, Named, group_with, child_at as first_child_at}
 use Rattle.group_inherit.specs.declared.fault.TreeFault.{TreeFault}
 use Rattle.group_inherit.specs.declared.fault.TreeFault.TheVariants.{NoMemory}
 use Rattle.group_inherit.specs.Answer.{IsTreeBreak, IsSound, IsFlat}
@@ -21,6 +21,10 @@ use Rattle.group_inherit.specs.Ordered.{IsOrdered}
 -- in one group over another stands, at each name, what the two groups have there
 abbrev pub IsOverByName : Type 0
 IsOverByName = (later earlier : Group) (name : List ℕ) → child_at name (over later earlier) ≡ stands (child_at name later) (child_at name earlier)
+
+-- at a name stands the first member of the name, in the order of the members
+abbrev pub IsFirstOfName : Type 0
+IsFirstOfName = (name : List ℕ) (g : Group) → child_at name g ≡ first_child_at name g
 
 -- no source is the empty group, and one source more stands over what those before it come to
 abbrev pub SourcesInOrder : Type 0
@@ -110,3 +114,15 @@ OneBreak = (tree : Group) (a b : TreeFault) → a ≢ NoMemory → b ≢ NoMemor
 -- a tree that is sound breaks no rule
 abbrev pub SoundIsUnbroken : Type 0
 SoundIsUnbroken = (tree : Group) (a : TreeFault) → IsSound tree → a ≢ NoMemory → IsTreeBreak tree a → ⊥
+
+-- a tree breaks a rule
+abbrev pub HasBreak : Group → Type 0
+HasBreak tree = (broken : TreeFault) × (broken ≢ NoMemory) × IsTreeBreak tree broken
+
+-- a tree is sound, and has a flat tree
+abbrev pub HasFlat : Group → Type 0
+HasFlat tree = (flat : map.FinMap names_cmp Flattened) × IsSound tree × IsFlat tree flat
+
+-- each tree in which the members of each group ascend has the one or the other
+abbrev pub EachTreeAnswers : Type 0
+EachTreeAnswers = (tree : Group) → IsOrdered tree → HasBreak tree ⊎ HasFlat tree

@@ -10,6 +10,7 @@ use crate::copying::copy_mark;
 use crate::merging::over;
 use crate::numbered::Node;
 use std::alloc::Global;
+use std::rc::Rc;
 use tk_io::NoMemory;
 use token_tree::{Child, Group, Members};
 
@@ -105,7 +106,7 @@ fn expand_members<'s>(
     let mut expanded = Members::new(alloc);
     let mut next = 0;
     for member in members.as_slice() {
-        let (child, behind) = expand_child(&member.child, table, row, next)?;
+        let (child, behind) = expand_child(alloc, &member.child, table, row, next)?;
         expanded.put(&member.name, child)?;
         next = behind;
     }
@@ -114,6 +115,7 @@ fn expand_members<'s>(
 
 // A token, or the expansion of the next child group, and the place behind it in the row.
 fn expand_child<'s>(
+    alloc: Global,
     child: &Child<'s>,
     table: &[Group<'s>],
     row: &[usize],
@@ -130,7 +132,8 @@ fn expand_child<'s>(
         Child::Group(_) => {
             if next < row.len() {
                 let expanded = table[row[next]].copy()?;
-                return Ok((Child::Group(expanded), next + 1));
+                let shared = Rc::new(alloc, expanded)?;
+                return Ok((Child::Group(shared), next + 1));
             }
             Ok((child.copy()?, next))
         }

@@ -158,7 +158,7 @@ impl<'s> Flat<'s> {
 
     /// Adds the token under the path, or replaces the token of the path. Where memory runs out both are dropped and the
     /// tree stays.
-    pub fn insert(&mut self, path: Path<'s>, entry: Entry<'s>) -> Result<(), NoMemory>
+    pub(crate) fn insert(&mut self, path: Path<'s>, entry: Entry<'s>) -> Result<(), NoMemory>
         ensures ok { OnOk result (self.new ≡ map.insert self.old path.entry entry.entry) }
         ensures err { OnErr result (self.new ≡ self.old) }
     {

@@ -1,13 +1,16 @@
 //! Laws over the definitions alone, for the layers above.
 
-ghost use Rattle.group_inherit.specs.Laws.{ExpandedAreOrdered, ExpandedByName, FlatAsList, FlatByPath, IsOverByName};
+ghost use Rattle.group_inherit.specs.Laws.{EachTreeAnswers, ExpandedAreOrdered, ExpandedByName, FlatAsList, FlatByPath};
+ghost use Rattle.group_inherit.specs.Laws.{IsFirstOfName, IsOverByName};
 ghost use Rattle.group_inherit.specs.Laws.{LostAreAll, LostAscend, MergedAreOrdered, OneBreak, OneExpansion, OneFileIsItsShape};
 ghost use Rattle.group_inherit.specs.Laws.{OneFlat, OneSourceIsItself, ShapesAreOrdered, SoundIsUnbroken, SourcesInOrder};
 
 /// In one group over another stands, at each name, what the two groups have there: two groups of the name are merged,
-/// else the later member stands whole, and the earlier one only where there is no later one.
+/// else the later member stands whole, and the earlier one only where there is no later one. Of the members of a group the
+/// first of a name stands there.
 pub fn over_by_name()
-    ensures { IsOverByName }
+    ensures over { IsOverByName }
+    ensures first { IsFirstOfName }
 {}
 
 /// Sources are merged in their order, each over what those before it come to. One source alone comes to itself, and so
@@ -49,4 +52,9 @@ pub fn one_answer()
     ensures flat { OneFlat }
     ensures broken { OneBreak }
     ensures sound { SoundIsUnbroken }
+{}
+
+/// Each tree whose members ascend has an answer: it breaks a rule of extension, or it breaks none and has a flat tree.
+pub fn each_tree_answers()
+    ensures { EachTreeAnswers }
 {}

@@ -25,7 +25,7 @@ pub use fault::{FileSpan, TreeFault};
 pub use flat_tree::Flat;
 pub use flattening::flatten;
 pub use laws::{
-    expanded_by_name, flat_by_path, lost_in_order, merged_in_order, one_answer, ordered_trees,
-    over_by_name,
+    each_tree_answers, expanded_by_name, flat_by_path, lost_in_order, merged_in_order, one_answer,
+    ordered_trees, over_by_name,
 };
 pub use merging::over;

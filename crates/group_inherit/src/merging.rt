@@ -7,6 +7,7 @@ ghost use Rattle.group_inherit.specs.inner.Outcomes.{AreAdded, AreOver, IsAdded,
 use crate::copying::{copy_mark, copy_target};
 use std::alloc::Global;
 use std::cmp::Ordering;
+use std::rc::Rc;
 use tk_io::NoMemory;
 use token_tree::{Child, Group, Member, Members};
 
@@ -43,6 +44,9 @@ fn over_members<'s>(
 {
     if later.is_empty() {
         return earlier.copy();
+    }
+    if earlier.is_empty() {
+        return later.copy();
     }
     merged(alloc, later, earlier)
 }
@@ -120,5 +124,7 @@ fn over_child<'s>(
     let Child::Group(lower) = earlier else {
         return later.copy();
     };
-    Ok(Child::Group(over(alloc, upper, lower)?))
+    let group = over(alloc, upper, lower)?;
+    let shared = Rc::new(alloc, group)?;
+    Ok(Child::Group(shared))
 }

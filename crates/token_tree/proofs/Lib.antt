@@ -13,6 +13,5 @@ pub mod Places
 pub mod Children
 pub mod Keeps
 pub mod Groups
-pub mod Views
 pub mod OneAnswer
 pub mod Order

@@ -52,6 +52,13 @@ behind_last list name last s some e l =
 pub put_there : (list : List Member) (m : Member) (i : ℕ) → T (is_sorted text_cmp (entries_of list)) → IsPlaceOf list m.name i → entries_of (set list i m) ≡ put text_cmp m.name (child_view m.child) (entries_of list)
 put_there list m i s p = sym (sorted.put_here nat_list_cmp_total member_view list i m m s p.0 (p.1 m))
 
+-- another child under the name that is there
+pub put_named : (list new : List Member) (name : List ℕ) (m : Member) (i : ℕ) → T (is_sorted text_cmp (entries_of list)) → IsPlaceOf list name i → m.name ≡ name → new ≡ set list i m
+    → entries_of new ≡ put text_cmp name (child_view m.child) (entries_of list)
+put_named list new name m i s p n e =
+    ap entries_of e
+    ∙ (put_there list m i s (subst (λ x. IsPlaceOf list x i) (sym n) p) ∙ ap (λ x. put text_cmp x (child_view m.child) (entries_of list)) n)
+
 pub put_between : (list new : List Member) (m : Member) (i : ℕ) → IsGapFor list m.name i → new ≡ insert list i m → entries_of new ≡ put text_cmp m.name (child_view m.child) (entries_of list)
 put_between list new m i g e =
     ap entries_of e

@@ -25,7 +25,7 @@ group_view g = group_with (properties_view g) (members_view g.members)
 -- a token or a group
 abbrev pub child_view : Child → ChildData
 child_view (Token def) = a_token def.value
-child_view (Inner g) = a_group (group_view g)
+child_view (Inner g) = a_group (group_view g.value)
 
 -- a member with its name
 abbrev pub member_view : Member → List ℕ × ChildData

@@ -6,7 +6,7 @@ ghost use Rattle.tk_io.specs.Order.{text_cmp};
 ghost use Rattle.token_tree.specs.Listed.{entries_of, IsPlaceOf, IsGapFor, NamesApart};
 ghost use Rattle.token_tree.specs.inner.Outcomes.{AreOneMap, IsPushed, IsPut};
 
-use crate::tree::Member;
+use crate::tree::{Child, Member};
 use std::alloc::Global;
 use std::cmp::Ordering;
 use tk_io::{NoMemory, Text};
@@ -44,15 +44,23 @@ fn place_from_end<'s>(list: &[Member<'s>], name: &Text<'s>) -> Result<usize, usi
     place(list, name)
 }
 
-/// Puts the member in its place, or replaces the one of its name. Where memory runs out the list stays.
-pub(crate) fn put_member<'s>(list: &mut Vec<Member<'s>>, member: Member<'s>) -> Result<(), NoMemory>
+/// Puts the child under a copy of the name in its place, or replaces the child of the name. Where memory runs out the list
+/// stays.
+pub(crate) fn put_child<'s>(
+    list: &mut Vec<Member<'s>>,
+    name: &Text<'s>,
+    child: Child<'s>,
+) -> Result<(), NoMemory>
     requires { T (is_sorted text_cmp (entries_of list.old.items)) }
-    ensures ok { OnOk result (IsPut member.entry list.old.items list.new.items) }
+    ensures ok { OnOk result (IsPut name.now child.entry list.old.items list.new.items) }
     ensures err { OnErr result (list.new.items ≡ list.old.items) }
 {
-    match place_from_end(list.as_slice(), &member.name) {
-        Ok(i) => list[i] = member,
-        Err(i) => list.insert(i, member)?,
+    match place_from_end(list.as_slice(), name) {
+        Ok(i) => list[i].child = child,
+        Err(i) => {
+            let name = name.copy()?;
+            list.insert(i, Member { name, child })?;
+        }
     }
     Ok(())
 }

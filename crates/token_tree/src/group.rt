@@ -15,6 +15,7 @@ use crate::token::{deprecated_of, kind_of, read_token};
 use crate::tree::{Child, Extends, Group, Member, Members};
 use json_span::{Field, Fields, NodeRef};
 use std::alloc::Global;
+use std::rc::Rc;
 use tk_io::NoMemory;
 
 fn extends_of<'s>(
@@ -181,5 +182,6 @@ fn read_child<'s>(
         return Ok(Child::Token(def));
     }
     let group = read_group(alloc, file, text, &fields)?;
-    Ok(Child::Group(group))
+    let shared = Rc::new(alloc, group)?;
+    Ok(Child::Group(shared))
 }

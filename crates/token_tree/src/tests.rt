@@ -7,10 +7,11 @@ use json_span::{Node, read};
 use name_path::Kind;
 use std::alloc::Global;
 use std::marker::Brand;
+use std::rc::Rc;
 use std::str;
 use std::sync::ledger::{Blank, Ledger};
 use std::test::Fail;
-use tk_io::{Steps, Text};
+use tk_io::{NoMemory, Steps, Text};
 
 /// Files, and the first rule that each breaks with its span.
 static FILES: [(&str, Option<(Rule, usize, usize)>); 60] = [
@@ -208,13 +209,14 @@ fn tokens(rt: HostRuntime) -> Result<(), Fail> {
     Ok(())
 }
 
-fn typed<'s>(alloc: Global, kind: Kind) -> Child<'s> {
-    Child::Group(Group {
+fn typed<'s>(alloc: Global, kind: Kind) -> Result<Child<'s>, NoMemory> {
+    let group = Group {
         kind: Some(kind),
         deprecated: None,
         extends: None,
         members: Members::new(alloc),
-    })
+    };
+    Ok(Child::Group(Rc::new(alloc, group)?))
 }
 
 fn kind_under(members: &Members<'_>, name: &'static str) -> Option<Kind> {
@@ -234,10 +236,10 @@ static PUT: [(&str, Kind); 5] = [
 fn members(rt: HostRuntime) -> Result<(), Fail> {
     let mut members = Members::new(rt.alloc());
     for (name, kind) in &PUT {
-        members.put(&Text::of(name), typed(rt.alloc(), *kind))?;
+        members.put(&Text::of(name), typed(rt.alloc(), *kind)?)?;
     }
     let kept = members.copy()?;
-    members.put(&Text::of("c"), typed(rt.alloc(), Kind::Gradient))?;
+    members.put(&Text::of("c"), typed(rt.alloc(), Kind::Gradient)?)?;
     assert_eq!(rt; (kept.len(), members.len()), (4, 5));
     assert_eq!(rt; kind_under(&members, "c"), Some(Kind::Gradient));
     assert_eq!(rt; kind_under(&kept, "c"), None);

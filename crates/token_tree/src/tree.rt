@@ -10,7 +10,7 @@ ghost use Rattle.token_tree.specs.Naming.{StandsAt, entry_view};
 ghost use Rattle.token_tree.specs.Shown.{extends_view, child_view, member_view, group_view};
 
 use crate::definition::TokenDef;
-use crate::entries::{copy_list, place, put_member, sort_members};
+use crate::entries::{copy_list, place, put_child, sort_members};
 use crate::mark::Mark;
 use name_path::{Kind, Path};
 use std::alloc::Global;
@@ -61,12 +61,12 @@ pub struct Member<'s> {
     pub child: Child<'s>,
 }
 
-/// A token or a group. Trees share their tokens, and the members of their groups.
+/// A token or a group. Trees share both.
 #[derive(Drop)]
 #[cycle(group)]
 pub enum Child<'s> {
     Token(Rc<TokenDef<'s>>),
-    Group(Group<'s>),
+    Group(Rc<Group<'s>>),
 }
 
 impl<'s> Model for Members<'s> {
@@ -192,21 +192,18 @@ impl<'s> Members<'s> {
         ensures at { OnOk result (StandsAt self.old self.new name.now (child_view child.entry)) }
         ensures err { OnErr result (self.new ≡ self.old) }
     {
-        let member = Member {
-            name: name.copy()?,
-            child,
-        };
         let Some(shared) = &mut self.entries else {
             let mut list = Vec::new(self.alloc);
-            list.push(member)?;
+            let name = name.copy()?;
+            list.push(Member { name, child })?;
             self.entries = Some(Rc::new(self.alloc, list)?);
             return Ok(());
         };
         if let Some(list) = Rc::get_mut(shared) {
-            return put_member(list, member);
+            return put_child(list, name, child);
         }
         let mut list = copy_list(self.alloc, shared.as_slice())?;
-        put_member(&mut list, member)?;
+        put_child(&mut list, name, child)?;
         *shared = Rc::new(self.alloc, list)?;
         Ok(())
     }
@@ -251,13 +248,13 @@ impl<'s> Group<'s> {
 }
 
 impl<'s> Child<'s> {
-    /// The same token or group, which shares its definition or its members.
+    /// The same token or group, which both share.
     pub fn copy(&self) -> Result<Child<'s>, NoMemory>
         ensures { IfOk result (λ c. child_view c ≡ child_view self.now) }
     {
         match self {
             Child::Token(def) => Ok(Child::Token(def.clone()?)),
-            Child::Group(group) => Ok(Child::Group(group.copy()?)),
+            Child::Group(group) => Ok(Child::Group(group.clone()?)),
         }
     }
 }

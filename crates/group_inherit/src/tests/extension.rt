@@ -4,6 +4,7 @@ use super::{append_fault, outcome};
 use crate::checked::checked;
 use name_path::Path;
 use std::alloc::{AllocError, Global};
+use std::rc::Rc;
 use std::test::Fail;
 use tk_io::{Bytes, NoMemory, Text};
 use token_tree::{Child, Extends, Group, Members};
@@ -132,7 +133,7 @@ fn chain(alloc: Global, many: usize) -> Result<Group<'static>, NoMemory> {
             extends: if i + 1 < many { Some(extends) } else { None },
             members: Members::new(alloc),
         };
-        members.put(&name_of(alloc, i)?, Child::Group(group))?;
+        members.put(&name_of(alloc, i)?, Child::Group(Rc::new(alloc, group)?))?;
     }
     Ok(Group {
         kind: None,

@@ -12,13 +12,14 @@ use Rattle.token_tree.specs.Shape.{Break, child_breaks, group_member_breaks, ext
 use Rattle.token_tree.specs.Shown.{extends_view, child_view, member_view}
 use Rattle.token_tree.specs.Listed.{entries_of, child_in, with_front}
 use Rattle.token_tree.specs.Promise.{StandsIn}
+use Rattle.token_tree.specs.declared.tree.Child.{Child}
 use Rattle.token_tree.specs.declared.tree.Extends.{Extends}
 use Rattle.token_tree.specs.declared.tree.Member.{Member}
 
 -- Lists of members.
 
-abbrev pub IsPut : Member → List Member → List Member → Type 0
-IsPut m old new = entries_of new ≡ put text_cmp m.name (child_view m.child) (entries_of old)
+abbrev pub IsPut : List ℕ → Child → List Member → List Member → Type 0
+IsPut name c old new = entries_of new ≡ put text_cmp name (child_view c) (entries_of old)
 
 -- two lists are one map, the first of them in the order of names
 abbrev pub AreOneMap : List Member → List Member → Type 0

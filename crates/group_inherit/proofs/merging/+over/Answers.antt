@@ -11,7 +11,7 @@ use Rattle.token_tree.specs.declared.tree.Member.{Member}
 use Rattle.group_inherit.specs.Merging.{over_properties, over_members}
 use Rattle.group_inherit.proofs.Options.{copied_or, map_or}
 use Rattle.group_inherit.proofs.Overs.{named_entries}
-use Rattle.group_inherit.proofs.Merges.{Entries, none_merged, later_turn, earlier_turn, both_turn, all_merged, over_of, over_nothing}
+use Rattle.group_inherit.proofs.Merges.{Entries, none_merged, later_turn, earlier_turn, both_turn, all_merged, over_of, over_nothing, over_members_alone}
 use Rattle.group_inherit.proofs.Turns.{none_left, entry_lighter}
 use Rattle.group_inherit.proofs.merging.+over.Goals.{merged-then-loop-i-test+else-j-lower, merged-else-loop-i-test}
 use Rattle.group_inherit.proofs.merging.+over.Goals as goal
@@ -35,6 +35,13 @@ pub over_members-returns-then-is_empty : goal.over_members-returns-then-is_empty
 over_members-returns-then-is_empty t c =
     let none : map.len c.args.later.now ≡ 0 = empty_of (map.len c.args.later.now) (sym c.is_empty.ensures ∙ c.if-is_empty.true) in
     IfOk-weaker c.copy.result _ (λ ms. ms ≡ over_members (children_of (map.entries c.args.later.now)) c.args.earlier.now) (λ ms is. is ∙ sym (over_nothing c.args.later.now c.args.earlier.now none)) c.copy.ensures
+
+pub over_members-returns-then-is_empty-2 : goal.over_members-returns-then-is_empty-2
+over_members-returns-then-is_empty-2 t c =
+    let none : map.len c.args.earlier.now ≡ 0 = empty_of (map.len c.args.earlier.now) (sym c.is_empty-2.ensures ∙ c.if-is_empty-2.true) in
+    let e = map.empty_of_len c.args.earlier.now none in
+    IfOk-weaker c.copy-then-is_empty-2.result _ (λ ms. ms ≡ over_members (children_of (map.entries c.args.later.now)) c.args.earlier.now)
+    (λ ms is. is ∙ sym (over_members_alone c.args.later.now c.args.earlier.now e)) c.copy-then-is_empty-2.ensures
 
 pub merged-over_child-requires : goal.merged-over_child-requires
 merged-over_child-requires t c =

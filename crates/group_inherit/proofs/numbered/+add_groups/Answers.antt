@@ -9,6 +9,7 @@ use Rattle.group_inherit.specs.Extension.{groups_from, groups_among}
 use Rattle.group_inherit.specs.inner.Numbering.{GroupAt}
 use Rattle.group_inherit.specs.inner.View.{node_view, nodes_view}
 use Rattle.group_inherit.specs.declared.numbered.Node.{Node}
+use Rattle.token_tree.specs.declared.tree.Group.{Group as GroupValue}
 use Rattle.group_inherit.proofs.Naming.{sorted_drop, sorted_lacks}
 use Rattle.group_inherit.proofs.Numbers.{Entries, Progress, past_token, past_group, size_in, size_at}
 use Rattle.group_inherit.proofs.Turns.{first_left, none_left}
@@ -22,7 +23,7 @@ add_groups-requires t c =
     let x = c.member-item.result in
     let same : map member_view items ≡ es = c.as_slice-member-items.ensures in
     let first : drop i es ≡ member_view x ∷ drop (i + 1) es = subst (λ (l : Entries). drop i l ≡ member_view x ∷ drop (i + 1) l) same (first_left member_view items i x c.loop-member-test.true c.member-item.is) in
-    let is : child_view x.child ≡ a_group (group_view c.in-Group.inner) = ap child_view c.in-Group.is in
+    let is : child_view x.child ≡ a_group (group_view c.deref.result.now) = ap child_view c.in-Group.is ∙ ap (λ (g : GroupValue). a_group (group_view g)) (sym c.deref.ensures) in
     (omega (arith, size_at es i (member_view x) (drop (i + 1) es) first, ap size_in is, c.decreases), tt)
 
 pub loop-member-preserved : goal.loop-member-preserved
@@ -34,15 +35,15 @@ loop-member-preserved t c =
     let same : map member_view items ≡ es = c.as_slice-member-items.ensures in
     let left = drop (i + 1) es in
     let first : drop i es ≡ member_view x ∷ left = subst (λ (l : Entries). drop i l ≡ member_view x ∷ drop (i + 1) l) same (first_left member_view items i x c.loop-member-test.true c.member-item.is) in
-    let is : child_view x.child ≡ a_group (group_view c.in-Group.inner) = ap child_view c.in-Group.is in
+    let is : child_view x.child ≡ a_group (group_view c.deref.result.now) = ap child_view c.in-Group.is ∙ ap (λ (g : GroupValue). a_group (group_view g)) (sym c.deref.ensures) in
     let all = nodes_view c.push.new.self.items ++ groups_among c.args.path.now (children_of es) in
     let nodes = nodes_view c.loop-member.nodes.items in
     let p : Progress c.args.path.now all es nodes (member_view x ∷ left) = subst (Progress c.args.path.now all es nodes) first c.loop-member.invariant in
     let below : c.push-in-loop-member.new.self ≡ c.args.path.now ++ x.name ∷ [] =
     c.in_ok-push-2.ensures.ok ∙ (ap (λ (q : List (List ℕ)). q ++ c.in_ok-copy.field-0 ∷ []) c.in_ok-below.ensures ∙ ap (λ (n : List ℕ). c.args.path.now ++ n ∷ []) c.in_ok-copy.ensures) in
-    let added : nodes_view c.add_groups.new.nodes.items ≡ nodes ++ groups_from (c.args.path.now ++ x.name ∷ []) (group_view c.in-Group.inner) =
-    c.in_ok-add_groups.ensures.all ∙ ap (λ (q : List (List ℕ)). nodes ++ groups_from q (group_view c.in-Group.inner)) below in
-    past_group c.args.path.now all es nodes (nodes_view c.add_groups.new.nodes.items) x.name (child_view x.child) left (group_view c.in-Group.inner) is
+    let added : nodes_view c.add_groups.new.nodes.items ≡ nodes ++ groups_from (c.args.path.now ++ x.name ∷ []) (group_view c.deref.result.now) =
+    c.in_ok-add_groups.ensures.all ∙ ap (λ (q : List (List ℕ)). nodes ++ groups_from q (group_view c.deref.result.now)) below in
+    past_group c.args.path.now all es nodes (nodes_view c.add_groups.new.nodes.items) x.name (child_view x.child) left (group_view c.deref.result.now) is
     (sorted_lacks (member_view x) left (subst (λ (l : Entries). T (is_sorted text_cmp l)) first (sorted_drop i es (map_of.entries_sorted (members_view c.args.group.now.members))))) added c.in_ok-add_groups.ensures.named p
 
 pub loop-member-preserved-in_default : goal.loop-member-preserved-in_default

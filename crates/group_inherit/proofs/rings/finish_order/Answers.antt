@@ -19,7 +19,7 @@ ring_fault-requires-clause-some c =
     let long : length c.args.rows.now ≡ length nodes = c.requires.long ∙ sym (length-map c.args.nodes.now node_view) in
     let r : IsRing needs 0 ring = subst (λ f. IfRing f (λ xs. IsRing needs 0 xs)) c.in-Ring.is c.in_ok-order.ensures.ring in
     let all : All (λ v. v < length c.args.rows.now) ring = subst (λ f. IfRing f (λ xs. All (λ v. v < length c.args.rows.now) xs)) c.in-Ring.is c.in_ok-order.ensures.ring_within in
-    let e = extension_of_ring nodes c.args.rows.now long c.requires.rows ring (subst (λ (n : ℕ). All (λ v. v < n) ring) long all) r in
+    let e = extension_of_ring nodes c.args.rows.now c.requires.rows ring (subst (λ (n : ℕ). All (λ v. v < n) ring) long all) r in
     subst (λ (xs : List ℕ). (x : Extension) × (extension_in nodes xs ≡ Some x)) (sym c.as_slice.ensures.value) e
 
 pub returns-in_ok-ring_fault-in-Ring-clause-ring : goal.returns-in_ok-ring_fault-in-Ring-clause-ring

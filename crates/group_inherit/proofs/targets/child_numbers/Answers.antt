@@ -38,7 +38,7 @@ child_number-requires c =
     let all = map (λ (n : List ℕ). map_of.get places (path ++ n ∷ [])) (names_of_groups (children_of es)) in
     let row = c.loop-member.row.items in
     let k : Kids places path all row (member_view x ∷ left) = subst (Kids places path all row) first c.loop-member.invariant in
-    kid_known places path all row x.name (child_view x.child) left (group_view c.in-Group.field-0) (ap child_view c.in-Group.is) k
+    kid_known places path all row x.name (child_view x.child) left (group_view c.in-Group.field-0.value) (ap child_view c.in-Group.is) k
 
 pub loop-member-preserved : goal.loop-member-preserved
 loop-member-preserved c =
@@ -54,7 +54,7 @@ loop-member-preserved c =
     let all = map (λ (n : List ℕ). map_of.get places (path ++ n ∷ [])) (names_of_groups (children_of es)) in
     let row = c.loop-member.row.items in
     let k : Kids places path all row (member_view x ∷ left) = subst (Kids places path all row) first c.loop-member.invariant in
-    kid_group places path all row c.push.new.self.items x.name (child_view x.child) left (group_view c.in-Group.field-0) c.in_ok-child_number.field-0 (ap child_view c.in-Group.is)
+    kid_group places path all row c.push.new.self.items x.name (child_view x.child) left (group_view c.in-Group.field-0.value) c.in_ok-child_number.field-0 (ap child_view c.in-Group.is)
     c.in_ok-child_number.ensures c.in_ok-push.ensures.items k
 
 pub returns : goal.returns

@@ -10,14 +10,13 @@ use Rattle.json_span.proofs.Views.{entries_in-of}
 use Rattle.token_tree.specs.Answer.{NamesDiffer}
 use Rattle.token_tree.specs.Tree.{Properties, a_token, a_group, group_with}
 use Rattle.token_tree.specs.Shape.{are_token, group_breaks, group_member_breaks, child_breaks, properties_of}
-use Rattle.token_tree.specs.Shown.{extends_view}
+use Rattle.token_tree.specs.Shown.{extends_view, group_view}
 use Rattle.token_tree.specs.Listed.{AreApart, entries_of}
 use Rattle.token_tree.specs.declared.tree.Member.{Member}
 use Rattle.token_tree.proofs.Children.{children_in, children_apart, one_read, put_all}
 use Rattle.token_tree.proofs.Groups.{object_is, group_child_breaks, group_child, token_child}
 use Rattle.token_tree.proofs.Places.{members_stand, names_differ}
 use Rattle.token_tree.proofs.Sound.{first_stays, first_of}
-use Rattle.token_tree.proofs.Views.{child_group}
 use Rattle.token_tree.proofs.Weights.{tree_weight, members_weight, weight_of}
 use Rattle.token_tree.proofs.group.+group.Goals as goal
 
@@ -60,7 +59,7 @@ read_child-returns-clause-ok t c =
     let es = fields_view c.in-Some.fields in
     let are = object_is (json_view c.args.node) es (sym c.in-Some.ensures) in
     let none : are_token es ≡ false = sym c.are_token.ensures ∙ c.if-are_token.false in
-    child_group c.in_ok-group.group
+    ap (λ g. a_group (group_view g)) c.in_ok-shared.ensures.ok
     ∙ (ap a_group c.in_ok-group.ensures.ok
     ∙ sym (group_child c.args.file.now c.args.text.now n es are none))
 

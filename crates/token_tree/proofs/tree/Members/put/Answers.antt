@@ -22,34 +22,34 @@ returns-in_default-clause-at c q = ap (λ m. map.get m q) (returns-in_default-cl
 pub invariant_of-self-in-Some-get_mut : goal.invariant_of-self-in-Some-get_mut
 invariant_of-self-in-Some-get_mut c =
     let old : c.in-Some-get_mut.list.now.items ≡ members_in c.self.inside = search rules in
-    either_sorted c.put_member.result c.in_ok-copy.field-0 (child_view c.args.child) c.in-Some-get_mut.list.now.items c.put_member.new.list.items
-    (subst (λ l. T (map.is_sorted text_cmp (entries_of l))) (sym old) c.self.invariant) c.put_member.ensures.ok c.put_member.ensures.err
+    either_sorted c.put_child.result c.args.name.now (child_view c.args.child) c.in-Some-get_mut.list.now.items c.put_child.new.list.items
+    (subst (λ l. T (map.is_sorted text_cmp (entries_of l))) (sym old) c.self.invariant) c.put_child.ensures.ok c.put_child.ensures.err
 
 pub returns-in-Some-get_mut-clause-ok : goal.returns-in-Some-get_mut-clause-ok
 returns-in-Some-get_mut-clause-ok c =
     let old : c.in-Some-get_mut.list.now.items ≡ members_in c.self.inside = search rules in
-    where_ok c.put_member.result
-    (λ e. put_listed c.self.inside c.args.self.now c.put_member.new.list.items c.args.name.now (child_view c.args.child) c.self.invariant c.self.view_is
-    (e ∙ (λ i. put text_cmp (c.in_ok-copy.ensures i) (child_view c.args.child) (entries_of (old i)))))
-    c.put_member.ensures.ok
+    where_ok c.put_child.result
+    (λ e. put_listed c.self.inside c.args.self.now c.put_child.new.list.items c.args.name.now (child_view c.args.child) c.self.invariant c.self.view_is
+    (e ∙ ap (λ l. put text_cmp c.args.name.now (child_view c.args.child) (entries_of l)) old))
+    c.put_child.ensures.ok
 
 pub returns-in-Some-get_mut-clause-at : goal.returns-in-Some-get_mut-clause-at
 returns-in-Some-get_mut-clause-at c =
-    where_ok c.put_member.result (λ e q. ap (λ m. map.get m q) e ∙ at_insert nat_list_cmp_total c.args.self.now c.args.name.now (child_view c.args.child) q) (returns-in-Some-get_mut-clause-ok c)
+    where_ok c.put_child.result (λ e q. ap (λ m. map.get m q) e ∙ at_insert nat_list_cmp_total c.args.self.now c.args.name.now (child_view c.args.child) q) (returns-in-Some-get_mut-clause-ok c)
 
 pub invariant_of-self-2 : goal.invariant_of-self-2
 invariant_of-self-2 c =
-    let new : c.in_ok-shared.field-0.value.items ≡ c.put_member-2.new.list.items = search rules in
+    let new : c.in_ok-shared.field-0.value.items ≡ c.put_child-2.new.list.items = search rules in
     let old : entries_of c.in_ok-list.list.items ≡ entries_in c.self.inside = search rules in
-    subst (λ l. T (map.is_sorted text_cmp (entries_of l))) (sym new) (still_sorted c.in_ok-copy.field-0 (child_view c.args.child) (entries_in c.self.inside) (entries_of c.put_member-2.new.list.items) c.self.invariant
-    (c.in_ok-put_member.ensures.ok ∙ ap (put text_cmp c.in_ok-copy.field-0 (child_view c.args.child)) old))
+    subst (λ l. T (map.is_sorted text_cmp (entries_of l))) (sym new) (still_sorted c.args.name.now (child_view c.args.child) (entries_in c.self.inside) (entries_of c.put_child-2.new.list.items) c.self.invariant
+    (c.in_ok-put_child.ensures.ok ∙ ap (put text_cmp c.args.name.now (child_view c.args.child)) old))
 
 pub returns-clause-ok : goal.returns-clause-ok
 returns-clause-ok c =
-    let new : c.in_ok-shared.field-0.value.items ≡ c.put_member-2.new.list.items = search rules in
+    let new : c.in_ok-shared.field-0.value.items ≡ c.put_child-2.new.list.items = search rules in
     let old : entries_of c.in_ok-list.list.items ≡ entries_in c.self.inside = search rules in
     put_listed c.self.inside c.args.self.now c.in_ok-shared.field-0.value.items c.args.name.now (child_view c.args.child) c.self.invariant c.self.view_is
-    (ap entries_of new ∙ (c.in_ok-put_member.ensures.ok ∙ (λ i. put text_cmp (c.in_ok-copy.ensures i) (child_view c.args.child) (old i))))
+    (ap entries_of new ∙ (c.in_ok-put_child.ensures.ok ∙ ap (put text_cmp c.args.name.now (child_view c.args.child)) old))
 
 pub returns-clause-at : goal.returns-clause-at
 returns-clause-at c q = ap (λ m. map.get m q) (returns-clause-ok c) ∙ at_insert nat_list_cmp_total c.args.self.now c.args.name.now (child_view c.args.child) q
