@@ -1,8 +1,10 @@
 -- A map whose keys and values are borrowed texts: the lemmas of `MapViews` at the order of texts.
 use Rattle.std.proofs.Common.{◌≡◌, ℕ, List, Option, Some, None, option_map, sym, ap, ◌∙◌, Bor, Equal, length}
+use Rattle.std.proofs.lemmas.Map.Entries.{entries_from_clone}
 use Rattle.std.specs.BTreeMap.{insert_entry}
 use Rattle.std.specs.Cmp.Lexicographic.{nat_list_cmp_total}
 use Rattle.std.specs.FinMap as map
+use Rattle.std.specs.List.{AllZip}
 use Rattle.std.specs.List.Sorted.{IsStrictlySortedBy}
 use Rattle.std.specs.Map.{keys_of, lookup, remove_entry}
 use Rattle.std.specs.Map.Iter.{deref_pair}
@@ -41,6 +43,10 @@ file_put es fs k v h = views.insert_shown nat_list_cmp_total text_cmp-IsAntisymm
 
 pub file_del : (es fs : Entries) (k : List ℕ) → fs ≡ remove_entry (λ x. is_eq (text_cmp k x.now)) es → lookup (λ x. is_eq (text_cmp k x.now)) fs ≡ None → files_of fs ≡ map.remove (files_of es) k
 file_del es fs k h gone = views.remove_shown nat_list_cmp_total text_cmp-IsAntisymmetric bytes_at bytes_at es fs k h gone
+
+-- what is cloned shows the same map
+pub file_copy : (es fs : Entries) → AllZip (λ p q. (q.0 ≡ p.0) × (q.1 ≡ p.1)) es fs → files_of fs ≡ files_of es
+file_copy es fs h = ap files_of (entries_from_clone (λ x y. y ≡ x) (λ x y. y ≡ x) (λ x y e. e) (λ x y e. e) es fs h)
 
 -- an entry that was found under a path, by that path and what stands there
 pub entry_shown : (r : Option (Bor Line × Bor Line)) (path : List ℕ) (o : Option (List ℕ)) → IfSome r (λ p. text_cmp path p.0.now.now ≡ Equal)

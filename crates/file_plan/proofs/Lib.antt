@@ -1,4 +1,5 @@
 pub mod OnePlans
+pub mod EachPlans
 pub mod SoundPlans
 pub mod FoundPlans
 pub mod FileMaps

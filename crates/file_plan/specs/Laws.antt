@@ -15,6 +15,10 @@ use Rattle.file_plan.specs.Plan.{Planned, planned, Plans}
 abbrev pub OnePlan : Type 0
 OnePlan = (text : Option (List ℕ)) (a b : Planned) → Plans text a → Plans text b → a ≡ b
 
+-- any files have a plan
+abbrev pub EachPlan : Type 0
+EachPlan = (text : Option (List ℕ)) → (p : Planned) × Plans text p
+
 -- tokens among the sources are parts of the value that the document's text shows, which has no flaw
 pub record StandsIn (text : Option (List ℕ)) (n : Placed) : Type 0 where
   pub document : List ℕ

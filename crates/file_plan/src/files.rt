@@ -1,5 +1,5 @@
 // Files by their paths.
-ghost use Rattle.std.specs.Prelude.{◌≡◌, List, ℕ, Some, None, OnOk, OnErr, cond};
+ghost use Rattle.std.specs.Prelude.{◌≡◌, List, ℕ, Some, None, IfOk, OnOk, OnErr, cond};
 ghost use Rattle.std.specs.BTreeMap.{is_at};
 ghost use Rattle.std.specs.FinMap as map;
 ghost use Rattle.std.specs.List.{slice_get};
@@ -94,5 +94,13 @@ impl<'s> Files<'s> {
         ensures at { (q : List ℕ) → map.get self.new q ≡ cond (is_at (text_cmp path.now) q) None (map.get self.old q) }
     {
         let _ = self.texts.remove(path);
+    }
+
+    /// The same files once more: paths and texts are borrowed as they are here. Only want of memory is an error.
+    pub fn copy(&self) -> Result<Files<'s>, NoMemory>
+        ensures { IfOk result (λ files. files ≡ self.now) }
+    {
+        let texts = self.texts.clone()?;
+        Ok(Files { texts })
     }
 }

@@ -1,10 +1,10 @@
 // Laws of the definitions alone, for the layers above.
 
-ghost use Rattle.file_plan.specs.Laws.{InlinesStand, OnePlan, NamesAreApart, WantedAreInUse};
+ghost use Rattle.file_plan.specs.Laws.{EachPlan, InlinesStand, OnePlan, NamesAreApart, WantedAreInUse};
 
 use json_span::json_laws;
-use permutations::{name_laws, source_laws};
-use resolver_doc::{naming_laws, plan_laws};
+use permutations::{each_list_answers, name_laws, source_laws};
+use resolver_doc::{each_document_answers, naming_laws, plan_laws};
 
 /// Files have one plan. Tokens among its sources are parts of the value that the document shows, which has no flaw; and no two
 /// permutations have one name.
@@ -18,6 +18,15 @@ pub fn file_plan_laws()
     naming_laws();
     name_laws();
     source_laws();
+}
+
+/// Whatever the files are, they have a plan: its permutations, or its refusal.
+pub fn each_plan()
+    ensures { EachPlan }
+{
+    json_laws();
+    each_document_answers();
+    each_list_answers();
 }
 
 /// The files that are read for permutations are the resolver document and those that sources name, where they are there.

@@ -13,7 +13,7 @@ mod tests;
 mod tree;
 
 pub use files::Files;
-pub use laws::{file_plan_laws, in_use_laws};
+pub use laws::{each_plan, file_plan_laws, in_use_laws};
 pub use plan::plan_of;
 pub use refusal::PlanRefusal;
 pub use source::{Plan, PlanPerm, PlanSource, PlanSources};

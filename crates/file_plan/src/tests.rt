@@ -178,3 +178,17 @@ fn files_are_kept(rt: HostRuntime) -> Result<(), Fail> {
     assert!(rt; files.at(0) == Some(("b.json", "{}")));
     Ok(())
 }
+
+#[test]
+fn files_are_copied(rt: HostRuntime) -> Result<(), Fail> {
+    let mut files = Files::new(rt.alloc());
+    files.put("b.json", "{}")?;
+    files.put("a.json", "[]")?;
+    let copy = files.copy()?;
+    files.del("a.json");
+    files.put("b.json", "1")?;
+    assert!(rt; copy.len() == 2);
+    assert!(rt; copy.at(0) == Some(("a.json", "[]")));
+    assert!(rt; copy.at(1) == Some(("b.json", "{}")));
+    Ok(())
+}

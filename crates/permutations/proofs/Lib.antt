@@ -13,5 +13,6 @@ pub mod Drafted
 pub mod CountSteps
 pub mod InPlace
 pub mod Limits
+pub mod ListsAnswer
 pub mod NamesApart
 pub mod InlineParts

@@ -1,6 +1,6 @@
 // Laws of the definitions alone, for the layers above.
 
-ghost use Rattle.permutations.specs.Laws.{InlinesArePart, NamesAreApart, SetsComeToTheirSources};
+ghost use Rattle.permutations.specs.Laws.{EachListAnswers, InlinesArePart, NamesAreApart, SetsComeToTheirSources};
 ghost use Rattle.permutations.specs.Name.{NamesTellChoices};
 
 /// The name of a permutation tells which context is chosen for each modifier. Where the contexts of each modifier have
@@ -15,4 +15,9 @@ pub fn name_laws()
 pub fn source_laws()
     ensures sets { SetsComeToTheirSources }
     ensures parts { InlinesArePart }
+{}
+
+/// Each plan is within the limits, or beyond one of them: it has too many permutations, or one with too many sources.
+pub fn each_list_answers()
+    ensures { EachListAnswers }
 {}

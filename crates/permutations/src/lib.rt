@@ -17,6 +17,6 @@ mod table;
 mod tests;
 
 pub use fault::{LAST_NUMBER, ListFault, MOST_PERMUTATIONS, MOST_SOURCES};
-pub use laws::{name_laws, source_laws};
+pub use laws::{each_list_answers, name_laws, source_laws};
 pub use listing::list;
 pub use perm::{Perm, Perms, Source, Sources};

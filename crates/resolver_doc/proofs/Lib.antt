@@ -4,6 +4,7 @@ pub mod NumbersByTexts
 pub mod RightSets
 pub mod SetRings
 pub mod OneAnswer
+pub mod DocumentsAnswer
 pub mod Dots
 pub mod SeenNames
 pub mod PlanFaults

@@ -109,7 +109,7 @@ row_below n [] v a = tt
 row_below n (row ∷ rows) zero a = a.0
 row_below n (row ∷ rows) (suc v) a = row_below n rows v a.1
 
-needed_below : (sets : List SetData) → are_sets_right sets sets ≡ true → (v w : ℕ) → In w (set_needs sets v) → w < length sets
+pub needed_below : (sets : List SetData) → are_sets_right sets sets ≡ true → (v w : ℕ) → In w (set_needs sets v) → w < length sets
 needed_below sets h v w i = in_below (length sets) (set_needs sets v) w (row_below (length sets) (set_rows sets) v (rows_below sets h)) i
 
 -- a ring from its first node on: each needs the next one, and the last the first
@@ -134,7 +134,7 @@ closes_last needs v first [] l = l.0
 closes_last needs v first (w ∷ ws) l = closes_last needs w first ws l.1
 
 module _ (n : ℕ) (needs : ℕ → List ℕ) (below : (v w : ℕ) → In w (needs v) → w < n) where
-  first_below : (v first : ℕ) (vs : List ℕ) → Leads needs v (vs ++ first ∷ []) → first < n
+  pub first_below : (v first : ℕ) (vs : List ℕ) → Leads needs v (vs ++ first ∷ []) → first < n
   first_below v first [] l = below v first l.0
   first_below v first (w ∷ ws) l = first_below w first ws l.1
 

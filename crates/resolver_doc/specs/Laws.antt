@@ -1,12 +1,13 @@
 -- Laws of the definitions: a document has one answer, and names are what they are said to be.
-use Rattle.std.specs.Prelude.{◌≡◌, ◌≢◌, ℕ, zero, suc, List, ◌∷◌, Some, None, slice_get}
+use Rattle.std.specs.Prelude.{◌≡◌, ◌≢◌, ◌⊎◌, ℕ, zero, suc, List, ◌∷◌, Some, None, slice_get}
 use Rattle.std.specs.List.{AllByRecursion}
 use Rattle.json_span.specs.Tree.{Placed, Entry}
 use Rattle.json_span.specs.Flaw.{first_flaw}
 use Rattle.ring.specs.Routes.{In}
+use Rattle.resolver_doc.specs.declared.rule.Break.{Break}
 use Rattle.resolver_doc.specs.declared.fault.PlanFault.{PlanFault}
 use Rattle.resolver_doc.specs.declared.fault.PlanFault.TheVariants.{NoMemory}
-use Rattle.resolver_doc.specs.Answer.{IsUnbroken, IsPlanFault}
+use Rattle.resolver_doc.specs.Answer.{IsUnbroken, IsPlanBreak, IsPlanFault}
 use Rattle.resolver_doc.specs.Document.{resolver_of, pointer, pointed, name_in, without_dots, HasContextsApart}
 
 -- one break is told
@@ -16,6 +17,14 @@ OneFault = (root : Placed) (a b : PlanFault) → a ≢ NoMemory → b ≢ NoMemo
 -- and none of a document that breaks no rule
 abbrev pub UnbrokenIsNotRefused : Type 0
 UnbrokenIsNotRefused = (root : Placed) (a : PlanFault) → IsUnbroken root → a ≢ NoMemory → IsPlanFault root a → ⊥
+
+-- a break is told of the document
+abbrev pub IsBroken : Placed → Type 0
+IsBroken root = (told : Break) × (ring : List (List ℕ)) × IsPlanBreak root told ring
+
+-- each document breaks no rule, or a break is told of it
+abbrev pub EachDocumentAnswers : Type 0
+EachDocumentAnswers = (root : Placed) → IsUnbroken root ⊎ IsBroken root
 
 -- Names of files, and what pointers name.
 

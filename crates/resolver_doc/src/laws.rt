@@ -1,7 +1,7 @@
 // Laws of the definitions alone, for the layers above.
 
 ghost use Rattle.resolver_doc.specs.Break.{FirstIsTold, NoneIsTold};
-ghost use Rattle.resolver_doc.specs.Laws.{OneFault, UnbrokenIsNotRefused, DotsAreTaken, PointersSpell, PointersFind, ContextsAreApart};
+ghost use Rattle.resolver_doc.specs.Laws.{OneFault, UnbrokenIsNotRefused, EachDocumentAnswers, DotsAreTaken, PointersSpell, PointersFind, ContextsAreApart};
 
 /// Of several breaks the first by its start and then by its rule's number is told, and where none is told there is none.
 pub fn break_laws()
@@ -14,6 +14,11 @@ pub fn break_laws()
 pub fn plan_laws()
     ensures one { OneFault }
     ensures unbroken { UnbrokenIsNotRefused }
+{}
+
+/// Each document has an answer: it breaks no rule, or a break is told of it.
+pub fn each_document_answers()
+    ensures { EachDocumentAnswers }
 {}
 
 /// A file's name is what stands behind all leading `./` of a text. A text points to a member whose name it spells, and the
