@@ -12,9 +12,11 @@ pub mod RingsAreReal
 pub mod LinksOfParts
 pub mod UnbrokenMeans
 pub mod LinkDepths
+pub mod UnbrokenHasLinks
 pub mod SameWalks
 pub mod SameLinks
 pub mod UnchangedTrees
+pub mod DifferencesDecided
 pub mod WalksInTurns
 pub mod PartsMean
 pub mod LinksAreReal
@@ -23,6 +25,7 @@ pub mod VisitsAreSound
 pub mod ContentsOfValues
 pub mod IndexedItems
 pub mod SoundValues
+pub mod MeaningsFit
 pub mod SpotsStand
 pub mod PartsInTurn
 pub mod TracesGrow

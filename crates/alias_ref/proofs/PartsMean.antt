@@ -18,11 +18,11 @@ use Rattle.alias_ref.specs.Laws.{Flat}
 use Rattle.alias_ref.proofs.OneMeaning.{parts_or_lead}
 use Rattle.alias_ref.proofs.WrittenParts.{written_is, spelled_no_parts, text_no_parts}
 
-plains_again : (vs : List Value) → plains_in (plains_of vs) ≡ vs
+pub plains_again : (vs : List Value) → plains_in (plains_of vs) ≡ vs
 plains_again [] = refl
 plains_again (v ∷ vs) = ap (λ (z : List Value). v ∷ z) (plains_again vs)
 
-entries_again : (es : List Entry) → plain_entries_in (plain_members_of es) ≡ es
+pub entries_again : (es : List Entry) → plain_entries_in (plain_members_of es) ≡ es
 entries_again [] = refl
 entries_again (e ∷ es) = ap (λ (z : List Entry). e ∷ z) (entries_again es)
 

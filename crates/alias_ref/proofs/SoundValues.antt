@@ -195,6 +195,10 @@ chosen_inside None None m h k = (itself, λ s. s)
 value_inside : (m : Placed) → Inside (value_of m) m
 value_inside m = chosen_inside (under (codes "$ref") (entries_at m)) (under (codes "$value") (entries_at m)) m (λ n e. under_inside (codes "$ref") m n e) (λ n e. under_inside (codes "$value") m n e)
 
+pub value_is_part : (m : Placed) → IsPart (value_of m) m
+unfolding Inside
+value_is_part m = (value_inside m).0
+
 pub sound_definition : (d : Definition) → IsDefinition d → length d.source < 2 ^ 64 → IsSound d.value
 unfolding Inside
 sound_definition d k h =
@@ -232,6 +236,10 @@ part_inside (placed (a_number k) start end) s m e = absurd (cc)
 part_inside (placed (a_string t) start end) s m e = absurd (cc)
 part_inside (placed (an_array ns) start end) s m e = let k = item_inside s 0 ns m e in (inside (in_array k.0), λ h. k.1 h.1)
 part_inside (placed (an_object ms) start end) s m e = let k = member_inside s ms m e in (inside (in_object k.0), λ h. k.1 h.1)
+
+pub step_is_part : (n : Placed) (s : Step) (m : Placed) → part_at n s ≡ Some m → IsPart m n
+unfolding Inside
+step_is_part n s m e = (part_inside n s m e).0
 
 pub sound_part : (n : Placed) (s : Step) (m : Placed) → IsSound n → part_at n s ≡ Some m → IsSound m
 unfolding Inside

@@ -1,6 +1,7 @@
 -- What the definitions come to.
-use Rattle.std.specs.Prelude.{◌≡◌, ◌≢◌, ◌↔◌, ◌<◌, ℕ, List, [], length, true, false, Option, Some, None}
+use Rattle.std.specs.Prelude.{◌≡◌, ◌≢◌, ◌↔◌, ◌<◌, ◌≤◌, ℕ, List, [], length, true, false, Option, Some, None}
 use Rattle.std.specs.FinMap as flat_map
+use Rattle.std.specs.Str.{IsUtf8}
 use Rattle.tk_io.specs.Order.{names_cmp}
 use Rattle.ring.specs.Routes.{In}
 use Rattle.name_path.specs.Reference.{SpellsPath, SpellsPlace}
@@ -9,6 +10,7 @@ use Rattle.name_path.specs.declared.link.Link.{Link}
 use Rattle.name_path.specs.declared.place.Place.{Place}
 use Rattle.json_span.specs.Tree.{Placed, tree_of}
 use Rattle.json_span.specs.Parts.{IsPart}
+use Rattle.json_span.specs.FitsIn.{FitsIn}
 use Rattle.json_span.specs.PlainView.{Value}
 use Rattle.token_tree.specs.Tree.{Definition}
 use Rattle.token_tree.specs.Promise.{IsDefinition}
@@ -83,6 +85,23 @@ UnbrokenIsSound = (flat : Flat) (token : List Step) → is_written (written_in f
 -- .. and has at most so many links one behind the other
 abbrev pub UnbrokenDepth : Type 0
 UnbrokenDepth = (flat : Flat) (token : List Step) → is_written (written_in flat (whole token)) ≡ true → walk_break (written_in flat) token ≡ None → LinkDepth (written_in flat) most_places (whole token)
+
+-- .. and it has a kind, or none, and links
+abbrev pub UnbrokenHasKind : Type 0
+UnbrokenHasKind = (flat : Flat) (token : List Step) → is_written (written_in flat (whole token)) ≡ true → walk_break (written_in flat) token ≡ None
+    → (k : Option Kind) × KindOf (written_in flat) (own_in flat) (group_in flat) token k
+
+abbrev pub UnbrokenHasLinks : Type 0
+UnbrokenHasLinks = (flat : Flat) (token : List Step) → is_written (written_in flat (whole token)) ≡ true → walk_break (written_in flat) token ≡ None
+    → (ls : List Link) × LinksAt (written_in flat) (own_in flat) (group_in flat) (whole token) ls
+
+-- the source of each definition is UTF-8, and has at most so many bytes
+abbrev pub SourcesFit : ℕ → Flat → Type 0
+SourcesFit n flat = (path : List Step) (f : Flattened) → flat_map.get flat path ≡ Some f → IsUtf8 f.def.source × (length f.def.source ≤ n)
+
+-- what a place means has strings and names of UTF-8, and no list with more parts than a source may have bytes
+abbrev pub MeaningsFit : Type 0
+MeaningsFit = (flat : Flat) (n : ℕ) → AreDefinitions flat → SourcesFit n flat → (p : Place) (v : Value) → Means (written_in flat) p v → FitsIn n v
 
 -- what is written at a trail of a place means what stands there in the place's meaning
 abbrev pub PartsMean : Type 0

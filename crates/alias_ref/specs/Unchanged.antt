@@ -1,10 +1,14 @@
 -- Which tokens the references of a token lead to, and when two flat trees are unchanged there.
-use Rattle.std.specs.Prelude.{◌≡◌, List, ℕ, Option, Some, option_map}
+use Rattle.std.specs.Prelude.{◌≡◌, ◌↔◌, List, ℕ, Bool, true, false, ◌&&◌, not, Option, Some, option_map}
 use Rattle.std.specs.FinMap as flat_map
+use Rattle.std.specs.Option.{option_eq}
+use Rattle.std.specs.Str.{bytes_eq}
 use Rattle.tk_io.specs.Order.{names_cmp}
 use Rattle.ring.specs.Routes.{In}
+use Rattle.name_path.specs.Kinds.{kind_name}
 use Rattle.name_path.specs.declared.kind.Kind.{Kind}
 use Rattle.token_tree.specs.declared.mark.Mark.{Mark}
+use Rattle.token_tree.specs.declared.mark.Mark.TheVariants.{No, Yes, Because}
 use Rattle.token_tree.specs.Promise.{IsDefinition}
 use Rattle.group_inherit.specs.Flattening.{Flattened}
 use Rattle.alias_ref.specs.Written.{Step}
@@ -22,6 +26,27 @@ raw_of f = record { source = f.def.source; group_kind = f.group_kind; group_mark
 -- that of the token at a path, where there is one
 abbrev pub raw_in : flat_map.FinMap names_cmp Flattened → List Step → Option Raw
 raw_in flat path = option_map raw_of (flat_map.get flat path)
+
+-- Whether two raw entries are the same, as a test.
+
+abbrev pub same_kind : Kind → Kind → Bool
+same_kind k l = bytes_eq (kind_name k) (kind_name l)
+
+abbrev pub same_mark : Mark → Mark → Bool
+same_mark No No = true
+same_mark Yes Yes = true
+same_mark (Because s) (Because t) = bytes_eq s t
+same_mark m n = false
+
+abbrev pub same_raw : Raw → Raw → Bool
+same_raw a b = bytes_eq a.source b.source && (option_eq same_kind a.group_kind b.group_kind && option_eq same_mark a.group_mark b.group_mark)
+
+abbrev pub differ : Option Raw → Option Raw → Bool
+differ a b = not (option_eq same_raw a b)
+
+-- the test finds no difference exactly where there is none
+abbrev pub DifferDecides : Type 0
+DifferDecides = (a b : Option Raw) → (differ a b ≡ false) ↔ (a ≡ b)
 
 -- A walk of none or more references from the one path to the other. The names of absent tokens count as paths.
 pub data Reaches (flat : flat_map.FinMap names_cmp Flattened) (from : List Step) : List Step → Type 0 where

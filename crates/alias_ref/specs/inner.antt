@@ -4,3 +4,4 @@ pub mod Contents
 pub mod Spots
 pub mod Turns
 pub mod Steps
+pub mod Walks

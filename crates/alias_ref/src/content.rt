@@ -50,7 +50,8 @@ fn pointed<'a, 's>(alloc: Global, text: &Text<'s>) -> Result<Content<'a, 's>, No
 
 /// The reference that a curly alias spells.
 fn aliased<'a, 's>(alloc: Global, text: &Text<'s>) -> Result<Content<'a, 's>, NoMemory>
-    ensures written { IfOk result (λ c. content_view c ≡ spelled (option_map whole (alias_named text.now))) }
+    ensures written { IfOk result (λ c. content_view c
+        ≡ spelled (option_map whole (alias_named text.now))) }
     ensures parts { IfOk result (λ c. content_parts c ≡ []) }
 {
     match read_curly(alloc, text) {
@@ -92,8 +93,10 @@ fn object_content<'a, 's>(
     alloc: Global,
     fields: Fields<'a, 's>,
 ) -> Result<Content<'a, 's>, NoMemory>
-    ensures written { IfOk result (λ c. content_view c ≡ object_written (fields_view fields.entry)) }
-    ensures parts { IfOk result (λ c. is_reference (Some (content_view c)) ≡ false → content_parts c ≡ named (fields_view fields.entry)) }
+    ensures written { IfOk result (λ c. content_view c
+        ≡ object_written (fields_view fields.entry)) }
+    ensures parts { IfOk result (λ c. is_reference (Some (content_view c)) ≡ false
+        → content_parts c ≡ named (fields_view fields.entry)) }
 {
     let Some(node) = fields.get("$ref") else {
         return Ok(Content::Object(fields));

@@ -42,7 +42,8 @@ fn nth<'a, 's>(items: Items<'a, 's>, i: usize) -> Option<NodeRef<'a, 's>>
 /// The item whose index the step spells.
 pub(crate) fn item<'a, 's>(items: Items<'a, 's>, step: &str) -> Option<NodeRef<'a, 's>>
     requires { length (items_view items) < 2 ^ 64 }
-    ensures { option_map ref_view result ≡ part_under step.now (numbered 0 (items_view items.entry)) }
+    ensures { option_map ref_view result
+        ≡ part_under step.now (numbered 0 (items_view items.entry)) }
 {
     let i = index_of(step)?;
     nth(items, i)

@@ -1,7 +1,8 @@
 //! Laws over the definitions alone, for the layers above.
 
 ghost use Rattle.alias_ref.specs.Answer.{OneResolved, OneFirstBreak, NeverBoth};
-ghost use Rattle.alias_ref.specs.Laws.{AliasesNamed, PointersNamed, OneLead, OneEnd, OneMeaning, OneKind, OneLinks, RingsAreReal, BreaksAreReal, UnbrokenMeans, UnbrokenIsSound, UnbrokenDepth, PartsMean, LinksAreReal, LinksAreAll, SourceDecides, RefsOfSource, WrittenAreListed, ListedAreWritten, UnchangedIsAlike};
+ghost use Rattle.alias_ref.specs.Unchanged.{DifferDecides};
+ghost use Rattle.alias_ref.specs.Laws.{AliasesNamed, PointersNamed, OneLead, OneEnd, OneMeaning, OneKind, OneLinks, RingsAreReal, BreaksAreReal, UnbrokenMeans, UnbrokenIsSound, UnbrokenDepth, UnbrokenHasKind, UnbrokenHasLinks, MeaningsFit, PartsMean, LinksAreReal, LinksAreAll, SourceDecides, RefsOfSource, WrittenAreListed, ListedAreWritten, UnchangedIsAlike};
 
 /// The readings of texts are exact: an alias names the path that its text spells, and a pointer the place.
 pub fn references_named()
@@ -26,11 +27,20 @@ pub fn breaks_are_real()
 {}
 
 /// A token without a break means something; whatever its walk visits is new on its branch, spelled well, and leads
-/// somewhere where it is a reference; and at most 256 links stand one behind the other in it.
+/// somewhere where it is a reference; and at most 256 links stand one behind the other in it. It has a kind, or none, and
+/// links.
 pub fn unbroken_tokens()
     ensures meaning { UnbrokenMeans }
     ensures visits { UnbrokenIsSound }
     ensures depth { UnbrokenDepth }
+    ensures kind { UnbrokenHasKind }
+    ensures links { UnbrokenHasLinks }
+{}
+
+/// What is meant in a tree of definitions, whose sources are UTF-8, has strings and names of UTF-8, and no list with more
+/// parts than a source may have bytes.
+pub fn meanings_fit()
+    ensures { MeaningsFit }
 {}
 
 /// What is written at a trail of a place means what stands at that trail of the place's meaning.
@@ -60,6 +70,11 @@ pub fn refs_are_written()
 /// meaning, kind and links of it, wherever their spans stand.
 pub fn unchanged_is_alike()
     ensures { UnchangedIsAlike }
+{}
+
+/// Whether two raw entries differ is decided by a test.
+pub fn differ_decides()
+    ensures { DifferDecides }
 {}
 
 /// The answer of a token is decided by the flat tree and the path: it comes to one thing, or breaks one rule first, and

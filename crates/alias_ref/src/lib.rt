@@ -18,8 +18,9 @@ mod walking;
 
 pub use fault::{RefFault, RefRule};
 pub use laws::{
-    breaks_are_real, links_are_real, one_answer, one_meaning, parts_mean, references_named,
-    refs_are_written, source_decides, unbroken_tokens, unchanged_is_alike,
+    breaks_are_real, differ_decides, links_are_real, meanings_fit, one_answer, one_meaning,
+    parts_mean, references_named, refs_are_written, source_decides, unbroken_tokens,
+    unchanged_is_alike,
 };
 pub use refs::refs_of;
 pub use resolved::{Resolved, evaluate};

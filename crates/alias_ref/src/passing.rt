@@ -2,11 +2,9 @@
 
 ghost use Rattle.std.specs.Prelude.{◌≡◌, ◌≤◌, length, Some, false, IfOk, OnOk};
 ghost use Rattle.alias_ref.specs.Written.{is_misspelled};
-ghost use Rattle.alias_ref.specs.Visits.{way_of, settle_by, pass_written, passed};
-ghost use Rattle.alias_ref.specs.Written.{written_in};
 ghost use Rattle.alias_ref.specs.inner.Contents.{content_view};
-ghost use Rattle.alias_ref.specs.inner.Seen.{Sees};
 ghost use Rattle.alias_ref.specs.inner.Spots.{IsSpot, HasStarts, IsSameBranch};
+ghost use Rattle.alias_ref.specs.inner.Walks.{settling, passing, leading, passing_on, HasGone, HasEnded};
 
 use crate::content::Content;
 use crate::fault::{RefFault, RefRule};
@@ -27,8 +25,8 @@ fn settle<'a, 's>(
     requires at { IsSpot flat.now spot }
     requires room { length trace.old.places.items ≤ 256 }
     requires starts { HasStarts flat.now trace.old }
-    ensures seen { Sees (written_in flat.entry.now) (settle_by (written_in flat.entry.now) (passed (written_in flat.entry.now) trace.old.places.items) spot.entry.place).seen trace.old.visits trace.new.visits result }
-    ensures ends { IfOk result (λ e. (settle_by (written_in flat.entry.now) (passed (written_in flat.entry.now) trace.old.places.items) spot.entry.place).ends ≡ Some e.place) }
+    ensures seen { HasGone flat.entry.now trace.old trace.new result (settling spot.entry.place) }
+    ensures ends { HasEnded flat.entry.now trace.old result (settling spot.entry.place) }
     ensures found { IfOk result (λ e. IsSpot flat.entry.now e) }
     ensures branch { OnOk result (IsSameBranch trace.old trace.new) }
 {
@@ -50,8 +48,8 @@ fn pass<'a, 's>(
     requires at { IsSpot flat.now spot }
     requires room { length trace.old.places.items ≤ 256 }
     requires starts { HasStarts flat.now trace.old }
-    ensures seen { Sees (written_in flat.entry.now) (passed (written_in flat.entry.now) trace.old.places.items spot.entry.place).seen trace.old.visits trace.new.visits result }
-    ensures ends { IfOk result (λ e. (passed (written_in flat.entry.now) trace.old.places.items spot.entry.place).ends ≡ Some e.place) }
+    ensures seen { HasGone flat.entry.now trace.old trace.new result (passing spot.entry.place) }
+    ensures ends { HasEnded flat.entry.now trace.old result (passing spot.entry.place) }
     ensures found { IfOk result (λ e. IsSpot flat.entry.now e) }
     ensures branch { OnOk result (IsSameBranch trace.old trace.new) }
 {
@@ -73,8 +71,8 @@ fn pass_on<'a, 's>(
     requires room { length trace.old.places.items ≤ 256 }
     requires starts { HasStarts flat.now trace.old }
     requires spelled { is_misspelled (Some (content_view spot.content)) ≡ false }
-    ensures seen { Sees (written_in flat.entry.now) (pass_written (written_in flat.entry.now) (settle_by (written_in flat.entry.now) (passed (written_in flat.entry.now) trace.old.places.items)) spot.entry.place (Some (content_view spot.entry.content))).seen trace.old.visits trace.new.visits result }
-    ensures ends { IfOk result (λ e. (pass_written (written_in flat.entry.now) (settle_by (written_in flat.entry.now) (passed (written_in flat.entry.now) trace.old.places.items)) spot.entry.place (Some (content_view spot.entry.content))).ends ≡ Some e.place) }
+    ensures seen { HasGone flat.entry.now trace.old trace.new result (passing_on spot.entry) }
+    ensures ends { HasEnded flat.entry.now trace.old result (passing_on spot.entry) }
     ensures found { IfOk result (λ e. IsSpot flat.entry.now e) }
     ensures branch { OnOk result (IsSameBranch trace.old trace.new) }
 {
@@ -97,8 +95,8 @@ pub(crate) fn follow<'a, 's>(
 ) -> Result<Spot<'a, 's>, RefFault<'s>>
     requires room { length trace.old.places.items ≤ 256 }
     requires starts { HasStarts flat.now trace.old }
-    ensures seen { Sees (written_in flat.entry.now) (way_of (written_in flat.entry.now) (settle_by (written_in flat.entry.now) (passed (written_in flat.entry.now) trace.old.places.items)) home.now named.now.token named.now.trail).seen trace.old.visits trace.new.visits result }
-    ensures ends { IfOk result (λ e. (way_of (written_in flat.entry.now) (settle_by (written_in flat.entry.now) (passed (written_in flat.entry.now) trace.old.places.items)) home.now named.now.token named.now.trail).ends ≡ Some e.place) }
+    ensures seen { HasGone flat.entry.now trace.old trace.new result (leading home.now named.now) }
+    ensures ends { HasEnded flat.entry.now trace.old result (leading home.now named.now) }
     ensures found { IfOk result (λ e. IsSpot flat.entry.now e) }
     ensures branch { OnOk result (IsSameBranch trace.old trace.new) }
 {

@@ -31,7 +31,8 @@ fn add_refs<'s>(
     by_ref: bool,
     paths: &mut Paths<'s>,
 ) -> Result<(), NoMemory>
-    ensures { OnOk result (paths.new ≡ paths.old ++ refs_in (role_of by_ref) (ref_view node.entry)) }
+    ensures { OnOk result (paths.new ≡ paths.old
+        ++ refs_in (role_of by_ref) (ref_view node.entry)) }
 {
     let content = read_content(alloc, node, by_ref)?;
     add_named(content, paths)?;
@@ -85,7 +86,8 @@ fn add_member<'s>(
     field: Field<'_, 's>,
     paths: &mut Paths<'s>,
 ) -> Result<(), NoMemory>
-    ensures { OnOk result (paths.new ≡ paths.old ++ refs_in (role_behind (field_view field.entry).name) (field_view field.entry).value) }
+    ensures { OnOk result (paths.new ≡ paths.old
+        ++ refs_in (role_behind (field_view field.entry).name) (field_view field.entry).value) }
 {
     let node = field.value();
     if field.is_named("$ref") && node.as_array().is_none() && node.as_object().is_none() {

@@ -75,7 +75,9 @@ pub(crate) fn part_spot<'a, 's>(
     node: NodeRef<'a, 's>,
 ) -> Result<Spot<'a, 's>, NoMemory>
     ensures place { IfOk result (λ s. s.place ≡ part place.now step.now) }
-    ensures at { (flat : FlatTree) → IsPartAt flat place.now token.entry.now step.now (ref_view node.entry) → IfOk result (λ s. IsSpot flat s) }
+    ensures at { (flat : FlatTree)
+        → IsPartAt flat place.now token.entry.now step.now (ref_view node.entry)
+        → IfOk result (λ s. IsSpot flat s) }
 {
     let content = read_content(alloc, node, false)?;
     let Place {
@@ -100,8 +102,11 @@ impl<'a, 's> Spot<'a, 's> {
     ) -> Result<Option<Spot<'a, 's>>, NoMemory>
         requires short { length (content_items self.now.content) < 2 ^ 64 }
         ensures place { IfOk result (λ o. IfSome o (λ s. s.place ≡ part self.now.place step.now)) }
-        ensures at { (flat : FlatTree) → IsSpot flat self.now → is_reference (Some (content_view self.now.content)) ≡ false → IfOk result (λ o. IfSome o (λ s. IsSpot flat s)) }
-        ensures none { IfOk result (λ o. IfNone o (part_under step.now (content_parts self.now.content) ≡ None)) }
+        ensures at { (flat : FlatTree) → IsSpot flat self.now
+            → is_reference (Some (content_view self.now.content)) ≡ false
+            → IfOk result (λ o. IfSome o (λ s. IsSpot flat s)) }
+        ensures none { IfOk result (λ o. IfNone o
+            (part_under step.now (content_parts self.now.content) ≡ None)) }
     {
         let Some(node) = part_node(&self.content, step.as_str()) else {
             return Ok(None);

@@ -1,11 +1,11 @@
 //! The trace of a walk: the places that are being visited, and how many visits there were.
 
-ghost use Rattle.std.specs.Prelude.{◌≡◌, ◌≤◌, ◌+◌, ◌∷◌, ◌++◌, [], ℕ, List, Contains, length, drop, map, Some, None, IfOk, OnOk, MatchResult, false};
+ghost use Rattle.std.specs.Prelude.{◌≡◌, ◌≤◌, ◌+◌, ◌∷◌, ◌++◌, [], ℕ, List, Contains, length, drop, map, Some, IfOk, OnOk, false};
 ghost use Rattle.name_path.specs.declared.place.Place.{Place};
 ghost use Rattle.alias_ref.specs.Written.{Tokens};
-ghost use Rattle.alias_ref.specs.Visits.{visit, since, own_break, breaks};
+ghost use Rattle.alias_ref.specs.Visits.{visit, since, breaks};
 ghost use Rattle.alias_ref.specs.inner.Contents.{content_view};
-ghost use Rattle.alias_ref.specs.inner.Seen.{IsFault};
+ghost use Rattle.alias_ref.specs.inner.Seen.{IsFault, HasBegun};
 ghost use Rattle.alias_ref.specs.inner.Spots.{start_in, HasStarts};
 ghost use Rattle.alias_ref.specs.Laws.{Flat};
 
@@ -93,7 +93,9 @@ impl<'s> Trace<'s> {
         place: &Place<'s>,
         start: usize,
     ) -> Result<Option<Ring<'s>>, NoMemory>
-        ensures { (f : Place → ℕ) → self.now.starts.items ≡ map f self.now.places.items → start ≡ f place.now → IfOk result (λ ring. ring ≡ since place.now self.now.places.items) }
+        ensures { (f : Place → ℕ) → self.now.starts.items ≡ map f self.now.places.items
+            → start ≡ f place.now
+            → IfOk result (λ ring. ring ≡ since place.now self.now.places.items) }
     {
         if !self.starts.as_slice().contains(&start) {
             return Ok(None);
@@ -103,10 +105,14 @@ impl<'s> Trace<'s> {
 
     /// Begins a visit, unless it breaks a rule.
     pub(crate) fn enter(&mut self, alloc: Global, spot: &Spot<'_, 's>) -> Result<(), RefFault<'s>>
-        ensures broken { (flat : Flat) (T : Tokens) → HasStarts flat self.old → spot.now.start ≡ start_in flat spot.now.place → T spot.now.place ≡ Some (content_view spot.now.content)
-            → MatchResult result (λ _. own_break T self.old.visits (visit self.old.places.items spot.now.place) ≡ None) (λ f. IsFault f (own_break T self.old.visits (visit self.old.places.items spot.now.place))) }
-        ensures places { OnOk result (self.new.places.items ≡ self.old.places.items ++ spot.now.place ∷ []) }
-        ensures starts { OnOk result (self.new.starts.items ≡ self.old.starts.items ++ spot.now.start ∷ []) }
+        ensures broken { (flat : Flat) (T : Tokens) → HasStarts flat self.old
+            → spot.now.start ≡ start_in flat spot.now.place
+            → T spot.now.place ≡ Some (content_view spot.now.content)
+            → HasBegun T self.old.visits (visit self.old.places.items spot.now.place) result }
+        ensures places { OnOk result
+            (self.new.places.items ≡ self.old.places.items ++ spot.now.place ∷ []) }
+        ensures starts { OnOk result
+            (self.new.starts.items ≡ self.old.starts.items ++ spot.now.start ∷ []) }
         ensures counted { OnOk result (self.new.visits ≡ self.old.visits + 1) }
     {
         if let Some(ring) = self.ring(alloc, &spot.place, spot.start)? {
@@ -134,8 +140,10 @@ impl<'s> Trace<'s> {
 
     /// Ends the last visit that began.
     pub(crate) fn leave(&mut self)
-        ensures places { (ps : List Place) (p : Place) → self.old.places.items ≡ ps ++ p ∷ [] → self.new.places.items ≡ ps }
-        ensures starts { (xs : List ℕ) (x : ℕ) → self.old.starts.items ≡ xs ++ x ∷ [] → self.new.starts.items ≡ xs }
+        ensures places { (ps : List Place) (p : Place)
+            → self.old.places.items ≡ ps ++ p ∷ [] → self.new.places.items ≡ ps }
+        ensures starts { (xs : List ℕ) (x : ℕ)
+            → self.old.starts.items ≡ xs ++ x ∷ [] → self.new.starts.items ≡ xs }
         ensures visits { self.new.visits ≡ self.old.visits }
     {
         let _ = self.places.pop();

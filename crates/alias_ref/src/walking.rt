@@ -1,17 +1,14 @@
 //! The walk of a value: its meaning, and the first rule that it breaks.
 
-ghost use Rattle.std.specs.Prelude.{◌≡◌, ◌≤◌, ◌++◌, List, [], map, length, Some, false, IfOk, OnOk};
-ghost use Rattle.json_span.specs.PlainView.{plain_view, plain_items_view, plain_fields_view, Entry as PlainEntry};
-ghost use Rattle.group_inherit.specs.Merging.{either};
-ghost use Rattle.alias_ref.specs.Written.{written_in, is_misspelled, part, numbered, named, steps_of};
-ghost use Rattle.alias_ref.specs.Meaning.{Means, EachMeans};
-ghost use Rattle.alias_ref.specs.Visits.{settle_by, passed, walked, walk_written, visits_each};
-ghost use Rattle.alias_ref.specs.Kinds.{KindOf, own_in, group_in};
+ghost use Rattle.std.specs.Prelude.{◌≡◌, ◌≤◌, ◌++◌, length, Some, false, IfOk, OnOk};
+ghost use Rattle.json_span.specs.View.{ref_view};
+ghost use Rattle.alias_ref.specs.Written.{is_misspelled, part};
 ghost use Rattle.alias_ref.specs.inner.Contents.{content_view};
-ghost use Rattle.json_span.specs.View.{ref_view, items_view, fields_view};
-ghost use Rattle.alias_ref.specs.inner.Linking.{lent, added};
-ghost use Rattle.alias_ref.specs.inner.Seen.{Sees};
-ghost use Rattle.alias_ref.specs.inner.Spots.{IsSpot, IsHolder, IsPartAt, HasStarts, IsSameBranch, HasGrown, HasGrownEach};
+ghost use Rattle.alias_ref.specs.inner.Linking.{kind_with, lent, added};
+ghost use Rattle.alias_ref.specs.inner.Spots.{IsSpot, IsHolder, IsPartAt, HasStarts, IsSameBranch};
+ghost use Rattle.alias_ref.specs.inner.Walks.{walking, walking_on, walking_parts, HasSeen, IsMeantAt};
+ghost use Rattle.alias_ref.specs.inner.Walks.{IsKindAt, HasLinks, HasLinksOf, item_parts, field_parts};
+ghost use Rattle.alias_ref.specs.inner.Walks.{ItemsMean, FieldsMean};
 
 use crate::content::Content;
 use crate::fault::RefFault;
@@ -34,7 +31,7 @@ pub(crate) struct Found<'s> {
 
 /// The kind of a token, where what its whole value refers to lends this one.
 fn kind_here(token: &Entry<'_>, lent: Option<Kind>) -> Option<Kind>
-    ensures { result ≡ either token.now.def.kind (either lent token.now.group_kind) }
+    ensures { result ≡ kind_with token.now lent }
 {
     token.def.kind.or(lent).or(token.group_kind)
 }
@@ -49,8 +46,10 @@ fn refer<'s>(
     links: &mut Links<'s>,
 ) -> Result<Found<'s>, NoMemory>
     ensures plain { IfOk result (λ o. o.plain ≡ found.entry.plain) }
-    ensures kind { IfOk result (λ o. o.kind ≡ either token.now.def.kind (either (lent found.entry.kind named.entry.trail) token.now.group_kind)) }
-    ensures links { OnOk result (links.new ≡ links.old ++ added own place.now named.entry.token found.entry.kind named.entry.trail) }
+    ensures kind { IfOk result (λ o. o.kind
+        ≡ kind_with token.now (lent found.entry.kind named.entry.trail)) }
+    ensures links { OnOk result (links.new ≡ links.old
+        ++ added own place.now named.entry.token found.entry.kind named.entry.trail) }
 {
     let kind = found.kind;
     if named.trail.len() > 0 {
@@ -85,10 +84,10 @@ pub(crate) fn walk<'a, 's>(
     requires at { IsSpot flat.now spot }
     requires room { length trace.old.places.items ≤ 256 }
     requires starts { HasStarts flat.now trace.old }
-    ensures seen { Sees (written_in flat.entry.now) (walked (written_in flat.entry.now) trace.old.places.items spot.entry.place) trace.old.visits trace.new.visits result }
-    ensures means { IfOk result (λ v. Means (written_in flat.entry.now) spot.entry.place (plain_view v.plain)) }
-    ensures kind { IfOk result (λ v. spot.entry.place.trail ≡ [] → KindOf (written_in flat.entry.now) (own_in flat.entry.now) (group_in flat.entry.now) spot.entry.place.token v.kind) }
-    ensures links { OnOk result (HasGrown own (written_in flat.entry.now) (own_in flat.entry.now) (group_in flat.entry.now) spot.entry.place links.old links.new) }
+    ensures seen { HasSeen flat.entry.now trace.old trace.new result (walking spot.entry.place) }
+    ensures means { IfOk result (λ v. IsMeantAt flat.entry.now spot.entry.place v.plain) }
+    ensures kind { IfOk result (λ v. IsKindAt flat.entry.now spot.entry.place v.kind) }
+    ensures links { OnOk result (HasLinks own flat.entry.now spot.entry.place links.old links.new) }
     ensures branch { OnOk result (IsSameBranch trace.old trace.new) }
 {
     trace.enter(alloc, &spot)?;
@@ -111,10 +110,10 @@ fn walk_on<'a, 's>(
     requires room { length trace.old.places.items ≤ 256 }
     requires starts { HasStarts flat.now trace.old }
     requires spelled { is_misspelled (Some (content_view spot.content)) ≡ false }
-    ensures seen { Sees (written_in flat.entry.now) (walk_written (written_in flat.entry.now) (settle_by (written_in flat.entry.now) (passed (written_in flat.entry.now) trace.old.places.items)) (walked (written_in flat.entry.now) trace.old.places.items) spot.entry.place (Some (content_view spot.entry.content))) trace.old.visits trace.new.visits result }
-    ensures means { IfOk result (λ v. Means (written_in flat.entry.now) spot.entry.place (plain_view v.plain)) }
-    ensures kind { IfOk result (λ v. spot.entry.place.trail ≡ [] → KindOf (written_in flat.entry.now) (own_in flat.entry.now) (group_in flat.entry.now) spot.entry.place.token v.kind) }
-    ensures links { OnOk result (HasGrown own (written_in flat.entry.now) (own_in flat.entry.now) (group_in flat.entry.now) spot.entry.place links.old links.new) }
+    ensures seen { HasSeen flat.entry.now trace.old trace.new result (walking_on spot.entry) }
+    ensures means { IfOk result (λ v. IsMeantAt flat.entry.now spot.entry.place v.plain) }
+    ensures kind { IfOk result (λ v. IsKindAt flat.entry.now spot.entry.place v.kind) }
+    ensures links { OnOk result (HasLinks own flat.entry.now spot.entry.place links.old links.new) }
     ensures branch { OnOk result (IsSameBranch trace.old trace.new) }
 {
     let Spot {
@@ -163,12 +162,14 @@ fn walk_items<'a, 's>(
     trace: &mut Trace<'s>,
     links: &mut Links<'s>,
 ) -> Result<PlainItems<'s>, RefFault<'s>>
-    requires at { IsHolder flat.now place.now token.now (numbered 0 (items_view items)) }
+    requires at { IsHolder flat.now place.now token.now (item_parts items) }
     requires room { length trace.old.places.items ≤ 256 }
     requires starts { HasStarts flat.now trace.old }
-    ensures seen { Sees (written_in flat.entry.now) (visits_each (walked (written_in flat.entry.now) trace.old.places.items) place.now (steps_of (numbered 0 (items_view items.entry)))) trace.old.visits trace.new.visits result }
-    ensures means { IfOk result (λ l. (es : List PlainEntry) × EachMeans (written_in flat.entry.now) place.now (steps_of (numbered 0 (items_view items.entry))) es × (plain_items_view l ≡ map (λ e. e.value) es)) }
-    ensures links { OnOk result (HasGrownEach own (written_in flat.entry.now) (own_in flat.entry.now) (group_in flat.entry.now) place.now (steps_of (numbered 0 (items_view items.entry))) links.old links.new) }
+    ensures seen { HasSeen flat.entry.now trace.old trace.new result
+        (walking_parts place.now (item_parts items.entry)) }
+    ensures means { IfOk result (λ l. ItemsMean flat.entry.now place.now items.entry l) }
+    ensures links { OnOk result
+        (HasLinksOf own flat.entry.now place.now (item_parts items.entry) links.old links.new) }
     ensures branch { OnOk result (IsSameBranch trace.old trace.new) }
 {
     let mut list = PlainItems::new(alloc);
@@ -194,12 +195,14 @@ fn walk_fields<'a, 's>(
     trace: &mut Trace<'s>,
     links: &mut Links<'s>,
 ) -> Result<PlainFields<'s>, RefFault<'s>>
-    requires at { IsHolder flat.now place.now token.now (named (fields_view fields)) }
+    requires at { IsHolder flat.now place.now token.now (field_parts fields) }
     requires room { length trace.old.places.items ≤ 256 }
     requires starts { HasStarts flat.now trace.old }
-    ensures seen { Sees (written_in flat.entry.now) (visits_each (walked (written_in flat.entry.now) trace.old.places.items) place.now (steps_of (named (fields_view fields.entry)))) trace.old.visits trace.new.visits result }
-    ensures means { IfOk result (λ l. EachMeans (written_in flat.entry.now) place.now (steps_of (named (fields_view fields.entry))) (plain_fields_view l)) }
-    ensures links { OnOk result (HasGrownEach own (written_in flat.entry.now) (own_in flat.entry.now) (group_in flat.entry.now) place.now (steps_of (named (fields_view fields.entry))) links.old links.new) }
+    ensures seen { HasSeen flat.entry.now trace.old trace.new result
+        (walking_parts place.now (field_parts fields.entry)) }
+    ensures means { IfOk result (λ l. FieldsMean flat.entry.now place.now fields.entry l) }
+    ensures links { OnOk result
+        (HasLinksOf own flat.entry.now place.now (field_parts fields.entry) links.old links.new) }
     ensures branch { OnOk result (IsSameBranch trace.old trace.new) }
 {
     let mut list = PlainFields::new(alloc);
@@ -237,9 +240,10 @@ fn walk_part<'a, 's>(
     requires at { IsPartAt flat.now place.now token.now step.now (ref_view node) }
     requires room { length trace.old.places.items ≤ 256 }
     requires starts { HasStarts flat.now trace.old }
-    ensures seen { Sees (written_in flat.entry.now) (walked (written_in flat.entry.now) trace.old.places.items (part place.now step.now)) trace.old.visits trace.new.visits result }
-    ensures means { IfOk result (λ v. Means (written_in flat.entry.now) (part place.now step.now) (plain_view v)) }
-    ensures links { OnOk result (HasGrown own (written_in flat.entry.now) (own_in flat.entry.now) (group_in flat.entry.now) (part place.now step.now) links.old links.new) }
+    ensures seen { HasSeen flat.entry.now trace.old trace.new result
+        (walking (part place.now step.now)) }
+    ensures means { IfOk result (λ v. IsMeantAt flat.entry.now (part place.now step.now) v) }
+    ensures links { OnOk result (HasLinks own flat.entry.now (part place.now step.now) links.old links.new) }
     ensures branch { OnOk result (IsSameBranch trace.old trace.new) }
 {
     let spot = part_spot(alloc, place, token, step, node)?;

@@ -3,7 +3,13 @@ use Rattle.std.specs.Prelude.{List, [], ◌∷◌, Bool, true, false, Option, No
 use Rattle.name_path.specs.declared.kind.Kind.{Kind}
 use Rattle.name_path.specs.declared.link.Link.{Link}
 use Rattle.name_path.specs.declared.place.Place.{Place}
+use Rattle.group_inherit.specs.Flattening.{Flattened}
+use Rattle.group_inherit.specs.Merging.{either}
 use Rattle.alias_ref.specs.Written.{Step}
+
+-- the kind of a token whose whole value refers to what lends this one
+abbrev pub kind_with : Flattened → Option Kind → Option Kind
+kind_with f k = either f.def.kind (either k f.group_kind)
 
 -- the kind that a target lends, which it does without steps alone
 abbrev pub lent : Option Kind → List Step → Option Kind

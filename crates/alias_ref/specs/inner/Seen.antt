@@ -1,8 +1,8 @@
 -- What a walk found, against the visits of the definition.
-use Rattle.std.specs.Prelude.{◌≡◌, ℕ, ◌+◌, List, length, true, Option, Some, None, Result, Ok, Err, [], ◌∷◌}
+use Rattle.std.specs.Prelude.{◌≡◌, ℕ, ◌+◌, List, length, true, Option, Some, None, Result, Ok, Err, MatchResult, [], ◌∷◌}
 use Rattle.name_path.specs.declared.place.Place.{Place}
 use Rattle.alias_ref.specs.Written.{Step, Container, parts, Tokens, part, is_written}
-use Rattle.alias_ref.specs.Visits.{Visit, Break, first_break}
+use Rattle.alias_ref.specs.Visits.{Visit, Break, own_break, first_break}
 use Rattle.alias_ref.specs.declared.fault.RefFault.{RefFault}
 use Rattle.alias_ref.specs.declared.fault.RefFault.TheVariants as faults
 
@@ -15,6 +15,10 @@ pub record Clean (T : Tokens) (n m : ℕ) (es : List Visit) : Type 0 where
 abbrev pub IsFault : RefFault → Option Break → Type 0
 IsFault (faults.Broken r p ring) b = b ≡ Some (record { rule = r; place = p; ring = ring })
 IsFault faults.NoMemory b = Unit {0}
+
+-- the visit was begun, where it breaks no rule
+abbrev pub HasBegun : {X : Type 0} → Tokens → ℕ → Visit → Result X RefFault → Type 0
+HasBegun T n v r = MatchResult r (λ _. own_break T n v ≡ None) (λ f. IsFault f (own_break T n v))
 
 abbrev pub Sees : {X : Type 0} → Tokens → List Visit → ℕ → ℕ → Result X RefFault → Type 0
 Sees T es n m (Ok x) = Clean T n m es
