@@ -5,7 +5,7 @@ use Rattle.std.specs.declared.cmp.Ordering.{Ordering}
 use Rattle.std.specs.declared.cmp.Ordering.TheVariants.{Less, Equal, Greater}
 use Rattle.json_span.specs.PlainView.{Value}
 use Rattle.dec_fix.specs.Decimal.{Decimal, IsExact}
-use Rattle.dec_fix.specs.Arithmetic.{IsPart, order_with, whole}
+use Rattle.dec_fix.specs.Arithmetic.{IsFromZeroToOne, order_with, whole}
 use Rattle.name_path.specs.declared.kind.Kind.{Kind}
 use Rattle.name_path.specs.declared.kind.Kind.TheVariants as kind
 use Rattle.type_rules.specs.declared.fault.ValueRule.TheVariants.{StrokeWord, StrokeCap}
@@ -139,7 +139,7 @@ is_greater Greater n = absurd (n refl)
 
 record IsClamped (d n : Decimal) : Type 0 where
   exact : IsExact d → IsExact n
-  part : IsPart n
+  part : IsFromZeroToOne n
 
 zero_exact : IsExact (whole (pos 0))
 zero_exact = record { size = omega arith; places = omega arith; short = inl refl }
@@ -155,10 +155,10 @@ clamped_by d false false e f = record { exact = λ h. h; part = record { low = n
 is_clamped : (d : Decimal) → IsClamped d (clamped d)
 is_clamped d = clamped_by d (is_lt (order_with d 0)) (is_gt (order_with d 1)) refl refl
 
-pub positions_clamp : (d : Decimal) → IsPart (clamped d)
+pub positions_clamp : (d : Decimal) → IsFromZeroToOne (clamped d)
 positions_clamp d = (is_clamped d).part
 
-pub shares_stay : (d : Decimal) → IsPart d → clamped d ≡ d
+pub shares_stay : (d : Decimal) → IsFromZeroToOne d → clamped d ≡ d
 shares_stay d h = rw (is_less (order_with d 0) h.low, is_greater (order_with d 1) h.high) refl
 
 pub stops_keep : (v : Value) (stop : ColorStop) → stop_in v ≡ Ok stop → IsColorStop stop

@@ -1,7 +1,7 @@
 -- Laws over the definitions alone.
 use Rattle.std.specs.Prelude.{◌≡◌, ◌↔◌, ℕ, List, [], ◌∷◌, codes, Some, Ok, Err}
 use Rattle.dec_fix.specs.Decimal.{Decimal}
-use Rattle.dec_fix.specs.Arithmetic.{IsPart}
+use Rattle.dec_fix.specs.Arithmetic.{IsFromZeroToOne}
 use Rattle.json_span.specs.PlainView.{Value, Entry}
 use Rattle.name_path.specs.declared.kind.Kind.{Kind}
 use Rattle.name_path.specs.declared.kind.Kind.TheVariants as kind
@@ -39,10 +39,10 @@ ZerosBreak = (v zero : Value) (es : List Entry) → object_in v ≡ Some es → 
 
 -- a position within 0 to 1 stays, and every other is moved there
 abbrev pub PositionsClamp : Type 0
-PositionsClamp = (d : Decimal) → IsPart (clamped d)
+PositionsClamp = (d : Decimal) → IsFromZeroToOne (clamped d)
 
 abbrev pub SharesStay : Type 0
-SharesStay = (d : Decimal) → IsPart d → clamped d ≡ d
+SharesStay = (d : Decimal) → IsFromZeroToOne d → clamped d ≡ d
 
 -- what stands at a part's steps has the part as its value, under the kind that the part has
 abbrev pub PartsAreTyped : Type 0

@@ -78,3 +78,46 @@ fn table_holds(rt: HostRuntime) -> Result<(), Fail> {
     assert_eq!(rt; count, 362);
     Ok(())
 }
+
+/// How many items a long list has.
+const MANY: u32 = 100_000;
+
+/// Long lists: the kind, the parts of the text, and those of the answer. The second part is that of each item but the last.
+const LONG_LISTS: &[(Kind, [&str; 3], [&str; 3])] = &[
+    (
+        Kind::FontFamily,
+        ["[", r#""Inter","#, r#""serif"]"#],
+        ["", "Inter ", "serif"],
+    ),
+    (
+        Kind::StrokeStyle,
+        [
+            r#"{"dashArray":["#,
+            r#"{"value":1,"unit":"px"},"#,
+            r#"{"value":2,"unit":"rem"}],"lineCap":"round"}"#,
+        ],
+        ["[", "1 px, ", "2 rem] round"],
+    ),
+];
+
+/// The first part, the second once for each item but the last, and the third.
+fn long_text(alloc: Global, parts: &[&str; 3]) -> Result<String, Fail> {
+    let mut text = String::from_str(alloc, parts[0])?;
+    for _ in 1..MANY {
+        text.push_str(parts[1])?;
+    }
+    text.push_str(parts[2])?;
+    Ok(text)
+}
+
+#[test]
+fn long_lists_are_read_to_their_end(rt: HostRuntime) -> Result<(), Fail> {
+    for (kind, text, wanted) in LONG_LISTS {
+        let text = long_text(rt.alloc(), text)?;
+        let wanted = long_text(rt.alloc(), wanted)?;
+        let found = answer(rt.alloc(), *kind, text.as_str())?;
+        assert_eq!(&rt; found.len(), wanted.len());
+        assert!(&rt; found.as_slice() == wanted.as_bytes());
+    }
+    Ok(())
+}

@@ -10,7 +10,7 @@ use Rattle.std.specs.declared.cmp.Ordering.TheVariants.{Less, Equal, Greater}
 use Rattle.std.proofs.lemmas.Bool.Decides.{nat_tests}
 use Rattle.json_span.specs.PlainView.{Value}
 use Rattle.dec_fix.specs.Decimal.{Decimal, IsExact}
-use Rattle.dec_fix.specs.Arithmetic.{IsPart, order_with, whole}
+use Rattle.dec_fix.specs.Arithmetic.{IsFromZeroToOne, order_with, whole}
 use Rattle.dec_fix.specs.Reading.{number_of}
 use Rattle.dec_fix.proofs.ReadingBack.{read_exact}
 use Rattle.name_path.specs.declared.kind.Kind.{Kind}
@@ -64,7 +64,7 @@ not_greater Less t e = cc
 not_greater Equal t e = cc
 not_greater Greater t e = cc
 
-pub shares_are_parts : (d : Decimal) → holds share d ≡ true → IsPart d
+pub shares_are_parts : (d : Decimal) → holds share d ≡ true → IsFromZeroToOne d
 shares_are_parts d t = record {
   low = not_less (order_with d 0) (and_left (is_ge (order_with d 0)) (is_le (order_with d 1)) t);
   high = not_greater (order_with d 1) (and_right (is_ge (order_with d 0)) (is_le (order_with d 1)) t);

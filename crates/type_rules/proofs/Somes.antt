@@ -10,7 +10,7 @@ use Rattle.std.specs.declared.cmp.Ordering.TheVariants.{Less, Equal, Greater}
 use Rattle.json_span.specs.Plain.{plain_number, plain_string, plain_array, plain_object, plains_of, plain_members_of, plains_in}
 use Rattle.json_span.specs.PlainView.{Value, Entry}
 use Rattle.dec_fix.specs.Decimal.{Decimal, IsExact}
-use Rattle.dec_fix.specs.Arithmetic.{IsPart, order_with}
+use Rattle.dec_fix.specs.Arithmetic.{IsFromZeroToOne, order_with}
 use Rattle.dec_fix.specs.Writing.{spelling}
 use Rattle.dec_fix.proofs.ReadingBack.{written_read}
 use Rattle.type_rules.specs.declared.fault.ValueRule.{ValueRule}
@@ -94,7 +94,7 @@ both_true true true e f = refl
 both_true true false e f = f
 both_true false b e f = e
 
-pub share_holds : (d : Decimal) → IsPart d → holds share d ≡ true
+pub share_holds : (d : Decimal) → IsFromZeroToOne d → holds share d ≡ true
 share_holds d h = both_true (is_ge (order_with d 0)) (is_le (order_with d 1)) (ge_from (order_with d 0) h.low) (le_from (order_with d 1) h.high)
 
 -- lengths and durations

@@ -2,7 +2,7 @@
 use Rattle.std.specs.Prelude.{◌≡◌, ◌↔◌, ℕ, ◌<◌, ◌≤◌, ◌^◌, true, List, length, slice_get, Some, Ok, Contains}
 use Rattle.std.specs.Fmt.{decimal}
 use Rattle.dec_fix.specs.Decimal.{Decimal, IsExact}
-use Rattle.dec_fix.specs.Arithmetic.{IsPart}
+use Rattle.dec_fix.specs.Arithmetic.{IsFromZeroToOne}
 use Rattle.json_span.specs.PlainView.{Value}
 use Rattle.name_path.specs.declared.kind.Kind.{Kind}
 use Rattle.type_rules.specs.declared.color.Color.{Color}
@@ -70,7 +70,7 @@ ItemsStand A = (xs : List A) (i : ℕ) → length xs ≤ 2 ^ 64 → i < length x
 
 -- what lies in the range from 0 to 1 is a part of 1
 abbrev pub SharesAreParts : Type 0
-SharesAreParts = (d : Decimal) → holds share d ≡ true → IsPart d
+SharesAreParts = (d : Decimal) → holds share d ≡ true → IsFromZeroToOne d
 
 -- a word stands for what has it as its name, and for nothing else
 abbrev pub SpacesNamed : Type 0

@@ -3,7 +3,7 @@ use Rattle.std.specs.Prelude.{◌≡◌, ◌≢◌, ℕ, true, List, [], Bool, �
 use Rattle.std.specs.Int.{is_in_range}
 use Rattle.std.specs.List.{list_all}
 use Rattle.dec_fix.specs.Decimal.{Decimal, IsExact}
-use Rattle.dec_fix.specs.Arithmetic.{IsPart}
+use Rattle.dec_fix.specs.Arithmetic.{IsFromZeroToOne}
 use Rattle.name_path.specs.declared.kind.Kind.{Kind}
 use Rattle.name_path.specs.declared.kind.Kind.TheVariants as kind
 use Rattle.type_rules.specs.declared.range.Range.{Range}
@@ -34,7 +34,7 @@ pub record IsInRange (range : Range) (d : Decimal) : Type 0 where
 -- a number that is read, from 0 to 1
 pub record IsShare (d : Decimal) : Type 0 where
   pub exact : IsExact d
-  pub part : IsPart d
+  pub part : IsFromZeroToOne d
 
 -- a digit of a hexadecimal number in lower case
 abbrev pub is_hex_digit : ℕ → Bool

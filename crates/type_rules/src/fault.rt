@@ -67,7 +67,7 @@ impl ValueRule {
 }
 
 /// Why a value has no type.
-#[derive(Drop)]
+#[derive(Debug, Drop)]
 pub enum ValueFault<'s> {
     /// The first rule that is broken, and the steps from the value to the part that breaks it: names of members, and
     /// indices of items in decimal digits.
