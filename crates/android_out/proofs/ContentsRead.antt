@@ -2,25 +2,18 @@
 use Rattle.std.proofs.Common.{◌≡◌, ℕ, zero, suc, ◌/◌, ◌%◌, ◌^◌, ◌<◌, ◌==◌, ◌&&◌, Bool, true, false, List, [], ◌∷◌, ◌++◌, length, refl, ◌∙◌, ap, subst, append_assoc, append-nil, Option, Some, arith, ℤ, pos, negsuc, unsigned_abs}
 use Rattle.std.specs.Prelude.{if◌then◌else◌}
 use Rattle.std.specs.Char.{is_ascii_alphabetic, is_ascii_digit, is_ascii_hexdigit, digit_char, digit_value, to_ascii_uppercase}
-use Rattle.std.specs.Fmt.{decimal}
 use Rattle.std.specs.List.{list_all}
-use Rattle.std.specs.Str.{all_ascii_digits}
-use Rattle.std.proofs.Math.Nat.{div-le_self}
-use Rattle.std.proofs.lemmas.Fmt.{decimal_is_IsNumeral_wide}
-use Rattle.std.proofs.lemmas.List.Folds.{list_all-append}
 use Rattle.dec_fix.specs.Decimal.{Decimal, IsDec}
 use Rattle.dec_fix.specs.Following.{ends_number}
-use Rattle.dec_fix.specs.Writing.{spelling, point_and, last_digits}
-use Rattle.dec_fix.proofs.Again.{number_again, decimal-digits, last_digits-digits}
+use Rattle.dec_fix.specs.Writing.{spelling}
+use Rattle.dec_fix.proofs.Again.{both, number_again}
 use Rattle.transforms.specs.Hexadecimal.{hex_byte, hex_color, hex_value}
+use Rattle.transforms.specs.Runs.{PassesNumbers}
+use Rattle.transforms.proofs.RunsAreFronts.{all-append, numbers_pass, numbers_start}
+use Rattle.transforms.proofs.Spelled.{both as together}
 use Rattle.android_out.specs.Element.{Content, color, dimen, integer, item, string, tag_of}
-use Rattle.android_out.specs.Reading.{color_in, starts_digit, starts_number, numbered, is_unit, with_unit, alone, whole_alone, content_in, no_tag}
+use Rattle.android_out.specs.Reading.{color_in, numbered, is_unit, with_unit, alone, whole_alone, content_in, no_tag}
 use Rattle.android_out.specs.Spelling.{content_text}
-use Rattle.android_out.proofs.Runs.{both}
-
-pub together : (a b : Bool) → a ≡ true → b ≡ true → a && b ≡ true
-together true b h i = i
-together false b h i = cc
 
 -- a digit in upper case
 record IsDigit (n : ℕ) : Type 0 where
@@ -74,26 +67,8 @@ color_plain a r g b ha hr hg hb =
     rw (a1.plain, a2.plain, r1.plain, r2.plain, g1.plain, g2.plain, b1.plain, b2.plain) refl
 
 -- numbers
-digits_start : (ds t : List ℕ) → all_ascii_digits ds ≡ true → 0 < length ds → starts_digit (ds ++ t) ≡ true
-digits_start [] t h some = absurd (omega arith)
-digits_start (d ∷ ds) t h some = (both (is_ascii_digit d) (all_ascii_digits ds) h).0
-
-digits_number : (t : List ℕ) → starts_digit t ≡ true → starts_number t ≡ true
-digits_number [] h = cc
-digits_number (c ∷ t) h = grind arith
-
-starts_from : (c : ℤ) (s : ℕ) (t : List ℕ) → unsigned_abs c < 10 ^ 64 → starts_number (spelling (record { c = c; s = s }) ++ t) ≡ true
-starts_from (pos n) s t small =
-    let whole : n / 10 ^ s < 10 ^ 64 = omega (arith, div-le_self n (10 ^ s)) in
-    rw (append_assoc (decimal (n / 10 ^ s)) (point_and n s) t)
-    (digits_number (decimal (n / 10 ^ s) ++ (point_and n s ++ t)) (digits_start (decimal (n / 10 ^ s)) (point_and n s ++ t) (decimal-digits (n / 10 ^ s) whole) ((decimal_is_IsNumeral_wide (n / 10 ^ s) whole).0.0)))
-starts_from (negsuc n) s t small =
-    let whole : suc n / 10 ^ s < 10 ^ 64 = omega (arith, div-le_self (suc n) (10 ^ s)) in
-    rw (append_assoc (decimal (suc n / 10 ^ s)) (point_and (suc n) s) t)
-    (digits_start (decimal (suc n / 10 ^ s)) (point_and (suc n) s ++ t) (decimal-digits (suc n / 10 ^ s) whole) ((decimal_is_IsNumeral_wide (suc n / 10 ^ s) whole).0.0))
-
 number_read : (f : Decimal → List ℕ → Option Content) (d : Decimal) (t : List ℕ) → IsDec d → ends_number t ≡ true → numbered f (spelling d ++ t) ≡ f d t
-number_read f d t h e = rw (starts_from d.c d.s t (omega (arith, h.size))) (ap (λ r. f r.0 r.1) (number_again d t h e))
+number_read f d t h e = rw (numbers_start d t h) (ap (λ r. f r.0 r.1) (number_again d t h e))
 
 alone_read : (f : Decimal → List ℕ → Option Content) (d : Decimal) → IsDec d → numbered f (spelling d) ≡ f d []
 alone_read f d h = let P : List ℕ → Type 0 = λ t. numbered f t ≡ f d [] in subst P (append-nil (spelling d)) (number_read f d [] h refl)
@@ -105,29 +80,11 @@ unit_ends (c ∷ w) h = let l = both (is_ascii_alphabetic c) (list_all is_ascii_
 dimen_read : (d : Decimal) (u : List ℕ) → IsDec d → is_unit u ≡ true → numbered with_unit (spelling d ++ u) ≡ Some (dimen d u)
 dimen_read d u h is = number_read with_unit d u h (unit_ends u is) ∙ rw is refl
 
-digits_plain : (ds : List ℕ) → all_ascii_digits ds ≡ true → list_all no_tag ds ≡ true
-digits_plain [] h = refl
-digits_plain (d ∷ ds) h =
-    let l = both (is_ascii_digit d) (all_ascii_digits ds) h in let a : no_tag d ≡ true = grind (arith, l.0) in together (no_tag d) (list_all no_tag ds) a (digits_plain ds l.1)
-
-all-append : (xs ys : List ℕ) → list_all no_tag xs ≡ true → list_all no_tag ys ≡ true → list_all no_tag (xs ++ ys) ≡ true
-all-append xs ys h i = list_all-append no_tag xs ys ∙ together (list_all no_tag xs) (list_all no_tag ys) h i
-
-point_plain : (b : Bool) (n s : ℕ) → list_all no_tag (if b then [] else 46 ∷ last_digits s n) ≡ true
-point_plain true n s = refl
-point_plain false n s = digits_plain (last_digits s n) (last_digits-digits s n)
-
-size_plain : (n s : ℕ) → n < 10 ^ 64 → list_all no_tag (decimal (n / 10 ^ s) ++ point_and n s) ≡ true
-size_plain n s small =
-    let whole : n / 10 ^ s < 10 ^ 64 = omega (arith, div-le_self n (10 ^ s)) in
-    all-append (decimal (n / 10 ^ s)) (point_and n s) (digits_plain (decimal (n / 10 ^ s)) (decimal-digits (n / 10 ^ s) whole)) (point_plain (s == 0) n s)
-
-plain_from : (c : ℤ) (s : ℕ) → unsigned_abs c < 10 ^ 64 → list_all no_tag (spelling (record { c = c; s = s })) ≡ true
-plain_from (pos n) s small = size_plain n s small
-plain_from (negsuc n) s small = size_plain (suc n) s small
+no_tag_passes : PassesNumbers no_tag
+no_tag_passes = record { digit = λ c h. grind arith; minus = refl; point = refl }
 
 number_plain : (d : Decimal) → IsDec d → list_all no_tag (spelling d) ≡ true
-number_plain d h = plain_from d.c d.s (omega (arith, h.size))
+number_plain d h = numbers_pass no_tag no_tag_passes d h
 
 letters_plain : (w : List ℕ) → list_all is_ascii_alphabetic w ≡ true → list_all no_tag w ≡ true
 letters_plain [] h = refl
@@ -155,7 +112,7 @@ fine_read (fine_string t h) = refl
 
 pub fine_plain : {c : Content} → IsFine c → list_all no_tag (content_text c) ≡ true
 fine_plain (fine_color a r g b ha hr hg hb) = color_plain a r g b ha hr hg hb
-fine_plain (fine_dimen d u h is) = all-append (spelling d) u (number_plain d h) (unit_plain u is)
+fine_plain (fine_dimen d u h is) = all-append no_tag (spelling d) u (number_plain d h) (unit_plain u is)
 fine_plain (fine_integer d h whole) = number_plain d h
 fine_plain (fine_item d h) = number_plain d h
 fine_plain (fine_string t h) = h

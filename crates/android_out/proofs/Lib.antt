@@ -3,7 +3,6 @@ pub mod ContentsRead
 pub mod FiveLines
 pub mod OneReading
 pub mod OwnNamesApart
-pub mod Runs
 pub mod SheetsDenote
 pub mod SpelledIsRead
 pub mod TextsRead

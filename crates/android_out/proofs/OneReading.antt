@@ -3,11 +3,12 @@ use Rattle.std.proofs.Common.{◌≡◌, ◌==◌, ◌&&◌, nat_lt, length, ℕ
 use Rattle.std.specs.Prelude.{if◌then◌else◌}
 use Rattle.std.specs.List.{list_all}
 use Rattle.std.proofs.lemmas.List.{append_cancel_left, append_cancel_right}
-use Rattle.transforms.specs.PlatformName.{is_kept, is_identifier, begins_with_digit}
+use Rattle.transforms.specs.PlatformName.{is_kept}
 use Rattle.transforms.specs.declared.platform.Platform.TheVariants.{Android}
+use Rattle.transforms.proofs.Endings.{kept_name}
+use Rattle.transforms.proofs.RunsAreFronts.{runs_once}
 use Rattle.android_out.specs.Element.{Content, Values, Tag, color_tag, dimen_tag, integer_tag, item_tag, string_tag, tag_of, tag_name, attributes, element_text}
 use Rattle.android_out.specs.Reading.{content_in, no_tag, IsElement, is_blank, after_comment, Block, ended, blank, comment, element, head, foot, Reads}
-use Rattle.android_out.proofs.Runs.{both, runs_once}
 
 -- the tag whose name begins so
 abbrev tag_at : List ℕ → Option Tag
@@ -54,9 +55,6 @@ spread tag name inside t =
     ∙ ap (λ x. name ++ (q ++ x))
     (append_assoc inside (s ++ (a ++ g)) t
     ∙ ap (λ x. inside ++ (s ++ x)) (append_assoc a g t)))))
-
-kept_name : (name : List ℕ) → is_identifier name ≡ true → list_all (is_kept Android) name ≡ true
-kept_name name h = (both (not (begins_with_digit name)) (list_all (is_kept Android) name) (both (nat_lt 0 (length name)) (not (begins_with_digit name) && list_all (is_kept Android) name) h).1).1
 
 -- two elements before others
 pub record AreSame (name other : List ℕ) (content another : Content) (s t : List ℕ) : Type 0 where

@@ -1,12 +1,13 @@
 -- What is spelled is read as it is.
-use Rattle.std.proofs.Common.{◌≡◌, ℕ, ◌==◌, ◌&&◌, not, Bool, true, false, List, [], ◌∷◌, ◌++◌, flat_map, refl, subst, append_assoc, codes, Some, arith, nat_lt, length}
+use Rattle.std.proofs.Common.{◌≡◌, ℕ, ◌==◌, not, Bool, true, false, List, [], ◌∷◌, ◌++◌, flat_map, refl, subst, append_assoc, codes, Some, arith}
 use Rattle.std.specs.List.{list_all, AllByRecursion}
-use Rattle.transforms.specs.PlatformName.{is_kept, is_identifier, begins_with_digit}
+use Rattle.dec_fix.proofs.Again.{both}
+use Rattle.transforms.specs.PlatformName.{is_kept, is_identifier}
 use Rattle.transforms.specs.declared.platform.Platform.TheVariants.{Android}
+use Rattle.transforms.proofs.Endings.{kept_name}
 use Rattle.android_out.specs.Element.{Content, Values, tag_of, element_text}
 use Rattle.android_out.specs.Reading.{content_in, no_tag, IsElement, after_comment, Block, ended, blank, comment, element}
 use Rattle.android_out.specs.Spelling.{content_text, line_text, omitted_text, body_text}
-use Rattle.android_out.proofs.Runs.{both}
 
 -- a name and a content that are read as they are spelled
 pub record IsSpellable (v : List ℕ × Content) : Type 0 where
@@ -46,11 +47,10 @@ named_no_hyphen (c ∷ n) h =
 
 omitted_read : (n : List ℕ) → is_identifier n ≡ true → Block (omitted_text n) []
 omitted_read n h =
-    let kept = (both (not (begins_with_digit n)) (list_all (is_kept Android) n) (both (nat_lt 0 (length n)) (not (begins_with_digit n) && list_all (is_kept Android) n) h).1).1 in
     let inside = codes " omitted " ++ (n ++ codes " -->\n") in
     let P : List ℕ → Type 0 = λ s. after_comment (codes " omitted " ++ s) ≡ Some (codes "\n") in
     let closes : after_comment inside ≡ Some (codes "\n") =
-    subst P (append_assoc n (codes " ") (codes "-->\n")) (past (codes " omitted " ++ (n ++ codes " ")) (codes "\n") (named_no_hyphen n kept)) in
+    subst P (append_assoc n (codes " ") (codes "-->\n")) (past (codes " omitted " ++ (n ++ codes " ")) (codes "\n") (named_no_hyphen n (kept_name n h))) in
     let end : Block (codes "\n") [] = blank (codes "\n") 10 [] [] refl refl (ended [] refl) in
     let whole = codes "<!--" ++ inside in
     blank _ 32 (32 ∷ whole) [] refl refl (blank _ 32 whole [] refl refl (comment whole inside (codes "\n") [] refl closes end))

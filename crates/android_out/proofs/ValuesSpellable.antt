@@ -6,18 +6,21 @@ use Rattle.std.specs.List.{list_all, AllByRecursion}
 use Rattle.std.specs.Option.{option_or}
 use Rattle.std.specs.Ordering.{int_cmp}
 use Rattle.std.specs.declared.cmp.Ordering.TheVariants.{Less, Equal, Greater}
-use Rattle.std.proofs.Math.Nat.{div-le_self, div-lt_iff_lt-mul, mul-le-mul_left}
+use Rattle.std.proofs.Math.Nat.{div-lt_iff_lt-mul}
 use Rattle.std.proofs.lemmas.Bool.Decides.{nat_tests}
-use Rattle.dec_fix.specs.Decimal.{Decimal, IsDec, IsExact, is_negative, shortest, decimal_of}
-use Rattle.dec_fix.specs.Arithmetic.{IsPart, times, whole_of, byte_of}
-use Rattle.dec_fix.proofs.OneShortest.{shortest-short}
-use Rattle.dec_fix.proofs.SameNumber.{unsigned_abs-signed, ten_above}
+use Rattle.dec_fix.specs.Decimal.{Decimal, IsDec, IsExact}
+use Rattle.dec_fix.specs.Arithmetic.{IsFromZeroToOne, times, whole_of, byte_of}
+use Rattle.dec_fix.proofs.Again.{both}
+use Rattle.dec_fix.proofs.SameNumber.{ten_above}
 use Rattle.transforms.specs.Config.{Settings}
+use Rattle.transforms.specs.FiveNames.{family_end, size_end, weight_end, spacing_end, height_end}
 use Rattle.transforms.specs.Hexadecimal.{hex_value}
 use Rattle.transforms.specs.PlatformName.{is_kept, is_identifier}
 use Rattle.transforms.specs.Scaling.{scaled}
 use Rattle.transforms.specs.declared.platform.Platform.TheVariants.{Android}
 use Rattle.transforms.proofs.Endings.{endings_stay}
+use Rattle.transforms.proofs.ScaledAreWritten.{exact_dec, times_dec, scaled_dec}
+use Rattle.transforms.proofs.Spelled.{both as together}
 use Rattle.type_rules.specs.Ranges.{ranges_of, share}
 use Rattle.type_rules.specs.Sound.{IsColor, IsSize, IsInRange, IsSimple, IsHex, is_hex_digit}
 use Rattle.type_rules.proofs.Kept.{shares_are_parts}
@@ -34,12 +37,11 @@ use Rattle.composite_rules.specs.declared.typed.Typed.{Typed}
 use Rattle.composite_rules.specs.declared.typed.Typed.TheVariants as typed
 use Rattle.composite_rules.specs.declared.typography.Typography.{Typography}
 use Rattle.android_out.specs.Element.{Content, color, integer, item, string}
-use Rattle.android_out.specs.PlatformValue.{is_srgb, component_color, digits_color, color_content, is_rem, size_content, whole_content, milliseconds_in, is_plain_char, are_words, family_content, simple_content, family_end, size_end, weight_end, spacing_end, height_end, one_value, unless_omitted, android_values}
+use Rattle.android_out.specs.PlatformValue.{is_srgb, component_color, digits_color, color_content, is_rem, size_content, whole_content, milliseconds_in, is_plain_char, are_words, family_content, simple_content, one_value, unless_omitted, android_values}
 use Rattle.android_out.specs.Reading.{no_tag, is_unit}
 use Rattle.android_out.specs.inner.Written.{when_some, words_from}
-use Rattle.android_out.proofs.Runs.{both}
 use Rattle.android_out.proofs.Words.{words_by_bytes}
-use Rattle.android_out.proofs.ContentsRead.{together, IsFine, fine_color, fine_dimen, fine_integer, fine_item, fine_string, fine_read, fine_plain}
+use Rattle.android_out.proofs.ContentsRead.{IsFine, fine_color, fine_dimen, fine_integer, fine_item, fine_string, fine_read, fine_plain}
 use Rattle.android_out.proofs.SpelledIsRead.{IsSpellable}
 
 -- bytes of parts
@@ -56,7 +58,7 @@ byte_from (pos n) s low high =
     let above : 0 < 2 * 10 ^ s = omega (arith, some) in
     (div-lt_iff_lt-mul above).1 (omega (arith, most, some))
 
-byte_fits : (d : Decimal) → IsPart d → byte_of d < 256
+byte_fits : (d : Decimal) → IsFromZeroToOne d → byte_of d < 256
 byte_fits d h = byte_from d.c d.s h.low h.high
 
 -- bytes of two digits
@@ -78,7 +80,7 @@ fine_if : (b : Bool) (o : Option Content) → (b ≡ true → AreFine o) → Are
 fine_if true o h = h refl
 fine_if false o h = tt
 
-fine_components : (alpha : Decimal) (x y z : Option Decimal) → IsPart alpha → IfSome x (IsInRange share) → IfSome y (IsInRange share) → IfSome z (IsInRange share)
+fine_components : (alpha : Decimal) (x y z : Option Decimal) → IsFromZeroToOne alpha → IfSome x (IsInRange share) → IfSome y (IsInRange share) → IfSome z (IsInRange share)
     → AreFine (option_and_then (λ red. option_and_then (λ green. option_map (λ blue. color (byte_of alpha) (byte_of red) (byte_of green) (byte_of blue)) z) y) x)
 fine_components alpha None y z h i j k = tt
 fine_components alpha (Some r) None z h i j k = tt
@@ -128,7 +130,7 @@ fine_digits alpha (a ∷ b ∷ c ∷ d ∷ e ∷ f ∷ []) h i =
     fine_color alpha _ _ _ h (pair_fits a b p.0 q.0) (pair_fits c d r.0 s.0) (pair_fits e f t.0 u.0)
 fine_digits alpha (a ∷ b ∷ c ∷ d ∷ e ∷ f ∷ g ∷ more) h i = tt
 
-fine_hex : (alpha : Decimal) (hex : Option (List ℕ)) → IsPart alpha → IfSome hex IsHex → AreFine (option_and_then (digits_color (byte_of alpha)) hex)
+fine_hex : (alpha : Decimal) (hex : Option (List ℕ)) → IsFromZeroToOne alpha → IfSome hex IsHex → AreFine (option_and_then (digits_color (byte_of alpha)) hex)
 fine_hex alpha None h i = tt
 fine_hex alpha (Some digits) h i = fine_digits (byte_of alpha) digits (byte_fits alpha h) i.lower
 
@@ -137,36 +139,6 @@ fine_colors c h = fine_or (if is_srgb c.space then component_color c else None) 
     (fine_if (is_srgb c.space) (component_color c) (fine_srgb c h)) (fine_hex c.alpha c.hex h.alpha.part h.hex)
 
 -- numbers
-exact_dec : (d : Decimal) → IsExact d → IsDec d
-exact_dec d h = record { size = omega (arith, h.size); places = omega (arith, h.places); short = h.short }
-
-shortest_if : (b : Bool) (n s : ℕ) (p : ℕ × ℕ) → (p.0 ≤ n / 10) × (p.1 ≤ s) → ((if b then p else (n, suc s)).0 ≤ n) × ((if b then p else (n, suc s)).1 ≤ suc s)
-shortest_if true n s p h = (omega (arith, h.0, div-le_self n 10), omega (arith, h.1))
-shortest_if false n s p h = (omega arith, omega arith)
-
-shortest_within : (n s : ℕ) → ((shortest n s).0 ≤ n) × ((shortest n s).1 ≤ s)
-shortest_within n zero = (omega arith, omega arith)
-shortest_within n (suc s) = shortest_if (n % 10 == 0) n s (shortest (n / 10) s) (shortest_within (n / 10) s)
-
-made_dec : (b : Bool) (n s : ℕ) → n < 10 ^ 33 → s ≤ 33 → IsDec (decimal_of b n s)
-made_dec b n s h k =
-    let w = shortest_within n s in
-    record {
-      size = rw (unsigned_abs-signed b (shortest n s).0) (omega (arith, w.0, h));
-      places = omega (arith, w.1, k);
-      short = rw (unsigned_abs-signed b (shortest n s).0) (shortest-short n s);
-    }
-
-product : (c k : ℕ) → c < 10 ^ 30 → k ≤ 1000 → c * k < 10 ^ 33
-product c k h i = let most : c * k ≤ c * 1000 = mul-le-mul_left c i in omega (arith, most, h)
-
-times_dec : (d : Decimal) (k : ℕ) → IsExact d → k ≤ 1000 → IsDec (times d k)
-times_dec d k h i = made_dec (is_negative d.c) (unsigned_abs d.c * k) d.s (product (unsigned_abs d.c) k h.size i) (omega (arith, h.places))
-
-scaled_dec : (d : Decimal) (b : Bool) (k : ℕ) → IsExact d → k < 2 ^ 8 → IsDec (scaled d b k)
-scaled_dec d true k h i = times_dec d k h (omega (arith, i))
-scaled_dec d false k h i = exact_dec d h
-
 fine_size : (settings : Settings) (unit : List ℕ) (s : Size) → settings.rem_base < 2 ^ 8 → is_unit unit ≡ true → IsSize s → IsFine (size_content settings unit s)
 fine_size settings unit s base is h = fine_dimen (scaled s.value (is_rem s.unit) settings.rem_base) unit (scaled_dec s.value (is_rem s.unit) settings.rem_base h base) is
 
@@ -225,14 +197,14 @@ five_spellable : (settings : Settings) (name : List ℕ) (t : Typography) (famil
 five_spellable settings name t None weight base h n f w = tt
 five_spellable settings name t (Some family) None base h n f w = tt
 five_spellable settings name t (Some family) (Some weight) base h n f w = (
-  spellable (name ++ family_end) family (ended name family_end n refl) f,
+  spellable (name ++ family_end Android) family (ended name (family_end Android) n refl) f,
   (
-    spellable (name ++ size_end) (size_content settings (codes "sp") t.size) (ended name size_end n refl) (fine_size settings (codes "sp") t.size base refl h.size),
+    spellable (name ++ size_end Android) (size_content settings (codes "sp") t.size) (ended name (size_end Android) n refl) (fine_size settings (codes "sp") t.size base refl h.size),
     (
-      spellable (name ++ weight_end) weight (ended name weight_end n refl) w,
+      spellable (name ++ weight_end Android) weight (ended name (weight_end Android) n refl) w,
       (
-        spellable (name ++ spacing_end) (size_content settings (codes "dp") t.spacing) (ended name spacing_end n refl) (fine_size settings (codes "dp") t.spacing base refl h.spacing),
-        (spellable (name ++ height_end) (item t.line_height) (ended name height_end n refl) (fine_item t.line_height (exact_dec t.line_height h.line_height)), tt),
+        spellable (name ++ spacing_end Android) (size_content settings (codes "dp") t.spacing) (ended name (spacing_end Android) n refl) (fine_size settings (codes "dp") t.spacing base refl h.spacing),
+        (spellable (name ++ height_end Android) (item t.line_height) (ended name (height_end Android) n refl) (fine_item t.line_height (exact_dec t.line_height h.line_height)), tt),
       ),
     ),
   ),

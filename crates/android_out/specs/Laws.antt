@@ -6,7 +6,7 @@ use Rattle.transforms.specs.PlatformName.{is_identifier}
 use Rattle.transforms.specs.Sheet.{sheet_text}
 use Rattle.composite_rules.specs.Sound.{IsTyped}
 use Rattle.composite_rules.specs.declared.typed.Typed.{Typed}
-use Rattle.android_out.specs.Lists.{AreApart}
+use Rattle.ring.specs.Lists.{AreApart}
 use Rattle.android_out.specs.Element.{Values}
 use Rattle.android_out.specs.Reading.{Block, Reads}
 use Rattle.android_out.specs.Spelling.{android_name, fragment_values, fragment_names, fragment_text}

@@ -1,4 +1,3 @@
-pub mod Lists
 pub mod Element
 pub mod PlatformValue
 pub mod Spelling

@@ -6,8 +6,10 @@ use Rattle.std.specs.Option.{option_or}
 use Rattle.dec_fix.specs.Decimal.{Decimal}
 use Rattle.dec_fix.specs.Arithmetic.{times, whole_of, byte_of}
 use Rattle.transforms.specs.Config.{Settings}
+use Rattle.transforms.specs.FiveNames.{family_end, size_end, weight_end, spacing_end, height_end}
 use Rattle.transforms.specs.Hexadecimal.{hex_value}
 use Rattle.transforms.specs.Scaling.{scaled}
+use Rattle.transforms.specs.declared.platform.Platform.TheVariants.{Android}
 use Rattle.type_rules.specs.declared.color.Color.{Color}
 use Rattle.type_rules.specs.declared.simple.Simple.{Simple}
 use Rattle.type_rules.specs.declared.simple.Simple.TheVariants as simple
@@ -97,29 +99,13 @@ simple_content settings (simple.Duration t) = time_content t
 simple_content settings (simple.CubicBezier c) = None
 simple_content settings (simple.Number d) = Some (item d)
 
--- what stands behind the name of a typography in the names of its five values
-abbrev pub family_end : List ℕ
-family_end = codes "_font_family"
-
-abbrev pub size_end : List ℕ
-size_end = codes "_font_size"
-
-abbrev pub weight_end : List ℕ
-weight_end = codes "_font_weight"
-
-abbrev pub spacing_end : List ℕ
-spacing_end = codes "_letter_spacing"
-
-abbrev pub height_end : List ℕ
-height_end = codes "_line_height"
-
 abbrev pub five_values : Settings → List ℕ → Typography → Content → Content → Values
 five_values settings name t family weight =
-    (name ++ family_end, family)
-    ∷ (name ++ size_end, size_content settings (codes "sp") t.size)
-    ∷ (name ++ weight_end, weight)
-    ∷ (name ++ spacing_end, size_content settings (codes "dp") t.spacing)
-    ∷ (name ++ height_end, item t.line_height) ∷ []
+    (name ++ family_end Android, family)
+    ∷ (name ++ size_end Android, size_content settings (codes "sp") t.size)
+    ∷ (name ++ weight_end Android, weight)
+    ∷ (name ++ spacing_end Android, size_content settings (codes "dp") t.spacing)
+    ∷ (name ++ height_end Android, item t.line_height) ∷ []
 
 abbrev pub one_value : List ℕ → Option Content → Values
 one_value name None = []

@@ -1,12 +1,13 @@
 -- How a resource file is read, in the profile of XML that outputs keep to: one block of elements, each with a name. Blanks,
 -- newlines and comments between them give nothing. Nothing here knows of tokens or kinds.
 use Rattle.std.specs.Prelude.{◌≡◌, ℕ, ◌==◌, ◌&&◌, ◌||◌, not, Bool, true, false, List, [], ◌∷◌, ◌++◌, codes, Option, Some, None, if◌then◌else◌}
-use Rattle.std.specs.Char.{is_ascii_alphabetic, is_ascii_digit, is_ascii_hexdigit}
+use Rattle.std.specs.Char.{is_ascii_alphabetic, is_ascii_hexdigit}
 use Rattle.std.specs.List.{list_all}
 use Rattle.dec_fix.specs.Decimal.{Decimal}
 use Rattle.dec_fix.specs.Following.{number_at}
 use Rattle.transforms.specs.Hexadecimal.{hex_value}
 use Rattle.transforms.specs.PlatformName.{is_identifier}
+use Rattle.transforms.specs.Runs.{starts_number}
 use Rattle.android_out.specs.Element.{Content, color, dimen, integer, item, string, Values, Tag, color_tag, dimen_tag, integer_tag, item_tag, string_tag, tag_of, element_text}
 
 -- `#` and eight hexadecimal digits
@@ -20,15 +21,6 @@ eight_digits digits = None
 abbrev pub color_in : List ℕ → Option Content
 color_in [] = None
 color_in (c ∷ t) = if c == 35 then eight_digits t else None
-
--- a number begins with a digit, or with `-` and a digit
-abbrev pub starts_digit : List ℕ → Bool
-starts_digit [] = false
-starts_digit (c ∷ t) = is_ascii_digit c
-
-abbrev pub starts_number : List ℕ → Bool
-starts_number [] = false
-starts_number (c ∷ t) = is_ascii_digit c || ((c == 45) && starts_digit t)
 
 -- a number of any length and what follows it
 abbrev pub numbered : (Decimal → List ℕ → Option Content) → List ℕ → Option Content

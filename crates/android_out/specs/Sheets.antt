@@ -4,10 +4,10 @@ use Rattle.name_path.specs.Names.{IsTokenPath}
 use Rattle.transforms.specs.Clash.{Named, ShareNoName}
 use Rattle.transforms.specs.Config.{Settings}
 use Rattle.transforms.specs.PlatformName.{is_identifier}
-use Rattle.transforms.specs.Sheet.{FrameData, sheet_text}
+use Rattle.transforms.specs.Sheet.{FrameData, plain_frame, sheet_text}
 use Rattle.composite_rules.specs.Sound.{IsTyped}
 use Rattle.composite_rules.specs.declared.typed.Typed.{Typed}
-use Rattle.android_out.specs.Lists.{AreApart, Each}
+use Rattle.ring.specs.Lists.{AreApart, Each}
 use Rattle.android_out.specs.Element.{Values, value_names}
 use Rattle.android_out.specs.Reading.{head, foot, Block, Reads}
 use Rattle.android_out.specs.Spelling.{android_name, fragment_values, fragment_names, fragment_text}
@@ -27,7 +27,7 @@ pub record Cell : Type 0 where
 
 -- what stands around the texts
 abbrev pub android_frame : FrameData
-android_frame = record { head = head; glue = []; last = []; tail = foot }
+android_frame = plain_frame head foot
 
 module _ (settings : Settings) where
   abbrev pub cell_text : Cell → List ℕ

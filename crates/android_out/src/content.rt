@@ -77,7 +77,8 @@ fn digits_color(alpha: u8, digits: &[u8; 6]) -> Content<'static>
 
 fn hex_color(color: &Color) -> Option<Content<'static>>
     requires { IsColor color.now }
-    ensures { option_map content_view result ≡ option_and_then (digits_color (byte_of color.now.alpha)) color.now.hex }
+    ensures { option_map content_view result
+        ≡ option_and_then (digits_color (byte_of color.now.alpha)) color.now.hex }
 {
     match &color.hex {
         Some(digits) => Some(digits_color(color.alpha.to_byte(), digits)),

@@ -37,7 +37,8 @@ impl Content<'_> {
     }
 
     fn append_start(&self, name: &[u8], out: &mut Bytes) -> Result<(), NoMemory>
-        ensures { OnOk result (out.new ≡ out.old ++ start_text (tag_of (content_view self.now)) name.now) }
+        ensures { OnOk result (out.new
+            ≡ out.old ++ start_text (tag_of (content_view self.now)) name.now) }
     {
         out.append(b"  <")?;
         out.append(self.tag().as_bytes())?;

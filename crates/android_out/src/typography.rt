@@ -11,16 +11,7 @@ use crate::content::{Content, size_content};
 use composite_rules::Typography;
 use std::alloc::Global;
 use tk_io::{Bytes, NoMemory};
-use transforms::{Config, Frag, Names};
-
-fn ended(alloc: Global, name: &[u8], ending: &str) -> Result<Bytes, NoMemory>
-    ensures { IfOk result (λ b. b ≡ name.now ++ ending.now) }
-{
-    let mut ended = Bytes::new(alloc);
-    ended.append(name)?;
-    ended.append(ending.as_bytes())?;
-    Ok(ended)
-}
+use transforms::{Config, Frag, Names, name_with_ending};
 
 // Adds the element of the name with this ending.
 fn add(
@@ -30,10 +21,12 @@ fn add(
     ending: &str,
     content: &Content<'_>,
 ) -> Result<(), NoMemory>
-    ensures names { OnOk result (lines.new.names ≡ lines.old.names ++ (name.now ++ ending.now) ∷ []) }
-    ensures body { OnOk result (lines.new.body ≡ lines.old.body ++ line_text (name.now ++ ending.now, content_view content.now)) }
+    ensures names { OnOk result (lines.new.names
+        ≡ lines.old.names ++ (name.now ++ ending.now) ∷ []) }
+    ensures body { OnOk result (lines.new.body
+        ≡ lines.old.body ++ line_text (name.now ++ ending.now, content_view content.now)) }
 {
-    let name = ended(alloc, name, ending)?;
+    let name = name_with_ending(alloc, name, ending)?;
     content.append_line(name.as_slice(), &mut lines.body)?;
     lines.names.push(name)?;
     Ok(())

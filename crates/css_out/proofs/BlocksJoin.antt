@@ -7,8 +7,11 @@ use Rattle.dec_fix.specs.Decimal.{Decimal, decimal_of}
 use Rattle.dec_fix.specs.Spelling.{value}
 use Rattle.dec_fix.specs.Reading.{digits_front, digits_rest}
 use Rattle.dec_fix.specs.Following.{fraction_after, unsigned_at}
+use Rattle.transforms.specs.Quoted.{string_from}
+use Rattle.transforms.specs.Runs.{front, rest, starts_digit}
+use Rattle.transforms.proofs.QuotedReadsBack.{Longer, string_more}
 use Rattle.css_out.specs.Piece.{Piece, mark, var, number, percent, unit, word, opens, closes, comma, slash}
-use Rattle.css_out.specs.Reading.{in_word, in_name, is_some, front, rest, closed_name, var_at, is_var, worded, with_first, string_from, string_piece, measured, numbered, starts_digit, starts_star, piece_at, is_blank, after_comment, skip_star, Step, stop, skip, take, wrong, skipped, taken, step, Pieces, stops, skips, takes, colon, Colon, meets, misses, Declared, Turn, over, pass, names, other, passed, named, dashed, turn, tail, Block, ended, passes, declared}
+use Rattle.css_out.specs.Reading.{in_word, in_name, is_some, closed_name, var_at, is_var, worded, string_piece, measured, numbered, starts_star, piece_at, is_blank, after_comment, skip_star, Step, stop, skip, take, wrong, skipped, taken, step, Pieces, stops, skips, takes, colon, Colon, meets, misses, Declared, Turn, over, pass, names, other, passed, named, dashed, turn, tail, Block, ended, passes, declared}
 
 -- runs of bytes
 run_by : (b : Bool) (c d : ℕ) (f g r q s u t : List ℕ) → (if b then r else c ∷ s) ≡ d ∷ u → (r ≡ d ∷ u → (g ≡ f) × (q ≡ d ∷ (u ++ t)))
@@ -136,25 +139,6 @@ number_more negative s t [] e = inl refl
 number_more negative s t (c ∷ u) e = let (a, b) = digits-more s t c u e in rw (a, b) (point_more negative (digits_front s) c u t (digits_rest u) refl)
 
 -- strings
-abbrev Longer : List ℕ → Option (List ℕ × List ℕ) → Option (List ℕ × List ℕ) → Type 0
-Longer t None y = Unit {0}
-Longer t (Some r) y = y ≡ Some (r.0, r.1 ++ t)
-
-longer_if : (t : List ℕ) (b : Bool) (x y v w : Option (List ℕ × List ℕ)) → Longer t x v → Longer t y w → Longer t (if b then x else y) (if b then v else w)
-longer_if t true x y v w h i = h
-longer_if t false x y v w h i = i
-
-longer_first : (c : ℕ) (t : List ℕ) (x y : Option (List ℕ × List ℕ)) → Longer t x y → Longer t (with_first c x) (with_first c y)
-longer_first c t None y h = tt
-longer_first c t (Some r) y h = ap (with_first c) h
-
-string_more : (b : Bool) (s t : List ℕ) → Longer t (string_from b s) (string_from b (s ++ t))
-string_more b [] t = tt
-string_more true (c ∷ s) t = longer_first c t (string_from false s) (string_from false (s ++ t)) (string_more false s t)
-string_more false (c ∷ s) t = longer_if t (c == 34) (Some ([], s)) _ (Some ([], s ++ t)) _ refl
-    (longer_if t (c == 92) (string_from true s) _ (string_from true (s ++ t)) _ (string_more true s t)
-    (longer_first c t (string_from false s) (string_from false (s ++ t)) (string_more false s t)))
-
 string_taken : (t : List ℕ) (x y : Option (List ℕ × List ℕ)) → Longer t x y → Grown t (taken (string_piece x)) (taken (string_piece y))
 string_taken t None y h = tt
 string_taken t (Some r) y h = inr (ap (λ z. taken (string_piece z)) h)

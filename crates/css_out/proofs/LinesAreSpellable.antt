@@ -31,6 +31,8 @@ use Rattle.type_rules.specs.declared.space.Space.TheVariants.{Srgb, SrgbLinear, 
 use Rattle.type_rules.specs.declared.time.Time.{Time}
 use Rattle.type_rules.specs.declared.time.TimeUnit.{TimeUnit}
 use Rattle.type_rules.specs.declared.time.TimeUnit.TheVariants.{Ms, S}
+use Rattle.transforms.specs.FiveNames.{family_end, size_end, weight_end, spacing_end, height_end}
+use Rattle.transforms.proofs.ScaledAreWritten.{exact_dec, times_dec}
 use Rattle.composite_rules.specs.Sound.{kind_of, IsBorder, IsTransition, IsShadowItem, IsColorStop, IsTyped}
 use Rattle.composite_rules.specs.Words.{stroke_word_name}
 use Rattle.composite_rules.specs.declared.border.Border.{Border}
@@ -47,7 +49,7 @@ use Rattle.css_out.specs.Piece.{Mark, Piece, mark, var, number, unit, string, wo
 use Rattle.css_out.specs.Reading.{is_var, are_closed}
 use Rattle.css_out.specs.Links.{link_for, item_link}
 use Rattle.css_out.specs.Parts.{Part, shown_part, shown, Entry, declaration}
-use Rattle.css_out.specs.PlatformValue.{size_marks, time_marks, number_marks, curve_marks, function_name, space_marks, has_percents, component_mark, component_marks, alpha_marks, color_marks, listed, is_generic, family_marks, families_marks, simple_marks, stroke_marks, border_marks, transition_marks, inset_marks, shadow_marks, position_mark, stop_marks, family_end, size_end, weight_end, spacing_end, height_end, can_spell}
+use Rattle.css_out.specs.PlatformValue.{size_marks, time_marks, number_marks, curve_marks, function_name, space_marks, has_percents, component_mark, component_marks, alpha_marks, color_marks, listed, is_generic, family_marks, families_marks, simple_marks, stroke_marks, border_marks, transition_marks, inset_marks, shadow_marks, position_mark, stop_marks, can_spell}
 use Rattle.css_out.specs.Fragment.{css_name, part, unless_linked, behind_commas, listed_parts, is_only, border_parts, transition_parts, shadow_parts, stop_parts, value_parts, typography_part, typography_line, lines_of, entries}
 use Rattle.css_out.proofs.SpellablePieces.{is_word, is_unit, IsSpellableMark, IsSpellable, AreSpellable}
 use Rattle.css_out.proofs.GenericsAreWords.{generic_is_word}
@@ -101,34 +103,6 @@ call w ms h v i = record {
 }
 
 -- numbers
-exact_dec : (d : Decimal) → IsExact d → IsDec d
-exact_dec d h = record { size = omega (arith, h.size); places = omega (arith, h.places); short = h.short }
-
-shortest_if : (b : Bool) (n s : ℕ) (p : ℕ × ℕ) → (p.0 ≤ n / 10) × (p.1 ≤ s) → ((if b then p else (n, suc s)).0 ≤ n) × ((if b then p else (n, suc s)).1 ≤ suc s)
-shortest_if true n s p h = (omega (arith, h.0, div-le_self n 10), omega (arith, h.1))
-shortest_if false n s p h = (omega arith, omega arith)
-
-shortest_within : (n s : ℕ) → ((shortest n s).0 ≤ n) × ((shortest n s).1 ≤ s)
-shortest_within n zero = (omega arith, omega arith)
-shortest_within n (suc s) = shortest_if (n % 10 == 0) n s (shortest (n / 10) s) (shortest_within (n / 10) s)
-
-size_signed : (b : Bool) (n : ℕ) → unsigned_abs (signed b n) ≡ n
-size_signed true zero = refl
-size_signed true (suc n) = refl
-size_signed false n = refl
-
-made_dec : (b : Bool) (n s : ℕ) → n < 10 ^ 33 → s ≤ 33 → IsDec (decimal_of b n s)
-made_dec b n s h k =
-    let w = shortest_within n s in
-    record {
-      size = rw (size_signed b (shortest n s).0) (omega (arith, w.0, h));
-      places = omega (arith, w.1, k);
-      short = rw (size_signed b (shortest n s).0) (shortest-short n s);
-    }
-
-times_dec : (d : Decimal) → IsExact d → IsDec (times d 100)
-times_dec d h = made_dec (is_negative d.c) (unsigned_abs d.c * 100) d.s (omega (arith, h.size)) (omega (arith, h.places))
-
 number_flat : (d : Decimal) → IsExact d → IsFlat (number d)
 number_flat d h = record { spellable = exact_dec d h; opens_none = refl; closes_none = refl }
 
@@ -348,7 +322,7 @@ module _ (prefix : List ℕ) (links : List Link) (named : AllByRecursion (λ l. 
   stop_sound : (only : Bool) (i : ℕ) (s : ColorStop) → IsColorStop s → SoundParts (stop_parts prefix links only i s)
   stop_sound only i s h = (
     item_sound false i (codes "color") kind.Color (color_marks s.color) (colors s.color h.color),
-    (one_mark (position_mark s.position) (record { spellable = times_dec s.position h.position.exact; opens_none = refl; closes_none = refl }), tt),
+    (one_mark (position_mark s.position) (record { spellable = times_dec s.position 100 h.position.exact (omega arith); opens_none = refl; closes_none = refl }), tt),
   )
 
   value_sound : (whole : Option (List (List ℕ))) (v : Typed) → IsNamed prefix whole → IsTyped v → SoundParts (value_parts prefix links whole v)
@@ -387,14 +361,14 @@ module _ (prefix : List ℕ) (links : List Link) (named : AllByRecursion (λ l. 
   lines_sound name whole (typed.Shadow items) n w h = (one_sound name (value_parts prefix links whole (typed.Shadow items)) n (value_sound whole (typed.Shadow items) w h), tt)
   lines_sound name whole (typed.Gradient stops) n w h = (one_sound name (value_parts prefix links whole (typed.Gradient stops)) n (value_sound whole (typed.Gradient stops) w h), tt)
   lines_sound name whole (typed.Typography t) n w h = (
-    ended_sound name whole (codes "fontFamily") kind.FontFamily family_end (families_marks t.family) n w refl (families t.family),
+    ended_sound name whole (codes "fontFamily") kind.FontFamily (family_end Css) (families_marks t.family) n w refl (families t.family),
     (
-      ended_sound name whole (codes "fontSize") kind.Dimension size_end (size_marks t.size) n w refl (sizes t.size h.size),
+      ended_sound name whole (codes "fontSize") kind.Dimension (size_end Css) (size_marks t.size) n w refl (sizes t.size h.size),
       (
-        ended_sound name whole (codes "fontWeight") kind.FontWeight weight_end (number_marks t.weight) n w refl (numbers t.weight h.weight.exact),
+        ended_sound name whole (codes "fontWeight") kind.FontWeight (weight_end Css) (number_marks t.weight) n w refl (numbers t.weight h.weight.exact),
         (
-          ended_sound name whole (codes "letterSpacing") kind.Dimension spacing_end (size_marks t.spacing) n w refl (sizes t.spacing h.spacing),
-          (ended_sound name whole (codes "lineHeight") kind.Number height_end (number_marks t.line_height) n w refl (numbers t.line_height h.line_height), tt),
+          ended_sound name whole (codes "letterSpacing") kind.Dimension (spacing_end Css) (size_marks t.spacing) n w refl (sizes t.spacing h.spacing),
+          (ended_sound name whole (codes "lineHeight") kind.Number (height_end Css) (number_marks t.line_height) n w refl (numbers t.line_height h.line_height), tt),
         ),
       ),
     ),

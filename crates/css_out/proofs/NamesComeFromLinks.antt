@@ -16,6 +16,8 @@ use Rattle.type_rules.specs.Trails.{item_at}
 use Rattle.type_rules.specs.Words.{meaning}
 use Rattle.type_rules.specs.declared.simple.Simple.TheVariants as simple
 use Rattle.type_rules.proofs.Standing.{items_stand}
+use Rattle.transforms.specs.FiveNames.{family_end, size_end, weight_end, spacing_end, height_end}
+use Rattle.transforms.specs.declared.platform.Platform.TheVariants.{Css}
 use Rattle.composite_rules.specs.Parts.{Row, color_part, size_part, time_part, shadow_row, stop_row, only_row, part_at}
 use Rattle.composite_rules.specs.Sound.{kind_of}
 use Rattle.composite_rules.specs.declared.border.Border.{Border}
@@ -25,11 +27,11 @@ use Rattle.composite_rules.specs.declared.transition.Transition.{Transition}
 use Rattle.composite_rules.specs.declared.typed.Typed.{Typed}
 use Rattle.composite_rules.specs.declared.typed.Typed.TheVariants as typed
 use Rattle.composite_rules.specs.declared.typography.Typography.{Typography}
-use Rattle.css_out.specs.Lists.{In}
+use Rattle.ring.specs.Lists.{In}
 use Rattle.css_out.specs.Piece.{Mark}
 use Rattle.css_out.specs.Parts.{Part, Entry}
 use Rattle.css_out.specs.Links.{same_trail, is_kind, link_for, item_link}
-use Rattle.css_out.specs.PlatformValue.{size_marks, time_marks, number_marks, curve_marks, color_marks, families_marks, simple_marks, stroke_marks, border_marks, transition_marks, listed, shadow_marks, stop_marks, family_end, size_end, weight_end, spacing_end, height_end, can_spell, all_values, css_values}
+use Rattle.css_out.specs.PlatformValue.{size_marks, time_marks, number_marks, curve_marks, color_marks, families_marks, simple_marks, stroke_marks, border_marks, transition_marks, listed, shadow_marks, stop_marks, can_spell, all_values, css_values}
 use Rattle.css_out.specs.Fragment.{css_name, part, unless_linked, behind_commas, listed_parts, is_only, border_parts, transition_parts, shadow_parts, stop_parts, typography_part, lines_of, entries}
 use Rattle.css_out.specs.Sources.{IsFrom, ComesFrom, HasRoom}
 
@@ -277,19 +279,19 @@ lines_from prefix links name (typed.Gradient stops) room h = (
 )
 lines_from prefix links name (typed.Typography t) room h =
     let whole = link_for links [] kind.Typography in (
-      typography_from prefix links t h (typed.Simple (simple.FontFamily t.family)) (codes "fontFamily") family_end (families_marks t.family) whole (link_for links (codes "fontFamily" ∷ []) kind.FontFamily) refl refl refl
+      typography_from prefix links t h (typed.Simple (simple.FontFamily t.family)) (codes "fontFamily") (family_end Css) (families_marks t.family) whole (link_for links (codes "fontFamily" ∷ []) kind.FontFamily) refl refl refl
           (λ n. rw h (inl refl)) (λ n. rw h (inl refl)),
       (
-        typography_from prefix links t h (size_part t.size) (codes "fontSize") size_end (size_marks t.size) whole (link_for links (codes "fontSize" ∷ []) kind.Dimension) refl refl refl
+        typography_from prefix links t h (size_part t.size) (codes "fontSize") (size_end Css) (size_marks t.size) whole (link_for links (codes "fontSize" ∷ []) kind.Dimension) refl refl refl
             (λ n. inl refl) (λ n. rw h (inr (inl refl))),
         (
-          typography_from prefix links t h (typed.Simple (simple.FontWeight t.weight)) (codes "fontWeight") weight_end (number_marks t.weight) whole (link_for links (codes "fontWeight" ∷ []) kind.FontWeight) refl refl refl
+          typography_from prefix links t h (typed.Simple (simple.FontWeight t.weight)) (codes "fontWeight") (weight_end Css) (number_marks t.weight) whole (link_for links (codes "fontWeight" ∷ []) kind.FontWeight) refl refl refl
               (λ n. inl refl) (λ n. rw h (inr (inr (inl refl)))),
           (
-            typography_from prefix links t h (size_part t.spacing) (codes "letterSpacing") spacing_end (size_marks t.spacing) whole (link_for links (codes "letterSpacing" ∷ []) kind.Dimension) refl refl refl
+            typography_from prefix links t h (size_part t.spacing) (codes "letterSpacing") (spacing_end Css) (size_marks t.spacing) whole (link_for links (codes "letterSpacing" ∷ []) kind.Dimension) refl refl refl
                 (λ n. inl refl) (λ n. rw h (inr (inr (inr (inl refl))))),
             (
-              typography_from prefix links t h (typed.Simple (simple.Number t.line_height)) (codes "lineHeight") height_end (number_marks t.line_height) whole (link_for links (codes "lineHeight" ∷ []) kind.Number) refl refl refl
+              typography_from prefix links t h (typed.Simple (simple.Number t.line_height)) (codes "lineHeight") (height_end Css) (number_marks t.line_height) whole (link_for links (codes "lineHeight" ∷ []) kind.Number) refl refl refl
                   (λ n. inl refl) (λ n. rw h (inr (inr (inr (inr (inl refl)))))),
               tt,
             ),

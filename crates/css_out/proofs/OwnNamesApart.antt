@@ -1,65 +1,26 @@
 -- The names of one token differ.
-use Rattle.std.proofs.Common.{◌≡◌, ℕ, ◌||◌, Bool, true, false, List, [], ◌∷◌, ◌++◌, map, refl, inl, inr}
+use Rattle.std.proofs.Common.{ℕ, Bool, true, false, List, []}
 use Rattle.std.specs.Prelude.{if◌then◌else◌}
-use Rattle.std.specs.List.{list_any}
-use Rattle.std.specs.Str.{bytes_eq}
-use Rattle.std.proofs.lemmas.List.{append_cancel_left}
-use Rattle.std.proofs.lemmas.Slice.Eq.{bytes_eq-Decides}
+use Rattle.ring.specs.Lists.{AreApart}
+use Rattle.transforms.specs.declared.platform.Platform.TheVariants.{Css}
+use Rattle.transforms.proofs.FiveNamesDiffer.{five_names_differ}
 use Rattle.composite_rules.specs.declared.typed.Typed.{Typed}
 use Rattle.composite_rules.specs.declared.typed.Typed.TheVariants as typed
-use Rattle.css_out.specs.Lists.{In, AreApart}
-use Rattle.css_out.specs.PlatformValue.{family_end, size_end, weight_end, spacing_end, height_end, can_spell, all_values, css_values}
+use Rattle.css_out.specs.PlatformValue.{can_spell, all_values, css_values}
 use Rattle.css_out.specs.Piece.{Values, value_names}
-
--- texts that a test tells apart
-neither : (a b : Bool) → a || b ≡ false → (a ≡ false) × (b ≡ false)
-neither true b h = cc
-neither false b h = (refl, h)
-
-not_in : (x : List ℕ) (ys : List (List ℕ)) → list_any (λ y. bytes_eq x y) ys ≡ false → In x ys → ⊥
-not_in x [] h i = i
-not_in x (y ∷ ys) h (inl e) =
-    let same : bytes_eq x y ≡ true = (bytes_eq-Decides x y).1 e in
-    let other : bytes_eq x y ≡ false = (neither (bytes_eq x y) (list_any (λ z. bytes_eq x z) ys) h).0 in cc
-not_in x (y ∷ ys) h (inr i) = not_in x ys (neither (bytes_eq x y) (list_any (λ z. bytes_eq x z) ys) h).1 i
-
--- endings behind one name
-in_ended : (n a : List ℕ) (bs : List (List ℕ)) → In (n ++ a) (map (λ b. n ++ b) bs) → In a bs
-in_ended n a [] i = i
-in_ended n a (b ∷ bs) (inl e) = inl (append_cancel_left n a b e)
-in_ended n a (b ∷ bs) (inr i) = inr (in_ended n a bs i)
-
-apart_ended : (n : List ℕ) (bs : List (List ℕ)) → AreApart bs → AreApart (map (λ b. n ++ b) bs)
-apart_ended n [] h = tt
-apart_ended n (b ∷ bs) h = ((λ i. h.0 (in_ended n b bs i)), apart_ended n bs h.1)
-
-endings_apart : AreApart (family_end ∷ size_end ∷ weight_end ∷ spacing_end ∷ height_end ∷ [])
-endings_apart = (
-  not_in family_end (size_end ∷ weight_end ∷ spacing_end ∷ height_end ∷ []) refl,
-  (
-    not_in size_end (weight_end ∷ spacing_end ∷ height_end ∷ []) refl,
-    (
-      not_in weight_end (spacing_end ∷ height_end ∷ []) refl,
-      (not_in spacing_end (height_end ∷ []) refl, ((λ i. i), tt)),
-    ),
-  ),
-)
-
-one_apart : (x : List ℕ) → AreApart (x ∷ [])
-one_apart x = ((λ i. i), tt)
 
 apart_if : (b : Bool) (vs : Values) → AreApart (value_names vs) → AreApart (value_names (if b then vs else []))
 apart_if true vs h = h
 apart_if false vs h = tt
 
 all_apart : (name : List ℕ) (v : Typed) → AreApart (value_names (all_values name v))
-all_apart name (typed.Simple s) = one_apart name
-all_apart name (typed.StrokeStyle s) = one_apart name
-all_apart name (typed.Border b) = one_apart name
-all_apart name (typed.Transition t) = one_apart name
-all_apart name (typed.Shadow items) = one_apart name
-all_apart name (typed.Gradient stops) = one_apart name
-all_apart name (typed.Typography t) = apart_ended name (family_end ∷ size_end ∷ weight_end ∷ spacing_end ∷ height_end ∷ []) endings_apart
+all_apart name (typed.Simple s) = ((λ i. i), tt)
+all_apart name (typed.StrokeStyle s) = ((λ i. i), tt)
+all_apart name (typed.Border b) = ((λ i. i), tt)
+all_apart name (typed.Transition t) = ((λ i. i), tt)
+all_apart name (typed.Shadow items) = ((λ i. i), tt)
+all_apart name (typed.Gradient stops) = ((λ i. i), tt)
+all_apart name (typed.Typography t) = five_names_differ Css name
 
 pub own_apart : (name : List ℕ) (v : Typed) → AreApart (value_names (css_values name v))
 own_apart name v = apart_if (can_spell v) (all_values name v) (all_apart name v)

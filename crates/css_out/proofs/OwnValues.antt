@@ -7,6 +7,8 @@ use Rattle.name_path.specs.declared.kind.Kind.{Kind}
 use Rattle.name_path.specs.declared.kind.Kind.TheVariants as kind
 use Rattle.name_path.specs.declared.link.Link.{Link}
 use Rattle.transforms.specs.Config.{Settings}
+use Rattle.transforms.specs.FiveNames.{family_end, size_end, weight_end, spacing_end, height_end}
+use Rattle.transforms.specs.declared.platform.Platform.TheVariants.{Css}
 use Rattle.composite_rules.specs.Sound.{kind_of}
 use Rattle.composite_rules.specs.declared.border.Border.{Border}
 use Rattle.composite_rules.specs.declared.gradient.ColorStop.{ColorStop}
@@ -18,7 +20,7 @@ use Rattle.css_out.specs.Links.{link_for, item_link}
 use Rattle.css_out.specs.Spelling.{fragment_lines, fragment_names}
 use Rattle.css_out.specs.Parts.{declaration, Part, own_part, own, Entry, value}
 use Rattle.css_out.specs.Piece.{Mark, comma, Values, value_names}
-use Rattle.css_out.specs.PlatformValue.{size_marks, time_marks, number_marks, curve_marks, color_marks, families_marks, stroke_marks, simple_marks, family_end, size_end, weight_end, spacing_end, height_end, listed, border_marks, transition_marks, shadow_marks, stop_marks, can_spell, all_values, css_values}
+use Rattle.css_out.specs.PlatformValue.{size_marks, time_marks, number_marks, curve_marks, color_marks, families_marks, stroke_marks, simple_marks, listed, border_marks, transition_marks, shadow_marks, stop_marks, can_spell, all_values, css_values}
 use Rattle.css_out.specs.Fragment.{spelled_links, css_name, part, unless_linked, behind_commas, listed_parts, is_only, border_parts, transition_parts, shadow_parts, stop_parts, typography_part, lines_of, entries}
 
 own-append : (ps qs : List Part) → own (ps ++ qs) ≡ own ps ++ own qs
@@ -99,11 +101,11 @@ module _ (prefix : List ℕ) (links : List Link) where
   own_lines name whole (typed.Typography t) =
       let w = option_map (css_name prefix) whole in
       rw (
-        own_line w (codes "fontFamily") kind.FontFamily family_end (families_marks t.family),
-        own_line w (codes "fontSize") kind.Dimension size_end (size_marks t.size),
-        own_line w (codes "fontWeight") kind.FontWeight weight_end (number_marks t.weight),
-        own_line w (codes "letterSpacing") kind.Dimension spacing_end (size_marks t.spacing),
-        own_line w (codes "lineHeight") kind.Number height_end (number_marks t.line_height),
+        own_line w (codes "fontFamily") kind.FontFamily (family_end Css) (families_marks t.family),
+        own_line w (codes "fontSize") kind.Dimension (size_end Css) (size_marks t.size),
+        own_line w (codes "fontWeight") kind.FontWeight (weight_end Css) (number_marks t.weight),
+        own_line w (codes "letterSpacing") kind.Dimension (spacing_end Css) (size_marks t.spacing),
+        own_line w (codes "lineHeight") kind.Number (height_end Css) (number_marks t.line_height),
       ) refl
 
   map_if : (b : Bool) (es : List Entry) (vs : Values) → map value es ≡ vs → map value (if b then es else []) ≡ (if b then vs else [])

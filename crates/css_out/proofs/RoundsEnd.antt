@@ -3,7 +3,7 @@ use Rattle.std.proofs.Common.{◌≡◌, ℕ, zero, suc, Bool, true, false, List
 use Rattle.std.specs.Prelude.{if◌then◌else◌}
 use Rattle.std.proofs.lemmas.Grind.{flat_map-append}
 use Rattle.std.proofs.lemmas.Slice.Eq.{bytes_eq-Decides}
-use Rattle.css_out.specs.Lists.{In, AreApart, Each}
+use Rattle.ring.specs.Lists.{In, AreApart, Each}
 use Rattle.css_out.specs.Piece.{Mark, Piece, mark, var, value_names}
 use Rattle.css_out.specs.Reading.{Declared, Block, Reads, head, foot}
 use Rattle.css_out.specs.Rounds.{declared_for, or_var, put, rounds, IsValue, Denotes}

@@ -3,12 +3,13 @@ use Rattle.std.proofs.Common.{◌≡◌, ℕ, zero, suc, Bool, true, false, List
 use Rattle.std.specs.Prelude.{◌⊎◌, if◌then◌else◌, AllPairs, Contains}
 use Rattle.std.specs.List.{AllByRecursion}
 use Rattle.name_path.specs.declared.link.Link.{Link}
-use Rattle.transforms.specs.Clash.{ShareNoName}
 use Rattle.transforms.specs.Config.{Settings}
 use Rattle.transforms.specs.PlatformName.{is_property}
+use Rattle.transforms.proofs.NamesApart.{all_of, each_of, from_flat, in_flat, map-append, names_apart, names_in}
+use Rattle.transforms.proofs.PlainFramesJoin.{framed}
 use Rattle.composite_rules.specs.Sound.{kind_of}
 use Rattle.composite_rules.specs.declared.typed.Typed.{Typed}
-use Rattle.css_out.specs.Lists.{In, AreApart, Each}
+use Rattle.ring.specs.Lists.{In, AreApart, Each}
 use Rattle.css_out.specs.Piece.{Mark, Values, value_names}
 use Rattle.css_out.specs.PlatformValue.{css_values}
 use Rattle.css_out.specs.Reading.{Declared, Block, ended, head, foot}
@@ -23,71 +24,7 @@ use Rattle.css_out.proofs.RoundsEnd.{Nested, no_parts, itself, leads, denotes, v
 use Rattle.css_out.proofs.OwnValues.{own_values}
 use Rattle.css_out.proofs.OwnNamesApart.{own_apart}
 use Rattle.css_out.proofs.LinesAreSpellable.{entries_sound}
-use Rattle.css_out.proofs.TextsRead.{framed}
 use Rattle.css_out.proofs.SpelledIsRead.{body_read}
-
--- lists
-in_left : {A : Type 0} (x : A) (xs ys : List A) → In x xs → In x (xs ++ ys)
-in_left x [] ys i = absurd i
-in_left x (y ∷ xs) ys (inl same) = inl same
-in_left x (y ∷ xs) ys (inr i) = inr (in_left x xs ys i)
-
-in_right : {A : Type 0} (x : A) (xs ys : List A) → In x ys → In x (xs ++ ys)
-in_right x [] ys i = i
-in_right x (y ∷ xs) ys i = inr (in_right x xs ys i)
-
-in_either : {A : Type 0} (x : A) (xs ys : List A) → In x (xs ++ ys) → In x xs ⊎ In x ys
-in_either x [] ys i = inr i
-in_either x (y ∷ xs) ys (inl same) = inl (inl same)
-in_either x (y ∷ xs) ys (inr i) = elim (in_either x xs ys i) as (λ _. In x (y ∷ xs) ⊎ In x ys) [ inl a ↦ inl (inr a) | inr b ↦ inr b ]
-
-in_flat : {A B : Type 0} (f : A → List B) (a : A) (b : B) (xs : List A) → In a xs → In b (f a) → In b (flat_map f xs)
-in_flat f a b [] i j = absurd i
-in_flat f a b (x ∷ xs) (inl same) j = in_left b (f x) (flat_map f xs) (subst (λ z. In b (f z)) same j)
-in_flat f a b (x ∷ xs) (inr i) j = in_right b (f x) (flat_map f xs) (in_flat f a b xs i j)
-
-from_flat : {A B : Type 0} (f : A → List B) (b : B) (xs : List A) → In b (flat_map f xs) → (a : A) × In a xs × In b (f a)
-from_flat f b [] i = absurd i
-from_flat f b (x ∷ xs) i = elim (in_either b (f x) (flat_map f xs) i) as (λ _. (a : _) × In a (x ∷ xs) × In b (f a)) [
-  | inl j ↦ (x, inl refl, j)
-  | inr j ↦ let (a, k, l) = from_flat f b xs j in (a, inr k, l)
-]
-
-in_map : {A B : Type 0} (f : A → B) (a : A) (xs : List A) → In a xs → In (f a) (map f xs)
-in_map f a [] i = i
-in_map f a (x ∷ xs) (inl same) = inl (ap f same)
-in_map f a (x ∷ xs) (inr i) = inr (in_map f a xs i)
-
-map-append : {A B : Type 0} (f : A → B) (xs ys : List A) → map f (xs ++ ys) ≡ map f xs ++ map f ys
-map-append f [] ys = refl
-map-append f (x ∷ xs) ys = ap (λ t. f x ∷ t) (map-append f xs ys)
-
-each_of : {A : Type 0} (P : A → Type 0) (xs : List A) → AllByRecursion P xs → Each xs P
-each_of P [] h x i = absurd i
-each_of P (y ∷ ys) h x (inl same) = subst P (sym same) h.0
-each_of P (y ∷ ys) h x (inr i) = each_of P ys h.1 x i
-
-all_of : {A : Type 0} (P : A → Type 0) (xs : List A) → Each xs P → AllByRecursion P xs
-all_of P [] h = tt
-all_of P (x ∷ xs) h = (h x (inl refl), all_of P xs (λ y i. h y (inr i)))
-
-contains : {A : Type 0} (x : A) (xs : List A) → In x xs → Contains xs x
-contains x [] i = absurd i
-contains x (y ∷ ys) (inl same) = (zero, omega arith, sym same)
-contains x (y ∷ ys) (inr i) = let (k, low, at) = contains x ys i in (suc k, omega (arith, low), at)
-
-first_pair : {A : Type 0} (R : A → A → Type 0) (x y : A) (xs : List A) → AllPairs R (x ∷ xs) → In y xs → R x y
-first_pair R x y xs h i = let (k, low, at) = contains y xs i in subst (R x) at (h zero (suc k) y (omega arith) (omega (arith, low)))
-
-other_pairs : {A : Type 0} (R : A → A → Type 0) (x : A) (xs : List A) → AllPairs R (x ∷ xs) → AllPairs R xs
-other_pairs R x xs h i j d below low = h (suc i) (suc j) d (omega (arith, below)) (omega (arith, low))
-
-apart_append : {A : Type 0} (xs ys : List A) → AreApart xs → AreApart ys → ((x : A) → In x xs → In x ys → ⊥) → AreApart (xs ++ ys)
-apart_append [] ys h i none = i
-apart_append (x ∷ xs) ys h i none = (
-  (λ j. elim (in_either x xs ys j) as (λ _. ⊥) [ inl a ↦ h.0 a | inr b ↦ none x (inl refl) b ]),
-  apart_append xs ys h.1 i (λ y a b. none y (inr a) b),
-)
 
 in_spelled : (b : Bool) (link : Link) (links : List Link) → In link (if b then links else []) → In link links
 in_spelled true link links i = i
@@ -181,28 +118,18 @@ module _ (settings : Settings) (cells : List Cell) (sheet : IsSheet settings cel
       subst P (sym (map-append declaration (cell_entries settings c) (flat_map (cell_entries settings) cs))) (joined (one_block c (each c (inl refl))) (all_blocks cs (λ d i. each d (inr i))))
 
   -- all names
-  abbrev names : Cell → List (List ℕ)
-  names c = value_names (cell_values settings c)
-
-  all_names : (cs : List Cell) → value_names (sheet_values settings cs) ≡ flat_map names cs
-  all_names [] = refl
-  all_names (c ∷ cs) = map-append (λ v. v.0) (cell_values settings c) (sheet_values settings cs) ∙ ap (λ ns. names c ++ ns) (all_names cs)
-
-  apart_names : (cs : List Cell) → AllPairs ShareNoName (map (cell_names settings) cs) → AreApart (flat_map names cs)
-  apart_names [] h = tt
-  apart_names (c ∷ cs) h =
-      apart_append (names c) (flat_map names cs) (own_apart (cell_name settings c) c.typed) (apart_names cs (other_pairs ShareNoName (cell_names settings c) (map (cell_names settings) cs) h)) (λ name i j.
-      let (d, k, l) = from_flat names name cs j in
-      first_pair ShareNoName (cell_names settings c) (cell_names settings d) (map (cell_names settings) cs) h (in_map (cell_names settings) d cs k) name (contains name (names c) i) (contains name (names d) l))
+  all_apart : AreApart (value_names (sheet_values settings cells))
+  all_apart =
+      subst AreApart (sym (names_in (cell_values settings) cells))
+      (names_apart (cell_names settings) cells (λ c i. own_apart (cell_name settings c) c.typed) sheet.apart)
 
   pub sheet_denotes : Denotes (sheet_bytes settings cells) (sheet_values settings cells)
   sheet_denotes =
       let P : List ℕ → Type 0 = λ bytes. Denotes bytes (sheet_values settings cells) in
       let Q : Values → Type 0 = λ vs. Denotes (head ++ (flat_map (cell_text settings) cells ++ foot)) vs in
       let R : Values → Type 0 = λ vs. AreApart (value_names vs) in
-      let apart : AreApart (value_names (sheet_values settings cells)) = subst AreApart (sym (all_names cells)) (apart_names cells sheet.apart) in
-      subst P (sym (framed (cell_text settings) cells))
-      (subst Q (all_values cells) (denotes all (subst R (sym (all_values cells)) apart)
+      subst P (sym (framed head foot (cell_text settings) cells))
+      (subst Q (all_values cells) (denotes all (subst R (sym (all_values cells)) all_apart)
       (λ e i. let (c, j, k) = from_flat (cell_entries settings) e cells i in nested 256 c j (sheet.links c j) e k)
       (flat_map (cell_text settings) cells) (all_blocks cells (λ c i. i))))
 

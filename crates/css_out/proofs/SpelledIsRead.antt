@@ -2,21 +2,21 @@
 use Rattle.std.proofs.Common.{◌≡◌, ℕ, suc, ◌<◌, ◌/◌, ◌^◌, ◌==◌, ◌&&◌, ◌||◌, not, Bool, true, false, List, [], ◌∷◌, ◌++◌, flat_map, length, refl, sym, ◌∙◌, ap, subst, append_assoc, append-nil, Some, codes, arith, ℤ, pos, negsuc, nat_eq, nat_lt, unsigned_abs}
 use Rattle.std.specs.Prelude.{if◌then◌else◌}
 use Rattle.std.specs.Char.{is_ascii_alphabetic, is_ascii_digit}
-use Rattle.std.specs.Fmt.{decimal}
 use Rattle.std.specs.List.{list_all, starts_with, AllByRecursion}
-use Rattle.std.specs.Str.{all_ascii_digits}
-use Rattle.std.proofs.Math.Nat.{div-le_self}
 use Rattle.std.proofs.lemmas.Bool.Decides.{nat_tests}
-use Rattle.std.proofs.lemmas.Fmt.{decimal_is_IsNumeral_wide}
 use Rattle.dec_fix.specs.Decimal.{Decimal, IsDec}
 use Rattle.dec_fix.specs.Following.{number_at, ends_number}
-use Rattle.dec_fix.specs.Writing.{spelling, point_and}
-use Rattle.dec_fix.proofs.Again.{both, number_again, decimal-digits}
+use Rattle.dec_fix.specs.Writing.{spelling}
+use Rattle.dec_fix.proofs.Again.{both, number_again}
 use Rattle.transforms.specs.PlatformName.{is_kept, is_property}
 use Rattle.transforms.specs.declared.platform.Platform.TheVariants.{Css}
+use Rattle.transforms.specs.Quoted.{escape}
+use Rattle.transforms.specs.Runs.{front, rest, ends_run, starts_digit, starts_number}
+use Rattle.transforms.proofs.QuotedReadsBack.{string_again}
+use Rattle.transforms.proofs.RunsAreFronts.{front-append, rest-append, numbers_start}
 use Rattle.css_out.specs.Piece.{Piece, mark, var, number, percent, unit, string, word, opens, closes, comma, slash, is_opening}
-use Rattle.css_out.specs.Reading.{in_word, in_name, is_some, front, rest, is_var, worded, with_first, string_from, string_piece, measured, numbered, starts_digit, is_blank, after_comment, take, taken, step, Pieces, stops, skips, takes, are_closed, meets, Declared, names, passed, turn, Block, ended, passes, declared}
-use Rattle.css_out.specs.Spelling.{escape, piece_text, is_tight, pieces_from, pieces_text, line_text, omitted_text, body_text}
+use Rattle.css_out.specs.Reading.{in_word, in_name, is_some, is_var, worded, string_piece, measured, numbered, is_blank, after_comment, take, taken, step, Pieces, stops, skips, takes, are_closed, meets, Declared, names, passed, turn, Block, ended, passes, declared}
+use Rattle.css_out.specs.Spelling.{piece_text, is_tight, pieces_from, pieces_text, line_text, omitted_text, body_text}
 use Rattle.css_out.proofs.SpellablePieces.{is_word, is_unit, IsSpellable, AreSpellable}
 
 -- a blank, a comma, `)` or `;` ends each piece
@@ -24,26 +24,12 @@ abbrev ends : List ℕ → Bool
 ends [] = false
 ends (c ∷ t) = (c == 32) || ((c == 44) || ((c == 41) || (c == 59)))
 
--- runs of bytes and what ends them
-abbrev stopped : (ℕ → Bool) → List ℕ → Bool
-stopped p [] = true
-stopped p (c ∷ t) = not (p c)
-
-front-append : (p : ℕ → Bool) (s t : List ℕ) → list_all p s ≡ true → stopped p t ≡ true → front p (s ++ t) ≡ s
-front-append p [] [] h e = refl
-front-append p [] (c ∷ t) h e = grind arith
-front-append p (d ∷ s) t h e = let x = both (p d) (list_all p s) h in rw (x.0) (ap (λ v. d ∷ v) (front-append p s t x.1 e))
-
-rest-append : (p : ℕ → Bool) (s t : List ℕ) → list_all p s ≡ true → stopped p t ≡ true → rest p (s ++ t) ≡ t
-rest-append p [] [] h e = refl
-rest-append p [] (c ∷ t) h e = grind arith
-rest-append p (d ∷ s) t h e = let x = both (p d) (list_all p s) h in rw (x.0) (rest-append p s t x.1 e)
-
-ends_letters : (t : List ℕ) → ends t ≡ true → stopped is_ascii_alphabetic t ≡ true
+-- runs of bytes
+ends_letters : (t : List ℕ) → ends t ≡ true → ends_run is_ascii_alphabetic t ≡ true
 ends_letters [] e = refl
 ends_letters (c ∷ t) e = grind arith
 
-ends_words : (t : List ℕ) → ends t ≡ true → stopped in_word t ≡ true
+ends_words : (t : List ℕ) → ends t ≡ true → ends_run in_word t ≡ true
 ends_words [] e = refl
 ends_words (c ∷ t) e = grind arith
 
@@ -52,10 +38,6 @@ ends_numbers [] e = refl
 ends_numbers (c ∷ t) e = grind arith
 
 -- numbers
-abbrev starts_number : List ℕ → Bool
-starts_number [] = false
-starts_number (c ∷ t) = is_ascii_digit c || ((c == 45) && starts_digit t)
-
 digit_step : (c : ℕ) (t : List ℕ) → is_ascii_digit c ≡ true → step (c ∷ t) ≡ taken (numbered (number_at (c ∷ t)))
 digit_step c t h =
     let a : (c == 59) ≡ false = grind arith in let b : is_blank c ≡ false = grind arith in
@@ -78,27 +60,9 @@ numeric : (t : List ℕ) → starts_number t ≡ true → step t ≡ taken (numb
 numeric [] h = cc
 numeric (c ∷ t) h = either_step (is_ascii_digit c) c t refl h
 
-digits_start : (ds t : List ℕ) → all_ascii_digits ds ≡ true → 0 < length ds → starts_digit (ds ++ t) ≡ true
-digits_start [] t h some = absurd (omega arith)
-digits_start (d ∷ ds) t h some = (both (is_ascii_digit d) (all_ascii_digits ds) h).0
-
-digits_number : (t : List ℕ) → starts_digit t ≡ true → starts_number t ≡ true
-digits_number [] h = cc
-digits_number (c ∷ t) h = grind arith
-
-starts_from : (c : ℤ) (s : ℕ) (t : List ℕ) → unsigned_abs c < 10 ^ 64 → starts_number (spelling (record { c = c; s = s }) ++ t) ≡ true
-starts_from (pos n) s t small =
-    let whole : n / 10 ^ s < 10 ^ 64 = omega (arith, div-le_self n (10 ^ s)) in
-    rw (append_assoc (decimal (n / 10 ^ s)) (point_and n s) t)
-    (digits_number (decimal (n / 10 ^ s) ++ (point_and n s ++ t)) (digits_start (decimal (n / 10 ^ s)) (point_and n s ++ t) (decimal-digits (n / 10 ^ s) whole) ((decimal_is_IsNumeral_wide (n / 10 ^ s) whole).0.0)))
-starts_from (negsuc n) s t small =
-    let whole : suc n / 10 ^ s < 10 ^ 64 = omega (arith, div-le_self (suc n) (10 ^ s)) in
-    rw (append_assoc (decimal (suc n / 10 ^ s)) (point_and (suc n) s) t)
-    (digits_start (decimal (suc n / 10 ^ s)) (point_and (suc n) s ++ t) (decimal-digits (suc n / 10 ^ s) whole) ((decimal_is_IsNumeral_wide (suc n / 10 ^ s) whole).0.0))
-
 spelling_step : (d : Decimal) (t : List ℕ) → IsDec d → ends_number t ≡ true → step (spelling d ++ t) ≡ taken (measured d t)
 spelling_step d t h e =
-    numeric (spelling d ++ t) (starts_from d.c d.s t (omega (arith, h.size))) ∙ ap (λ r. taken (numbered r)) (number_again d t h e)
+    numeric (spelling d ++ t) (numbers_start d t h) ∙ ap (λ r. taken (numbered r)) (number_again d t h e)
 
 measured_none : (d : Decimal) (t : List ℕ) → ends t ≡ true → measured d t ≡ Some (mark (number d), t)
 measured_none d [] e = refl
@@ -114,7 +78,7 @@ letters_number : (w t : List ℕ) → is_unit w ≡ true → ends_number (w ++ t
 letters_number [] t h = cc
 letters_number (c ∷ w) t h = let l = both (is_ascii_alphabetic c) (list_all is_ascii_alphabetic w) h in grind (arith, l.0)
 
-measured_unit : (d : Decimal) (w t : List ℕ) → is_unit w ≡ true → stopped is_ascii_alphabetic t ≡ true → measured d (w ++ t) ≡ Some (mark (unit d w), t)
+measured_unit : (d : Decimal) (w t : List ℕ) → is_unit w ≡ true → ends_run is_ascii_alphabetic t ≡ true → measured d (w ++ t) ≡ Some (mark (unit d w), t)
 measured_unit d [] t h e = cc
 measured_unit d (c ∷ w) t h e = let l = both (is_ascii_alphabetic c) (list_all is_ascii_alphabetic w) h in
     let a : (c == 37) ≡ false = grind (arith, l.0) in
@@ -125,7 +89,7 @@ unit_step d w t h l e = rw (append_assoc (spelling d) w t)
     (spelling_step d (w ++ t) h (letters_number w t l) ∙ ap taken (measured_unit d w t l (ends_letters t e)))
 
 -- words
-letter_step : (c : ℕ) (w t : List ℕ) → is_ascii_alphabetic c ≡ true → list_all in_word w ≡ true → stopped in_word t ≡ true → step (c ∷ (w ++ t)) ≡ taken (worded (c ∷ w) t)
+letter_step : (c : ℕ) (w t : List ℕ) → is_ascii_alphabetic c ≡ true → list_all in_word w ≡ true → ends_run in_word t ≡ true → step (c ∷ (w ++ t)) ≡ taken (worded (c ∷ w) t)
 letter_step c w t h l e =
     let a : (c == 59) ≡ false = grind arith in let b : is_blank c ≡ false = grind arith in
     let d : (c == 47) ≡ false = grind arith in let f : (c == 44) ≡ false = grind arith in
@@ -133,7 +97,7 @@ letter_step c w t h l e =
     let j : is_ascii_digit c ≡ false = grind arith in let k : (c == 45) ≡ false = grind arith in
     rw (a, b, d, f, g, i, j, k, h, front-append in_word w t l e, rest-append in_word w t l e) refl
 
-worded_step : (w t : List ℕ) → is_word w ≡ true → stopped in_word t ≡ true → step (w ++ t) ≡ taken (worded w t)
+worded_step : (w t : List ℕ) → is_word w ≡ true → ends_run in_word t ≡ true → step (w ++ t) ≡ taken (worded w t)
 worded_step [] t h e = cc
 worded_step (c ∷ w) t h e = let l = both (is_ascii_alphabetic c) (list_all in_word w) h in letter_step c w t l.0 l.1 e
 
@@ -148,15 +112,6 @@ opens_step : (w t : List ℕ) → is_word w ≡ true → is_var w ≡ false → 
 opens_step w t h v = rw (append_assoc w (40 ∷ []) t) (worded_step w (40 ∷ t) h refl ∙ rw v refl)
 
 -- strings
-escaped_step : (c : ℕ) (s x t : List ℕ) (b : Bool) → ((c == 34) || (c == 92)) ≡ b → string_from false (s ++ (34 ∷ t)) ≡ Some (x, t)
-    → string_from false (((if b then 92 ∷ c ∷ [] else c ∷ []) ++ s) ++ (34 ∷ t)) ≡ Some (c ∷ x, t)
-escaped_step c s x t true e again = ap (with_first c) again
-escaped_step c s x t false e again = let a : (c == 34) ≡ false = grind arith in let b : (c == 92) ≡ false = grind arith in rw (a, b) (ap (with_first c) again)
-
-string_again : (x t : List ℕ) → string_from false (flat_map escape x ++ (34 ∷ t)) ≡ Some (x, t)
-string_again [] t = refl
-string_again (c ∷ x) t = escaped_step c (flat_map escape x) x t ((c == 34) || (c == 92)) refl (string_again x t)
-
 string_step : (x t : List ℕ) → step ((34 ∷ (flat_map escape x ++ (34 ∷ []))) ++ t) ≡ take (mark (string x)) t
 string_step x t = rw (append_assoc (flat_map escape x) (34 ∷ []) t) (ap (λ r. taken (string_piece r)) (string_again x t))
 

@@ -7,9 +7,6 @@ newline = 10
 abbrev pub blank : ℕ
 blank = 32
 
-abbrev pub quote : ℕ
-quote = 34
-
 abbrev pub percent_sign : ℕ
 percent_sign = 37
 
@@ -36,9 +33,6 @@ colon_sign = 58
 
 abbrev pub semicolon : ℕ
 semicolon = 59
-
-abbrev pub backslash : ℕ
-backslash = 92
 
 abbrev pub low_line : ℕ
 low_line = 95

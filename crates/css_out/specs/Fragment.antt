@@ -5,6 +5,7 @@ use Rattle.name_path.specs.declared.kind.Kind.{Kind}
 use Rattle.name_path.specs.declared.kind.Kind.TheVariants as kind
 use Rattle.name_path.specs.declared.link.Link.{Link}
 use Rattle.transforms.specs.Config.{Settings}
+use Rattle.transforms.specs.FiveNames.{family_end, size_end, weight_end, spacing_end, height_end}
 use Rattle.transforms.specs.PlatformName.{name_on}
 use Rattle.transforms.specs.declared.platform.Platform.TheVariants.{Css}
 use Rattle.composite_rules.specs.Sound.{kind_of}
@@ -18,7 +19,7 @@ use Rattle.composite_rules.specs.declared.typography.Typography.{Typography}
 use Rattle.css_out.specs.Links.{link_for, item_link}
 use Rattle.css_out.specs.Parts.{Part, plain, linked, Entry}
 use Rattle.css_out.specs.Piece.{Mark, comma}
-use Rattle.css_out.specs.PlatformValue.{size_marks, time_marks, number_marks, curve_marks, color_marks, families_marks, stroke_marks, simple_marks, inset_marks, position_mark, family_end, size_end, weight_end, spacing_end, height_end, listed, border_marks, transition_marks, shadow_marks, stop_marks, can_spell}
+use Rattle.css_out.specs.PlatformValue.{size_marks, time_marks, number_marks, curve_marks, color_marks, families_marks, stroke_marks, simple_marks, inset_marks, position_mark, listed, border_marks, transition_marks, shadow_marks, stop_marks, can_spell}
 
 -- the name of the token at the path
 abbrev pub css_name : List ℕ → List (List ℕ) → List ℕ
@@ -106,11 +107,11 @@ module _ (prefix : List ℕ) (links : List Link) where
 
   abbrev pub typography_lines : List ℕ → Option (List ℕ) → Typography → List Entry
   typography_lines name whole t =
-      typography_line name whole (codes "fontFamily") kind.FontFamily family_end (families_marks t.family)
-      ∷ typography_line name whole (codes "fontSize") kind.Dimension size_end (size_marks t.size)
-      ∷ typography_line name whole (codes "fontWeight") kind.FontWeight weight_end (number_marks t.weight)
-      ∷ typography_line name whole (codes "letterSpacing") kind.Dimension spacing_end (size_marks t.spacing)
-      ∷ typography_line name whole (codes "lineHeight") kind.Number height_end (number_marks t.line_height) ∷ []
+      typography_line name whole (codes "fontFamily") kind.FontFamily (family_end Css) (families_marks t.family)
+      ∷ typography_line name whole (codes "fontSize") kind.Dimension (size_end Css) (size_marks t.size)
+      ∷ typography_line name whole (codes "fontWeight") kind.FontWeight (weight_end Css) (number_marks t.weight)
+      ∷ typography_line name whole (codes "letterSpacing") kind.Dimension (spacing_end Css) (size_marks t.spacing)
+      ∷ typography_line name whole (codes "lineHeight") kind.Number (height_end Css) (number_marks t.line_height) ∷ []
 
   -- the lines of a value under its name
   abbrev pub lines_of : List ℕ → Option (List (List ℕ)) → Typed → List Entry

@@ -7,7 +7,7 @@ use Rattle.transforms.specs.PlatformName.{is_property}
 use Rattle.transforms.specs.Sheet.{sheet_text}
 use Rattle.composite_rules.specs.Sound.{kind_of, IsTyped}
 use Rattle.composite_rules.specs.declared.typed.Typed.{Typed}
-use Rattle.css_out.specs.Lists.{AreApart, Each}
+use Rattle.ring.specs.Lists.{AreApart, Each}
 use Rattle.css_out.specs.Piece.{value_names}
 use Rattle.css_out.specs.PlatformValue.{can_spell, css_values}
 use Rattle.css_out.specs.Reading.{Declared, Block, Reads}

@@ -1,10 +1,13 @@
 -- What CSS is to receive of a typed value, without references and without bytes (CSS Color 4, CSS Easing 1 and the shorthands of borders, transitions, shadows and gradients).
-use Rattle.std.specs.Prelude.{ℕ, ◌==◌, ◌&&◌, ◌||◌, nat_le, not, Bool, true, false, List, [], ◌∷◌, ◌++◌, codes, Option, Some, None, if◌then◌else◌, flat_map}
+use Rattle.std.specs.Prelude.{ℕ, ◌&&◌, Bool, true, false, List, [], ◌∷◌, ◌++◌, codes, Option, Some, None, if◌then◌else◌, flat_map}
 use Rattle.std.specs.List.{list_all, list_any}
 use Rattle.std.specs.Ordering.{is_eq}
-use Rattle.std.specs.Str.{bytes_eq, chars}
+use Rattle.std.specs.Str.{bytes_eq}
 use Rattle.dec_fix.specs.Decimal.{Decimal}
 use Rattle.dec_fix.specs.Arithmetic.{order_with, times}
+use Rattle.transforms.specs.FiveNames.{family_end, size_end, weight_end, spacing_end, height_end}
+use Rattle.transforms.specs.Quoted.{is_printable}
+use Rattle.transforms.specs.declared.platform.Platform.TheVariants.{Css}
 use Rattle.type_rules.specs.Words.{size_unit_name, time_unit_name, space_name}
 use Rattle.type_rules.specs.declared.color.Color.{Color}
 use Rattle.type_rules.specs.declared.curve.Curve.{Curve}
@@ -113,13 +116,6 @@ family_marks family = if is_generic family then word family ∷ [] else string f
 abbrev pub families_marks : List (List ℕ) → List Mark
 families_marks families = listed family_marks families
 
--- a character from U+0020 on, and not U+007F, U+FFFE or U+FFFF
-abbrev pub is_printable_char : ℕ → Bool
-is_printable_char c = nat_le 32 c && not ((c == 127) || ((c == 65534) || (c == 65535)))
-
-abbrev pub is_printable : List ℕ → Bool
-is_printable text = list_all is_printable_char (chars text)
-
 abbrev pub simple_marks : Simple → List Mark
 simple_marks (simple.Color c) = color_marks c
 simple_marks (simple.Dimension s) = size_marks s
@@ -154,29 +150,13 @@ position_mark d = percent (times d 100)
 abbrev pub stop_marks : ColorStop → List Mark
 stop_marks s = color_marks s.color ++ position_mark s.position ∷ []
 
--- what stands behind the name of a typography in the names of its five values
-abbrev pub family_end : List ℕ
-family_end = codes "-font-family"
-
-abbrev pub size_end : List ℕ
-size_end = codes "-font-size"
-
-abbrev pub weight_end : List ℕ
-weight_end = codes "-font-weight"
-
-abbrev pub spacing_end : List ℕ
-spacing_end = codes "-letter-spacing"
-
-abbrev pub height_end : List ℕ
-height_end = codes "-line-height"
-
 abbrev pub typography_values : List ℕ → Typography → Values
 typography_values name t =
-    (name ++ family_end, families_marks t.family)
-    ∷ (name ++ size_end, size_marks t.size)
-    ∷ (name ++ weight_end, number_marks t.weight)
-    ∷ (name ++ spacing_end, size_marks t.spacing)
-    ∷ (name ++ height_end, number_marks t.line_height) ∷ []
+    (name ++ family_end Css, families_marks t.family)
+    ∷ (name ++ size_end Css, size_marks t.size)
+    ∷ (name ++ weight_end Css, number_marks t.weight)
+    ∷ (name ++ spacing_end Css, size_marks t.spacing)
+    ∷ (name ++ height_end Css, number_marks t.line_height) ∷ []
 
 abbrev pub are_printable : List (List ℕ) → Bool
 are_printable families = list_all is_printable families

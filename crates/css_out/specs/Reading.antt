@@ -5,7 +5,9 @@ use Rattle.std.specs.Char.{is_ascii_alphabetic, is_ascii_alphanumeric, is_ascii_
 use Rattle.std.specs.Str.{bytes_eq}
 use Rattle.dec_fix.specs.Decimal.{Decimal}
 use Rattle.dec_fix.specs.Following.{unsigned_at}
-use Rattle.css_out.specs.Characters.{newline, blank, quote, percent_sign, left_bracket, right_bracket, asterisk, comma_sign, hyphen, solidus, colon_sign, semicolon, backslash, low_line}
+use Rattle.transforms.specs.Quoted.{quote, string_from}
+use Rattle.transforms.specs.Runs.{front, rest, starts_digit}
+use Rattle.css_out.specs.Characters.{newline, blank, percent_sign, left_bracket, right_bracket, asterisk, comma_sign, hyphen, solidus, colon_sign, semicolon, low_line}
 use Rattle.css_out.specs.Piece.{Piece, mark, var, number, percent, unit, string, word, opens, closes, comma, slash, is_opening, is_closing}
 
 -- a byte of a word: an ASCII letter, a digit or `-`
@@ -15,15 +17,6 @@ in_word c = is_ascii_alphanumeric c || (c == hyphen)
 -- a byte of a name behind its `--`: an ASCII letter, a digit, `_` or `-`
 abbrev pub in_name : ℕ → Bool
 in_name c = is_ascii_alphanumeric c || ((c == low_line) || (c == hyphen))
-
--- the bytes at the front that pass, and what follows them
-abbrev pub front : (ℕ → Bool) → List ℕ → List ℕ
-front p [] = []
-front p (c ∷ t) = if p c then c ∷ front p t else []
-
-abbrev pub rest : (ℕ → Bool) → List ℕ → List ℕ
-rest p [] = []
-rest p (c ∷ t) = if p c then rest p t else c ∷ t
 
 abbrev pub is_some : List ℕ → Bool
 is_some [] = false
@@ -47,16 +40,6 @@ abbrev pub worded : List ℕ → List ℕ → Option (Piece × List ℕ)
 worded w [] = Some (mark (word w), [])
 worded w (c ∷ t) = if c == left_bracket then (if is_var w then var_at t else Some (mark (opens w), t)) else Some (mark (word w), c ∷ t)
 
--- a string's characters up to its `"`, where a `\` gives the character behind it
-abbrev pub with_first : ℕ → Option (List ℕ × List ℕ) → Option (List ℕ × List ℕ)
-with_first c None = None
-with_first c (Some r) = Some (c ∷ r.0, r.1)
-
-abbrev pub string_from : Bool → List ℕ → Option (List ℕ × List ℕ)
-string_from escaped [] = None
-string_from true (c ∷ t) = with_first c (string_from false t)
-string_from false (c ∷ t) = if c == quote then Some ([], t) else (if c == backslash then string_from true t else with_first c (string_from false t))
-
 abbrev pub string_piece : Option (List ℕ × List ℕ) → Option (Piece × List ℕ)
 string_piece None = None
 string_piece (Some r) = Some (mark (string r.0), r.1)
@@ -71,10 +54,6 @@ measured d (c ∷ t) = if c == percent_sign then Some (mark (percent d), t)
 -- a number of any length: digits, and optionally a point and digits
 abbrev pub numbered : Decimal × List ℕ → Option (Piece × List ℕ)
 numbered r = measured r.0 r.1
-
-abbrev pub starts_digit : List ℕ → Bool
-starts_digit [] = false
-starts_digit (c ∷ t) = is_ascii_digit c
 
 -- the piece at the front, and what follows it
 abbrev pub piece_at : List ℕ → Option (Piece × List ℕ)

@@ -1,6 +1,6 @@
 -- What the names of a sheet stand for: `var()` is put in place by what the sheet declares, round after round.
 use Rattle.std.specs.Prelude.{ℕ, zero, suc, ◌≡◌, List, [], ◌∷◌, Option, Some, None, if◌then◌else◌, map, flat_map, bytes_eq}
-use Rattle.css_out.specs.Lists.{In}
+use Rattle.ring.specs.Lists.{In}
 use Rattle.css_out.specs.Piece.{Mark, Piece, mark, var, Values, value_names}
 use Rattle.css_out.specs.Reading.{Declared, Reads}
 

@@ -4,11 +4,11 @@ use Rattle.name_path.specs.declared.link.Link.{Link}
 use Rattle.transforms.specs.Clash.{Named, ShareNoName}
 use Rattle.transforms.specs.Config.{Settings}
 use Rattle.transforms.specs.PlatformName.{is_property}
-use Rattle.transforms.specs.Sheet.{FrameData, sheet_text}
+use Rattle.transforms.specs.Sheet.{FrameData, plain_frame, sheet_text}
 use Rattle.composite_rules.specs.Parts.{part_at}
 use Rattle.composite_rules.specs.Sound.{kind_of, IsTyped}
 use Rattle.composite_rules.specs.declared.typed.Typed.{Typed}
-use Rattle.css_out.specs.Lists.{In, Each}
+use Rattle.ring.specs.Lists.{In, Each}
 use Rattle.css_out.specs.Piece.{Mark, Values}
 use Rattle.css_out.specs.PlatformValue.{css_values}
 use Rattle.css_out.specs.Reading.{head, foot}
@@ -26,7 +26,7 @@ pub record Cell : Type 0 where
 
 -- what stands around the texts
 abbrev pub css_frame : FrameData
-css_frame = record { head = head; glue = []; last = []; tail = foot }
+css_frame = plain_frame head foot
 
 module _ (settings : Settings) where
   abbrev pub cell_name : Cell → List ℕ

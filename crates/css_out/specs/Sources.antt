@@ -9,7 +9,7 @@ use Rattle.composite_rules.specs.Parts.{part_at}
 use Rattle.composite_rules.specs.Sound.{kind_of}
 use Rattle.composite_rules.specs.declared.typed.Typed.{Typed}
 use Rattle.composite_rules.specs.declared.typed.Typed.TheVariants as typed
-use Rattle.css_out.specs.Lists.{In}
+use Rattle.ring.specs.Lists.{In}
 use Rattle.css_out.specs.Piece.{Mark}
 use Rattle.css_out.specs.Reading.{Block}
 use Rattle.css_out.specs.Spelling.{fragment_lines}

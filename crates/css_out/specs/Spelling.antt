@@ -1,19 +1,15 @@
 -- The bytes of pieces, lines and fragments.
-use Rattle.std.specs.Prelude.{ℕ, ◌==◌, ◌||◌, Bool, true, false, List, [], ◌∷◌, ◌++◌, codes, if◌then◌else◌, map, flat_map}
+use Rattle.std.specs.Prelude.{ℕ, ◌||◌, Bool, true, false, List, [], ◌∷◌, ◌++◌, codes, if◌then◌else◌, map, flat_map}
 use Rattle.dec_fix.specs.Writing.{spelling}
 use Rattle.name_path.specs.declared.link.Link.{Link}
 use Rattle.transforms.specs.Config.{Settings}
+use Rattle.transforms.specs.Quoted.{escape}
 use Rattle.composite_rules.specs.declared.typed.Typed.{Typed}
-use Rattle.css_out.specs.Characters.{quote, backslash}
 use Rattle.css_out.specs.Piece.{Mark, Piece, mark, var, number, percent, unit, string, word, opens, closes, comma, slash, is_comma, is_opening, is_closing, value_names}
 use Rattle.css_out.specs.PlatformValue.{css_values}
 use Rattle.css_out.specs.Reading.{Declared}
 use Rattle.css_out.specs.Parts.{declaration}
 use Rattle.css_out.specs.Fragment.{css_name, fragment_entries}
-
--- `\` stands before `"` and `\`
-abbrev pub escape : ℕ → List ℕ
-escape c = if (c == quote) || (c == backslash) then backslash ∷ c ∷ [] else c ∷ []
 
 abbrev pub mark_text : Mark → List ℕ
 mark_text (number d) = spelling d

@@ -1,38 +1,19 @@
 //! Lines that grow piece by piece in one buffer.
 
 ghost use Rattle.std.specs.Prelude.{◌≡◌, [], ◌∷◌, ◌++◌, codes, OnOk};
-ghost use Rattle.std.specs.List.{flat_map};
 ghost use Rattle.css_out.specs.Piece.{mark, var, number, percent, unit, string, word, opens, closes, comma, slash};
-ghost use Rattle.css_out.specs.Spelling.{escape};
 ghost use Rattle.css_out.specs.inner.Added.{gap, with_piece, started};
 
 use dec_fix::Dec;
 use std::alloc::Global;
 use tk_io::{Bytes, NoMemory};
+use transforms::append_escaped;
 
 /// The lines of a fragment so far, and whether no blank stands before the next piece.
 #[derive(Drop)]
 pub(crate) struct Line {
     pub(crate) text: Bytes,
     pub(crate) is_tight: bool,
-}
-
-fn append_escaped(out: &mut Bytes, text: &[u8]) -> Result<(), NoMemory>
-    ensures { OnOk result (out.new ≡ out.old ++ flat_map escape text.now) }
-{
-    for c in text {
-        append_escape(out, *c)?;
-    }
-    Ok(())
-}
-
-fn append_escape(out: &mut Bytes, c: u8) -> Result<(), NoMemory>
-    ensures { OnOk result (out.new ≡ out.old ++ escape c) }
-{
-    if c == b'"' || c == b'\\' {
-        return out.append(&[b'\\', c]);
-    }
-    out.append(&[c])
 }
 
 impl Line {
@@ -67,7 +48,10 @@ impl Line {
 
     // A blank, where the line is not tight.
     fn blank(&mut self) -> Result<(), NoMemory>
-        ensures { OnOk result (self.new ≡ record { text = self.old.text ++ gap self.old.is_tight; is_tight = self.old.is_tight }) }
+        ensures { OnOk result (self.new ≡ record {
+          text = self.old.text ++ gap self.old.is_tight;
+          is_tight = self.old.is_tight;
+        }) }
     {
         if self.is_tight {
             return Ok(());

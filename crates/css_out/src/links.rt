@@ -33,7 +33,8 @@ pub(crate) fn link_for<'l, 's>(
     trail: &[&str],
     kind: Kind,
 ) -> Option<&'l Path<'s>>
-    ensures { option_map (λ p. p.now) result ≡ link_for links.now (map (λ s. s.now) trail.now) kind }
+    ensures { option_map (λ p. p.now) result
+        ≡ link_for links.now (map (λ s. s.now) trail.now) kind }
 {
     for link in links {
         if is_kind(link.kind, kind) && is_same(link.trail.as_slice(), trail) {

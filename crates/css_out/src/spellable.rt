@@ -1,24 +1,12 @@
 //! Which values CSS can spell.
 
 ghost use Rattle.std.specs.Prelude.{◌≡◌};
-ghost use Rattle.css_out.specs.PlatformValue.{is_printable_char, is_printable, are_printable, has_word, can_spell_simple, can_spell};
+ghost use Rattle.css_out.specs.PlatformValue.{are_printable, has_word, can_spell_simple, can_spell};
 
 use composite_rules::{Stroke, Typed};
 use tk_io::Text;
+use transforms::is_printable;
 use type_rules::Simple;
-
-fn is_printable_char(c: char) -> bool
-    ensures { result ≡ is_printable_char c }
-{
-    let n = c as u32;
-    n >= 32 && !(n == 127 || (n == 65534 || n == 65535))
-}
-
-fn is_printable(text: &str) -> bool
-    ensures { result ≡ is_printable text.now }
-{
-    text.chars().all(|c| is_printable_char(c))
-}
 
 fn are_printable(families: &[Text<'_>]) -> bool
     ensures { result ≡ are_printable families.now }

@@ -123,7 +123,8 @@ fn spell_component(
     as_percent: bool,
     component: Option<Dec>,
 ) -> Result<(), NoMemory>
-    ensures { OnOk result (line.new ≡ with_piece line.old (mark (component_mark as_percent component))) }
+    ensures { OnOk result (line.new
+        ≡ with_piece line.old (mark (component_mark as_percent component))) }
 {
     let Some(number) = component else {
         return line.word("none");
@@ -202,7 +203,8 @@ fn spell_family(line: &mut Line, family: &str) -> Result<(), NoMemory>
 }
 
 fn spell_more_families(line: &mut Line, families: &[Text<'_>]) -> Result<(), NoMemory>
-    ensures { OnOk result (line.new ≡ marked line.old (flat_map (λ y. comma ∷ family_marks y) families.now)) }
+    ensures { OnOk result (line.new
+        ≡ marked line.old (flat_map (λ y. comma ∷ family_marks y) families.now)) }
 {
     for family in families {
         line.comma()?;

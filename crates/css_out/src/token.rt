@@ -31,7 +31,8 @@ pub(crate) struct Token<'a, 's> {
 impl<'a, 's> Token<'a, 's> {
     /// `var()` of the target's name.
     pub(crate) fn target(&self, line: &mut Line, target: &Path<'_>) -> Result<(), NoMemory>
-        ensures { OnOk result (line.new ≡ with_piece line.old (var (css_name self.now.cfg.now.prefix target.now))) }
+        ensures { OnOk result (line.new
+            ≡ with_piece line.old (var (css_name self.now.cfg.now.prefix target.now))) }
     {
         let name = name_for(self.alloc, Platform::Css, target, self.cfg)?;
         line.var(name.as_slice())?;
@@ -46,7 +47,8 @@ impl<'a, 's> Token<'a, 's> {
         target: Option<&Path<'_>>,
         value: &T,
     ) -> Result<(), NoMemory>
-        ensures { OnOk result (line.new ≡ added line.old (shown_part (part self.now.cfg.now.prefix (option_map (λ p. p.now) target.entry) (T.marks value.now)))) }
+        ensures { OnOk result (line.new ≡ added line.old (shown_part (part self.now.cfg.now.prefix
+            (option_map (λ p. p.now) target.entry) (T.marks value.now)))) }
     {
         match target {
             Some(target) => self.target(line, target),
@@ -61,13 +63,15 @@ impl<'a, 's> Token<'a, 's> {
         kind: Kind,
         value: &T,
     ) -> Result<(), NoMemory>
-        ensures { OnOk result (line.new ≡ added line.old (shown_part (member_part self.now.cfg.now.prefix self.now.links.now name.now kind (T.marks value.now)))) }
+        ensures { OnOk result (line.new ≡ added line.old (shown_part (member_part
+            self.now.cfg.now.prefix self.now.links.now name.now kind (T.marks value.now)))) }
     {
         self.part(line, link_for(self.links, &[name], kind), value)
     }
 
     pub(crate) fn border(&self, line: &mut Line, border: &Border) -> Result<(), NoMemory>
-        ensures { OnOk result (line.new ≡ added line.old (shown (border_parts self.now.cfg.now.prefix self.now.links.now border.now))) }
+        ensures { OnOk result (line.new ≡ added line.old (shown (border_parts
+            self.now.cfg.now.prefix self.now.links.now border.now))) }
     {
         self.member(line, "width", Kind::Dimension, &border.width)?;
         self.member(line, "style", Kind::StrokeStyle, &border.style)?;
@@ -80,7 +84,8 @@ impl<'a, 's> Token<'a, 's> {
         line: &mut Line,
         transition: &Transition,
     ) -> Result<(), NoMemory>
-        ensures { OnOk result (line.new ≡ added line.old (shown (transition_parts self.now.cfg.now.prefix self.now.links.now transition.now))) }
+        ensures { OnOk result (line.new ≡ added line.old (shown (transition_parts
+            self.now.cfg.now.prefix self.now.links.now transition.now))) }
     {
         self.member(line, "duration", Kind::Duration, &transition.duration)?;
         self.member(
@@ -112,7 +117,8 @@ impl<'a, 's> Token<'a, 's> {
     /// Items with commas between.
     pub(crate) fn listed<T: Item>(&self, line: &mut Line, items: &[T]) -> Result<(), NoMemory>
         requires { AllByRecursion T.is_item items.now }
-        ensures { OnOk result (line.new ≡ added line.old (shown (listed_parts (T.item_parts self.now.cfg.now.prefix self.now.links.now (is_only items.now)) items.now))) }
+        ensures { OnOk result (line.new ≡ added line.old (shown (listed_parts
+            (T.item_parts self.now.cfg.now.prefix self.now.links.now (is_only items.now)) items.now))) }
     {
         let Some(first) = items.first() else {
             return Ok(());
@@ -131,7 +137,8 @@ impl<'a, 's> Token<'a, 's> {
         items: &[T],
     ) -> Result<(), NoMemory>
         requires { AllByRecursion T.is_item items.now }
-        ensures { OnOk result (line.new ≡ added line.old (shown (behind_commas (T.item_parts self.now.cfg.now.prefix self.now.links.now is_only) 1 (drop 1 items.now)))) }
+        ensures { OnOk result (line.new ≡ added line.old (shown (behind_commas
+            (T.item_parts self.now.cfg.now.prefix self.now.links.now is_only) 1 (drop 1 items.now)))) }
     {
         for i in 1..items.len() {
             line.comma()?;
@@ -148,7 +155,8 @@ impl<'a, 's> Token<'a, 's> {
         typed: &Typed<'_>,
     ) -> Result<(), NoMemory>
         requires { IsTyped typed.now }
-        ensures { OnOk result (line.new ≡ added line.old (shown (value_parts self.now.cfg.now.prefix self.now.links.now (option_map (λ p. p.now) whole.entry) typed.now))) }
+        ensures { OnOk result (line.new ≡ added line.old (shown (value_parts self.now.cfg.now.prefix
+            self.now.links.now (option_map (λ p. p.now) whole.entry) typed.now))) }
     {
         match typed {
             Typed::Simple(simple) => self.part(line, whole, simple),
@@ -196,7 +204,8 @@ pub(crate) trait Item {
         i: usize,
     ) -> Result<(), NoMemory>
         requires { is_item self.now }
-        ensures { OnOk result (line.new ≡ added line.old (shown (item_parts token.now.cfg.now.prefix token.now.links.now is_only i self.now))) };
+        ensures { OnOk result (line.new ≡ added line.old (shown (item_parts
+            token.now.cfg.now.prefix token.now.links.now is_only i self.now))) };
 }
 
 impl Item for ShadowItem {

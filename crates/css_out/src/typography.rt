@@ -15,7 +15,7 @@ use composite_rules::Typography;
 use name_path::{Kind, Path};
 use std::alloc::Global;
 use tk_io::{Bytes, NoMemory};
-use transforms::{Frag, Names, Platform, name_for};
+use transforms::{Frag, Names, Platform, name_for, name_with_ending};
 
 /// The names and lines so far.
 #[derive(Drop)]
@@ -61,18 +61,10 @@ const HEIGHT: Member = Member {
     ending: "-line-height",
 };
 
-fn ended(alloc: Global, name: &[u8], ending: &str) -> Result<Bytes, NoMemory>
-    ensures { IfOk result (λ b. b ≡ name.now ++ ending.now) }
-{
-    let mut ended = Bytes::new(alloc);
-    ended.append(name)?;
-    ended.append(ending.as_bytes())?;
-    Ok(ended)
-}
-
 impl<'a, 's> Token<'a, 's> {
     fn whole_name(&self, whole: Option<&Path<'_>>) -> Result<Option<Bytes>, NoMemory>
-        ensures { IfOk result (λ name. name ≡ option_map (λ p. css_name self.now.cfg.now.prefix p.now) whole.entry) }
+        ensures { IfOk result (λ name. name
+            ≡ option_map (λ p. css_name self.now.cfg.now.prefix p.now) whole.entry) }
     {
         match whole {
             Some(target) => {
@@ -90,7 +82,9 @@ impl<'a, 's> Token<'a, 's> {
         member: &Member,
         value: &T,
     ) -> Result<(), NoMemory>
-        ensures { OnOk result (line.new ≡ added line.old (shown_part (typography_part self.now.cfg.now.prefix self.now.links.now whole.now member.now.name.now member.now.kind member.now.ending.now (T.marks value.now)))) }
+        ensures { OnOk result (line.new ≡ added line.old (shown_part (typography_part
+            self.now.cfg.now.prefix self.now.links.now whole.now
+            member.now.name.now member.now.kind member.now.ending.now (T.marks value.now)))) }
     {
         match whole {
             Some(name) => line.ended_var(name.as_slice(), member.ending),
@@ -110,10 +104,14 @@ impl<'a, 's> Token<'a, 's> {
         member: &Member,
         value: &T,
     ) -> Result<(), NoMemory>
-        ensures names { OnOk result (lines.new.names ≡ lines.old.names ++ (name.now ++ member.now.ending.now) ∷ []) }
-        ensures text { OnOk result (lines.new.line.text ≡ lines.old.line.text ++ line_text (declaration (typography_line self.now.cfg.now.prefix self.now.links.now name.now whole.now member.now.name.now member.now.kind member.now.ending.now (T.marks value.now)))) }
+        ensures names { OnOk result (lines.new.names
+            ≡ lines.old.names ++ (name.now ++ member.now.ending.now) ∷ []) }
+        ensures text { OnOk result (lines.new.line.text
+            ≡ lines.old.line.text ++ line_text (declaration (typography_line
+            self.now.cfg.now.prefix self.now.links.now name.now whole.now
+            member.now.name.now member.now.kind member.now.ending.now (T.marks value.now)))) }
     {
-        let name = ended(self.alloc, name, member.ending)?;
+        let name = name_with_ending(self.alloc, name, member.ending)?;
         lines.line.start(name.as_slice())?;
         self.typography_part(&mut lines.line, whole, member, value)?;
         lines.line.end()?;
@@ -128,7 +126,9 @@ impl<'a, 's> Token<'a, 's> {
         whole: Option<&Path<'_>>,
         value: &Typography<'_>,
     ) -> Result<Frag, NoMemory>
-        ensures { IfOk result (IsFragment name.now (typography_lines self.now.cfg.now.prefix self.now.links.now name.now (option_map (λ p. css_name self.now.cfg.now.prefix p.now) whole.entry) value.now)) }
+        ensures { IfOk result (IsFragment name.now (typography_lines
+            self.now.cfg.now.prefix self.now.links.now name.now
+            (option_map (λ p. css_name self.now.cfg.now.prefix p.now) whole.entry) value.now)) }
     {
         let whole = self.whole_name(whole)?;
         let mut lines = Lines {

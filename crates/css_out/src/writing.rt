@@ -61,7 +61,9 @@ impl<'a, 's> Token<'a, 's> {
         typed: &Typed<'_>,
     ) -> Result<Frag, NoMemory>
         requires { IsTyped typed.now }
-        ensures { IfOk result (IsFragment name (line name (value_parts self.now.cfg.now.prefix self.now.links.now (option_map (λ p. p.now) whole.entry) typed.now) ∷ [])) }
+        ensures { IfOk result (IsFragment name (line name (value_parts
+            self.now.cfg.now.prefix self.now.links.now
+            (option_map (λ p. p.now) whole.entry) typed.now) ∷ [])) }
     {
         let mut line = Line::new(self.alloc);
         line.start(name.as_slice())?;
@@ -77,7 +79,9 @@ impl<'a, 's> Token<'a, 's> {
 
     fn lines(&self, name: Bytes, typed: &Typed<'_>) -> Result<Frag, NoMemory>
         requires { IsTyped typed.now }
-        ensures { IfOk result (IsFragment name (lines_of self.now.cfg.now.prefix self.now.links.now name (link_for self.now.links.now [] (kind_of typed.now)) typed.now)) }
+        ensures { IfOk result (IsFragment name (lines_of
+            self.now.cfg.now.prefix self.now.links.now name
+            (link_for self.now.links.now [] (kind_of typed.now)) typed.now)) }
     {
         let whole = link_for(self.links, &[], typed.kind());
         match typed {
@@ -129,7 +133,8 @@ fn written(
     cfg: &Config,
 ) -> Result<Frag, NoMemory>
     requires { IsTyped typed.now }
-    ensures { IfOk result (IsFragment name (entries cfg.now.prefix (spelled_links cfg.now links.now) name typed.now)) }
+    ensures { IfOk result (IsFragment name
+        (entries cfg.now.prefix (spelled_links cfg.now links.now) name typed.now)) }
 {
     if !can_spell(typed) {
         return omitted(alloc, name.as_slice());

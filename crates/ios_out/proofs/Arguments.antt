@@ -3,11 +3,14 @@ use Rattle.std.proofs.Common.{◌≡◌, ℕ, Bool, true, List, [], ◌∷◌, �
 use Rattle.std.specs.Char.{is_ascii_alphabetic, is_ascii_alphanumeric}
 use Rattle.std.specs.List.{list_all, AllByRecursion}
 use Rattle.std.proofs.lemmas.Bool.Decides.{nat_tests}
+use Rattle.dec_fix.proofs.Again.{both}
+use Rattle.transforms.specs.Runs.{PassesNumbers}
+use Rattle.transforms.proofs.RunsAreFronts.{all-append}
+use Rattle.transforms.proofs.Spelled.{both as together}
 use Rattle.ios_out.specs.Constant.{Argument, labelled, bare}
 use Rattle.ios_out.specs.Reading.{is_word, no_comma, no_bracket, IsArgument, with_label, without, AreArguments, last, more}
 use Rattle.ios_out.specs.Spelling.{quantity_text, argument_text, arguments_text}
-use Rattle.ios_out.proofs.Runs.{both, together}
-use Rattle.ios_out.proofs.Numbers.{Passes, all-append, IsFineQuantity, quantity_read, quantity_passes}
+use Rattle.ios_out.proofs.Numbers.{IsFineQuantity, quantity_read, quantity_passes}
 
 abbrev pub IsFineArgument : Argument → Type 0
 IsFineArgument (labelled label q) = (is_word label ≡ true) × IsFineQuantity q
@@ -15,7 +18,7 @@ IsFineArgument (bare q) = IsFineQuantity q
 
 -- a test that the bytes of arguments pass
 pub record PassesMore (p : ℕ → Bool) : Type 0 where
-  pub numbers : Passes p
+  pub numbers : PassesNumbers p
   pub letter : (c : ℕ) → is_ascii_alphanumeric c ≡ true → p c ≡ true
   pub solidus : p 47 ≡ true
   pub colon : p 58 ≡ true

@@ -5,7 +5,6 @@ pub mod FiveLines
 pub mod Numbers
 pub mod OneReading
 pub mod OwnNamesApart
-pub mod Runs
 pub mod SheetsDenote
 pub mod SpelledIsRead
 pub mod TextsRead

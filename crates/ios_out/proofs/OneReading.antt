@@ -5,12 +5,16 @@ use Rattle.std.specs.List.{list_all}
 use Rattle.std.proofs.lemmas.Bool.Decides.{nat_tests}
 use Rattle.std.proofs.lemmas.List.{append_cancel_left, append_cancel_right}
 use Rattle.std.proofs.lemmas.List.Folds.{list_all-append}
-use Rattle.transforms.specs.PlatformName.{is_kept, is_identifier, begins_with_digit}
+use Rattle.transforms.specs.PlatformName.{is_kept, is_identifier}
 use Rattle.transforms.specs.declared.platform.Platform.TheVariants.{Android}
 use Rattle.dec_fix.specs.Decimal.{Decimal}
+use Rattle.dec_fix.proofs.Again.{both}
+use Rattle.transforms.specs.Quoted.{string_from}
+use Rattle.transforms.specs.Runs.{front, rest}
+use Rattle.transforms.proofs.Endings.{kept_name}
+use Rattle.transforms.proofs.RunsAreFronts.{front-append, rest-append, runs_once}
 use Rattle.ios_out.specs.Constant.{Quantity, Argument, labelled, bare, Content, number, string, made, Values}
-use Rattle.ios_out.specs.Reading.{number_in, quantity_in, is_word, no_comma, no_bracket, no_newline, IsArgument, with_label, without, AreArguments, last, more, string_from, Says, of_number, of_string, of_arguments, is_blank, Block, ended, blank, comment, constant, head, foot, Reads}
-use Rattle.ios_out.proofs.Runs.{both, front, rest, front-append, rest-append, runs_once}
+use Rattle.ios_out.specs.Reading.{number_in, quantity_in, is_word, no_comma, no_bracket, no_newline, IsArgument, with_label, without, AreArguments, last, more, Says, of_number, of_string, of_arguments, is_blank, Block, ended, blank, comment, constant, head, foot, Reads}
 use Rattle.ios_out.proofs.Arguments.{word_letters}
 
 -- arguments
@@ -128,14 +132,11 @@ ends_name (of_number u n ds r d e w l h) = record { first = 58; further = 32 ∷
 ends_name (of_string u n v text r e w h) = record { first = 58; further = 32 ∷ (n ++ (codes " = \"" ++ v)); whole = e; ends = refl }
 ends_name (of_arguments u m inside r args e w l h) = record { first = 32; further = 61 ∷ 32 ∷ (m ++ (codes "(" ++ (inside ++ (codes ")\n" ++ r)))); whole = e; ends = refl }
 
-kept_name : (name : List ℕ) → is_identifier name ≡ true → list_all (is_kept Android) name ≡ true
-kept_name name h = (both (not (begins_with_digit name)) (list_all (is_kept Android) name) (both (nat_lt 0 (length name)) (not (begins_with_digit name) && list_all (is_kept Android) name) h).1).1
-
 front_of : (n u : List ℕ) → list_all (is_kept Android) n ≡ true → EndsName u → front (is_kept Android) (n ++ u) ≡ n
-front_of n u h x = ap (λ z. front (is_kept Android) (n ++ z)) x.whole ∙ front-append (is_kept Android) n x.first x.further h x.ends
+front_of n u h x = ap (λ z. front (is_kept Android) (n ++ z)) x.whole ∙ front-append (is_kept Android) n (x.first ∷ x.further) h (ap not x.ends)
 
 rest_of : (n u : List ℕ) → list_all (is_kept Android) n ≡ true → EndsName u → rest (is_kept Android) (n ++ u) ≡ u
-rest_of n u h x = ap (λ z. rest (is_kept Android) (n ++ z)) x.whole ∙ rest-append (is_kept Android) n x.first x.further h x.ends ∙ sym x.whole
+rest_of n u h x = ap (λ z. rest (is_kept Android) (n ++ z)) x.whole ∙ rest-append (is_kept Android) n (x.first ∷ x.further) h (ap not x.ends) ∙ sym x.whole
 
 names_once : (n m u v : List ℕ) → is_identifier n ≡ true → is_identifier m ≡ true → EndsName u → EndsName v → n ++ u ≡ m ++ v → (n ≡ m) × (u ≡ v)
 names_once n m u v h k x y e = (

@@ -3,15 +3,20 @@ use Rattle.std.proofs.Common.{◌≡◌, ℕ, ◌==◌, ◌&&◌, ◌||◌, not,
 use Rattle.std.specs.Prelude.{if◌then◌else◌}
 use Rattle.std.specs.List.{list_all, AllByRecursion}
 use Rattle.std.proofs.lemmas.Bool.Decides.{nat_tests}
-use Rattle.transforms.specs.PlatformName.{is_kept, is_identifier, begins_with_digit}
+use Rattle.transforms.specs.PlatformName.{is_kept, is_identifier}
 use Rattle.transforms.specs.declared.platform.Platform.TheVariants.{Android}
 use Rattle.dec_fix.specs.Decimal.{Decimal, IsDec}
 use Rattle.dec_fix.specs.Writing.{point_spelling}
+use Rattle.dec_fix.proofs.Again.{both}
+use Rattle.transforms.specs.Quoted.{escape}
+use Rattle.transforms.specs.Runs.{PassesNumbers}
+use Rattle.transforms.proofs.Endings.{kept_name}
+use Rattle.transforms.proofs.QuotedReadsBack.{string_again}
+use Rattle.transforms.proofs.Spelled.{both as together}
 use Rattle.ios_out.specs.Constant.{Argument, Content, number, string, made, Values}
-use Rattle.ios_out.specs.Reading.{is_word, no_newline, with_first, string_from, Says, of_number, of_string, of_arguments, Block, ended, blank, comment, constant}
-use Rattle.ios_out.specs.Spelling.{arguments_text, escape, content_text, line_text, omitted_text, body_text}
-use Rattle.ios_out.proofs.Runs.{both, together}
-use Rattle.ios_out.proofs.Numbers.{Passes, number_passes, number_read}
+use Rattle.ios_out.specs.Reading.{is_word, no_newline, Says, of_number, of_string, of_arguments, Block, ended, blank, comment, constant}
+use Rattle.ios_out.specs.Spelling.{arguments_text, content_text, line_text, omitted_text, body_text}
+use Rattle.ios_out.proofs.Numbers.{number_passes, number_read}
 use Rattle.ios_out.proofs.Arguments.{IsFineArgument, in_brackets, arguments_read}
 
 -- contents that can be spelled
@@ -25,18 +30,8 @@ pub record IsSpellable (v : List ℕ × Content) : Type 0 where
   pub named : is_identifier v.0 ≡ true
   pub fine : IsFine v.1
 
-newline_passes : Passes no_newline
+newline_passes : PassesNumbers no_newline
 newline_passes = record { digit = λ c h. grind (arith, nat_tests); minus = refl; point = refl }
-
--- strings
-escaped_step : (c : ℕ) (s x t : List ℕ) (b : Bool) → ((c == 34) || (c == 92)) ≡ b → string_from false (s ++ (34 ∷ t)) ≡ Some (x, t)
-    → string_from false (((if b then 92 ∷ c ∷ [] else c ∷ []) ++ s) ++ (34 ∷ t)) ≡ Some (c ∷ x, t)
-escaped_step c s x t true e again = ap (with_first c) again
-escaped_step c s x t false e again = let a : (c == 34) ≡ false = grind arith in let b : (c == 92) ≡ false = grind arith in rw (a, b) (ap (with_first c) again)
-
-string_again : (x t : List ℕ) → string_from false (flat_map escape x ++ (34 ∷ t)) ≡ Some (x, t)
-string_again [] t = refl
-string_again (c ∷ x) t = escaped_step c (flat_map escape x) x t ((c == 34) || (c == 92)) refl (string_again x t)
 
 -- contents before a line's end and what follows
 number_says : (n : List ℕ) (d : Decimal) (t : List ℕ) → is_word n ≡ true → IsDec d → Says (content_text (number n d) ++ (10 ∷ t)) (number n d) t
@@ -87,10 +82,9 @@ named_in_line (c ∷ n) h =
 
 omitted_read : (n : List ℕ) → is_identifier n ≡ true → Block (omitted_text n) []
 omitted_read n h =
-    let kept = (both (not (begins_with_digit n)) (list_all (is_kept Android) n) (both (nat_lt 0 (length n)) (not (begins_with_digit n) && list_all (is_kept Android) n) h).1).1 in
     let inside = codes " omitted " ++ n in
     let whole = codes "//" ++ (inside ++ codes "\n") in
-    blank _ 32 (32 ∷ whole) [] refl refl (blank _ 32 whole [] refl refl (comment whole inside [] [] refl (named_in_line n kept) (ended [] refl)))
+    blank _ 32 (32 ∷ whole) [] refl refl (blank _ 32 whole [] refl refl (comment whole inside [] [] refl (named_in_line n (kept_name n h)) (ended [] refl)))
 
 pub body_read : (n : List ℕ) (vs : Values) → is_identifier n ≡ true → AllByRecursion IsSpellable vs → Block (body_text n vs) vs
 body_read n [] h all = omitted_read n h

@@ -4,18 +4,18 @@ use Rattle.std.specs.Prelude.{if◌then◌else◌, IfSome, option_and_then, opti
 use Rattle.std.specs.Char.{digit_value}
 use Rattle.std.specs.List.{list_all, AllByRecursion}
 use Rattle.std.specs.Option.{option_or}
-use Rattle.std.proofs.Math.Nat.{div-le_self, mul-le-mul_left}
 use Rattle.std.proofs.lemmas.Bool.Decides.{nat_tests}
-use Rattle.dec_fix.specs.Decimal.{Decimal, IsDec, IsExact, is_negative, shortest, decimal_of}
-use Rattle.dec_fix.specs.Arithmetic.{times, over_1000}
-use Rattle.dec_fix.proofs.OneShortest.{shortest-short}
-use Rattle.dec_fix.proofs.SameNumber.{unsigned_abs-signed}
+use Rattle.dec_fix.specs.Decimal.{Decimal, IsDec, IsExact}
+use Rattle.dec_fix.proofs.Again.{both}
 use Rattle.transforms.specs.Config.{Settings}
+use Rattle.transforms.specs.FiveNames.{family_end, size_end, weight_end, spacing_end, height_end}
 use Rattle.transforms.specs.Hexadecimal.{hex_value}
+use Rattle.transforms.specs.Quoted.{is_printable}
 use Rattle.transforms.specs.PlatformName.{is_kept, is_identifier}
 use Rattle.transforms.specs.Scaling.{scaled}
-use Rattle.transforms.specs.declared.platform.Platform.TheVariants.{Android}
+use Rattle.transforms.specs.declared.platform.Platform.TheVariants.{Android, Swift}
 use Rattle.transforms.proofs.Endings.{endings_stay}
+use Rattle.transforms.proofs.ScaledAreWritten.{exact_dec, over_dec, scaled_dec}
 use Rattle.type_rules.specs.Ranges.{ranges_of}
 use Rattle.type_rules.specs.Sound.{IsColor, IsCurve, IsSize, IsInRange, IsSimple, IsHex, is_hex_digit}
 use Rattle.type_rules.specs.declared.color.Color.{Color}
@@ -33,46 +33,12 @@ use Rattle.composite_rules.specs.declared.typed.Typed.{Typed}
 use Rattle.composite_rules.specs.declared.typed.Typed.TheVariants as typed
 use Rattle.composite_rules.specs.declared.typography.Typography.{Typography}
 use Rattle.ios_out.specs.Constant.{Quantity, amount, over_255, labelled, bare, Content, string}
-use Rattle.ios_out.specs.PlatformValue.{length_type, time_type, number_type, text_type, color_maker, curve_maker, red_label, color_of, component_color, digits_color, color_content, is_rem, size_content, seconds_in, curve_content, is_printable, family_content, simple_content, family_end, size_end, weight_end, spacing_end, height_end, one_value, unless_omitted, swift_values}
+use Rattle.ios_out.specs.PlatformValue.{length_type, time_type, number_type, text_type, color_maker, curve_maker, red_label, color_of, component_color, digits_color, color_content, is_rem, size_content, seconds_in, curve_content, family_content, simple_content, one_value, unless_omitted, swift_values}
 use Rattle.ios_out.specs.Reading.{is_word}
-use Rattle.ios_out.proofs.Runs.{both}
 use Rattle.ios_out.proofs.Numbers.{IsFineQuantity}
 use Rattle.ios_out.proofs.SpelledIsRead.{IsFine, fine_number, fine_string, fine_made, IsSpellable}
 
 -- numbers
-exact_dec : (d : Decimal) → IsExact d → IsDec d
-exact_dec d h = record { size = omega (arith, h.size); places = omega (arith, h.places); short = h.short }
-
-shortest_if : (b : Bool) (n s : ℕ) (p : ℕ × ℕ) → (p.0 ≤ n / 10) × (p.1 ≤ s) → ((if b then p else (n, suc s)).0 ≤ n) × ((if b then p else (n, suc s)).1 ≤ suc s)
-shortest_if true n s p h = (omega (arith, h.0, div-le_self n 10), omega (arith, h.1))
-shortest_if false n s p h = (omega arith, omega arith)
-
-shortest_within : (n s : ℕ) → ((shortest n s).0 ≤ n) × ((shortest n s).1 ≤ s)
-shortest_within n zero = (omega arith, omega arith)
-shortest_within n (suc s) = shortest_if (n % 10 == 0) n s (shortest (n / 10) s) (shortest_within (n / 10) s)
-
-made_dec : (b : Bool) (n s : ℕ) → n < 10 ^ 33 → s ≤ 33 → IsDec (decimal_of b n s)
-made_dec b n s h k =
-    let w = shortest_within n s in
-    record {
-      size = rw (unsigned_abs-signed b (shortest n s).0) (omega (arith, w.0, h));
-      places = omega (arith, w.1, k);
-      short = rw (unsigned_abs-signed b (shortest n s).0) (shortest-short n s);
-    }
-
-product : (c k : ℕ) → c < 10 ^ 30 → k ≤ 1000 → c * k < 10 ^ 33
-product c k h i = let most : c * k ≤ c * 1000 = mul-le-mul_left c i in omega (arith, most, h)
-
-times_dec : (d : Decimal) (k : ℕ) → IsExact d → k ≤ 1000 → IsDec (times d k)
-times_dec d k h i = made_dec (is_negative d.c) (unsigned_abs d.c * k) d.s (product (unsigned_abs d.c) k h.size i) (omega (arith, h.places))
-
-over_dec : (d : Decimal) → IsExact d → IsDec (over_1000 d)
-over_dec d h = made_dec (is_negative d.c) (unsigned_abs d.c) (d.s + 3) (omega (arith, h.size)) (omega (arith, h.places))
-
-scaled_dec : (d : Decimal) (b : Bool) (k : ℕ) → IsExact d → k < 2 ^ 8 → IsDec (scaled d b k)
-scaled_dec d true k h i = times_dec d k h (omega (arith, i))
-scaled_dec d false k h i = exact_dec d h
-
 fine_size : (settings : Settings) (s : Size) → settings.rem_base < 2 ^ 8 → IsSize s → IsFine (size_content settings s)
 fine_size settings s base h = fine_number length_type (scaled s.value (is_rem s.unit) settings.rem_base) refl (scaled_dec s.value (is_rem s.unit) settings.rem_base h base)
 
@@ -191,14 +157,14 @@ five_spellable : (settings : Settings) (name : List ℕ) (t : Typography) (famil
     → AreFine family → AllByRecursion IsSpellable (unless_omitted settings name t family)
 five_spellable settings name t None base h n f = tt
 five_spellable settings name t (Some family) base h n f = (
-  record { named = ended name family_end n refl; fine = f },
+  record { named = ended name (family_end Swift) n refl; fine = f },
   (
-    record { named = ended name size_end n refl; fine = fine_size settings t.size base h.size },
+    record { named = ended name (size_end Swift) n refl; fine = fine_size settings t.size base h.size },
     (
-      record { named = ended name weight_end n refl; fine = fine_number number_type t.weight refl (exact_dec t.weight h.weight.exact) },
+      record { named = ended name (weight_end Swift) n refl; fine = fine_number number_type t.weight refl (exact_dec t.weight h.weight.exact) },
       (
-        record { named = ended name spacing_end n refl; fine = fine_size settings t.spacing base h.spacing },
-        (record { named = ended name height_end n refl; fine = fine_number number_type t.line_height refl (exact_dec t.line_height h.line_height) }, tt),
+        record { named = ended name (spacing_end Swift) n refl; fine = fine_size settings t.spacing base h.spacing },
+        (record { named = ended name (height_end Swift) n refl; fine = fine_number number_type t.line_height refl (exact_dec t.line_height h.line_height) }, tt),
       ),
     ),
   ),

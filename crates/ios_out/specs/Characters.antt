@@ -7,17 +7,8 @@ newline = 10
 abbrev pub blank_space : ℕ
 blank_space = 32
 
-abbrev pub quote : ℕ
-quote = 34
-
 abbrev pub right_bracket : ℕ
 right_bracket = 41
 
 abbrev pub comma_sign : ℕ
 comma_sign = 44
-
-abbrev pub hyphen : ℕ
-hyphen = 45
-
-abbrev pub backslash : ℕ
-backslash = 92

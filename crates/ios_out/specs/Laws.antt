@@ -6,7 +6,7 @@ use Rattle.transforms.specs.PlatformName.{is_identifier}
 use Rattle.transforms.specs.Sheet.{sheet_text}
 use Rattle.composite_rules.specs.Sound.{IsTyped}
 use Rattle.composite_rules.specs.declared.typed.Typed.{Typed}
-use Rattle.ios_out.specs.Lists.{AreApart}
+use Rattle.ring.specs.Lists.{AreApart}
 use Rattle.ios_out.specs.Constant.{Values}
 use Rattle.ios_out.specs.Reading.{Block, Reads}
 use Rattle.ios_out.specs.Spelling.{swift_name, fragment_values, fragment_names, fragment_text}

@@ -1,4 +1,3 @@
-pub mod Lists
 pub mod Characters
 pub mod Constant
 pub mod PlatformValue

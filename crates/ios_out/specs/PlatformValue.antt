@@ -1,13 +1,14 @@
 -- What Swift is to receive of a typed value, without bytes.
-use Rattle.std.specs.Prelude.{ℕ, ◌==◌, ◌&&◌, ◌||◌, not, nat_le, Bool, true, false, List, [], ◌∷◌, ◌++◌, codes, Option, Some, None, if◌then◌else◌, option_and_then, option_map}
-use Rattle.std.specs.List.{list_all}
+use Rattle.std.specs.Prelude.{ℕ, Bool, true, false, List, [], ◌∷◌, ◌++◌, codes, Option, Some, None, if◌then◌else◌, option_and_then, option_map}
 use Rattle.std.specs.Option.{option_or}
-use Rattle.std.specs.Str.{chars}
 use Rattle.dec_fix.specs.Decimal.{Decimal}
 use Rattle.dec_fix.specs.Arithmetic.{over_1000}
 use Rattle.transforms.specs.Config.{Settings}
+use Rattle.transforms.specs.FiveNames.{family_end, size_end, weight_end, spacing_end, height_end}
 use Rattle.transforms.specs.Hexadecimal.{hex_value}
+use Rattle.transforms.specs.Quoted.{is_printable}
 use Rattle.transforms.specs.Scaling.{scaled}
+use Rattle.transforms.specs.declared.platform.Platform.TheVariants.{Swift}
 use Rattle.type_rules.specs.declared.color.Color.{Color}
 use Rattle.type_rules.specs.declared.curve.Curve.{Curve}
 use Rattle.type_rules.specs.declared.simple.Simple.{Simple}
@@ -100,13 +101,6 @@ time_content t = number time_type (seconds_in t.unit t.value)
 abbrev pub curve_content : Curve → Content
 curve_content c = made curve_maker (labelled (codes "controlPoints") (amount c.x1) ∷ bare (amount c.y1) ∷ bare (amount c.x2) ∷ bare (amount c.y2) ∷ [])
 
--- a character from U+0020 on, and not U+007F, U+FFFE or U+FFFF
-abbrev pub is_printable_char : ℕ → Bool
-is_printable_char c = nat_le 32 c && not ((c == 127) || ((c == 65534) || (c == 65535)))
-
-abbrev pub is_printable : List ℕ → Bool
-is_printable text = list_all is_printable_char (chars text)
-
 -- the first family
 abbrev pub family_content : List (List ℕ) → Option Content
 family_content [] = None
@@ -121,29 +115,13 @@ simple_content settings (simple.Duration t) = Some (time_content t)
 simple_content settings (simple.CubicBezier c) = Some (curve_content c)
 simple_content settings (simple.Number d) = Some (number number_type d)
 
--- what stands behind the name of a typography in the names of its five values
-abbrev pub family_end : List ℕ
-family_end = codes "_font_family"
-
-abbrev pub size_end : List ℕ
-size_end = codes "_font_size"
-
-abbrev pub weight_end : List ℕ
-weight_end = codes "_font_weight"
-
-abbrev pub spacing_end : List ℕ
-spacing_end = codes "_letter_spacing"
-
-abbrev pub height_end : List ℕ
-height_end = codes "_line_height"
-
 abbrev pub five_values : Settings → List ℕ → Typography → Content → Values
 five_values settings name t family =
-    (name ++ family_end, family)
-    ∷ (name ++ size_end, size_content settings t.size)
-    ∷ (name ++ weight_end, number number_type t.weight)
-    ∷ (name ++ spacing_end, size_content settings t.spacing)
-    ∷ (name ++ height_end, number number_type t.line_height) ∷ []
+    (name ++ family_end Swift, family)
+    ∷ (name ++ size_end Swift, size_content settings t.size)
+    ∷ (name ++ weight_end Swift, number number_type t.weight)
+    ∷ (name ++ spacing_end Swift, size_content settings t.spacing)
+    ∷ (name ++ height_end Swift, number number_type t.line_height) ∷ []
 
 abbrev pub one_value : List ℕ → Option Content → Values
 one_value name None = []

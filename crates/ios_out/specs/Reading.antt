@@ -1,23 +1,16 @@
 -- How a file of constants is read, in the profile of Swift that outputs keep to: one enum of constants, each with a name and on a
 -- line of its own. Blanks, newlines and comments between them give nothing. Nothing here knows of tokens or kinds.
-use Rattle.std.specs.Prelude.{◌≡◌, ℕ, ◌==◌, ◌&&◌, ◌||◌, not, nat_lt, Bool, true, false, List, [], ◌∷◌, ◌++◌, codes, Option, Some, None, if◌then◌else◌, option_map, unsigned_abs}
-use Rattle.std.specs.Char.{is_ascii_alphabetic, is_ascii_alphanumeric, is_ascii_digit}
+use Rattle.std.specs.Prelude.{◌≡◌, ℕ, ◌==◌, ◌&&◌, ◌||◌, not, nat_lt, Bool, true, false, List, [], ◌∷◌, ◌++◌, codes, Option, Some, None, if◌then◌else◌, unsigned_abs}
+use Rattle.std.specs.Char.{is_ascii_alphabetic, is_ascii_alphanumeric}
 use Rattle.std.specs.List.{list_all}
 use Rattle.std.specs.Str.{bytes_eq}
 use Rattle.dec_fix.specs.Decimal.{Decimal, is_negative}
 use Rattle.dec_fix.specs.Following.{number_at}
 use Rattle.transforms.specs.PlatformName.{is_identifier}
-use Rattle.ios_out.specs.Characters.{newline, blank_space, quote, right_bracket, comma_sign, hyphen, backslash}
+use Rattle.transforms.specs.Quoted.{string_from}
+use Rattle.transforms.specs.Runs.{starts_number}
+use Rattle.ios_out.specs.Characters.{newline, blank_space, right_bracket, comma_sign}
 use Rattle.ios_out.specs.Constant.{Quantity, amount, over_255, Argument, labelled, bare, Content, number, string, made, Values}
-
--- a number begins with a digit, or with `-` and a digit
-abbrev pub starts_digit : List ℕ → Bool
-starts_digit [] = false
-starts_digit (c ∷ t) = is_ascii_digit c
-
-abbrev pub starts_number : List ℕ → Bool
-starts_number [] = false
-starts_number (c ∷ t) = is_ascii_digit c || ((c == hyphen) && starts_digit t)
 
 -- a number of any length, to the end
 abbrev pub alone : Decimal → List ℕ → Option Decimal
@@ -62,16 +55,6 @@ pub data AreArguments : List ℕ → List Argument → Type 0 where
   last : (t : List ℕ) (a : Argument) → list_all no_comma t ≡ true → IsArgument t a → AreArguments t (a ∷ [])
   more : (t first rest : List ℕ) (a : Argument) (args : List Argument) → t ≡ first ++ (codes ", " ++ rest) → list_all no_comma first ≡ true → IsArgument first a
       → AreArguments rest args → AreArguments t (a ∷ args)
-
--- the text and a character, which stands before it
-abbrev pub with_first : ℕ → Option (List ℕ × List ℕ) → Option (List ℕ × List ℕ)
-with_first c found = option_map (λ r. (c ∷ r.0, r.1)) found
-
--- what stands before the next `"`, and behind it; `\` gives the character behind it, which may be `"`
-abbrev pub string_from : Bool → List ℕ → Option (List ℕ × List ℕ)
-string_from escaped [] = None
-string_from true (c ∷ t) = with_first c (string_from false t)
-string_from false (c ∷ t) = if c == quote then Some ([], t) else (if c == backslash then string_from true t else with_first c (string_from false t))
 
 -- The text, which stands behind a constant's name, says this up to its line's end, and then goes on so.
 pub data Says : List ℕ → Content → List ℕ → Type 0 where

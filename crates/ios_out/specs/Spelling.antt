@@ -1,12 +1,12 @@
 -- The bytes of constants and fragments.
-use Rattle.std.specs.Prelude.{ℕ, pos, ◌==◌, ◌||◌, List, [], ◌∷◌, ◌++◌, codes, flat_map, if◌then◌else◌}
+use Rattle.std.specs.Prelude.{ℕ, pos, List, [], ◌∷◌, ◌++◌, codes, flat_map}
 use Rattle.dec_fix.specs.Arithmetic.{whole}
 use Rattle.dec_fix.specs.Writing.{point_spelling}
 use Rattle.transforms.specs.Config.{Settings}
 use Rattle.transforms.specs.PlatformName.{name_on}
+use Rattle.transforms.specs.Quoted.{escape}
 use Rattle.transforms.specs.declared.platform.Platform.TheVariants.{Swift}
 use Rattle.composite_rules.specs.declared.typed.Typed.{Typed}
-use Rattle.ios_out.specs.Characters.{quote, backslash}
 use Rattle.ios_out.specs.Constant.{Quantity, amount, over_255, Argument, labelled, bare, Content, number, string, made, Values, value_names}
 use Rattle.ios_out.specs.PlatformValue.{swift_values}
 
@@ -22,10 +22,6 @@ abbrev pub arguments_text : List Argument → List ℕ
 arguments_text [] = []
 arguments_text (a ∷ []) = argument_text a
 arguments_text (a ∷ b ∷ args) = argument_text a ++ (codes ", " ++ arguments_text (b ∷ args))
-
--- a `\` before `"` and `\`
-abbrev pub escape : ℕ → List ℕ
-escape c = if (c == quote) || (c == backslash) then backslash ∷ c ∷ [] else c ∷ []
 
 -- what stands behind a constant's name
 abbrev pub content_text : Content → List ℕ

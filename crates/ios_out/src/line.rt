@@ -1,15 +1,15 @@
 //! Constants on lines of their own.
 
 ghost use Rattle.std.specs.Prelude.{◌≡◌, ◌∷◌, [], ◌++◌, codes, OnOk};
-ghost use Rattle.std.specs.List.{flat_map};
 ghost use Rattle.ios_out.specs.Constant.{over_255, number, string, made};
 ghost use Rattle.ios_out.specs.PlatformValue.{text_type};
-ghost use Rattle.ios_out.specs.Spelling.{quantity_text, argument_text, escape, content_text, line_text};
+ghost use Rattle.ios_out.specs.Spelling.{quantity_text, argument_text, content_text, line_text};
 ghost use Rattle.ios_out.specs.inner.View.{quantity_view, argument_view, content_view};
 
 use crate::content::{Argument, Content, Quantity};
 use dec_fix::Dec;
 use tk_io::{Bytes, NoMemory};
+use transforms::append_escaped;
 
 fn append_byte(out: &mut Bytes, byte: u8) -> Result<(), NoMemory>
     ensures { OnOk result (out.new ≡ out.old ++ quantity_text (over_255 byte)) }
@@ -49,28 +49,11 @@ fn append_argument(out: &mut Bytes, argument: &Argument) -> Result<(), NoMemory>
 
 // A comma and a blank before an argument.
 fn append_further(out: &mut Bytes, argument: &Argument) -> Result<(), NoMemory>
-    ensures { OnOk result (out.new ≡ out.old ++ (codes ", " ++ argument_text (argument_view argument.now))) }
+    ensures { OnOk result (out.new
+        ≡ out.old ++ (codes ", " ++ argument_text (argument_view argument.now))) }
 {
     out.append(b", ")?;
     append_argument(out, argument)?;
-    Ok(())
-}
-
-fn append_escape(out: &mut Bytes, c: u8) -> Result<(), NoMemory>
-    ensures { OnOk result (out.new ≡ out.old ++ escape c) }
-{
-    if c == b'"' || c == b'\\' {
-        return out.append(&[b'\\', c]);
-    }
-    out.append(&[c])
-}
-
-fn append_escaped(out: &mut Bytes, text: &[u8]) -> Result<(), NoMemory>
-    ensures { OnOk result (out.new ≡ out.old ++ flat_map escape text.now) }
-{
-    for c in text {
-        append_escape(out, *c)?;
-    }
     Ok(())
 }
 
@@ -122,7 +105,8 @@ pub(crate) fn append_number_line(
     type_name: &str,
     value: &Dec,
 ) -> Result<(), NoMemory>
-    ensures { OnOk result (out.new ≡ out.old ++ line_text (name.now, number type_name.now value.now)) }
+    ensures { OnOk result (out.new
+        ≡ out.old ++ line_text (name.now, number type_name.now value.now)) }
 {
     out.append(b"  public static let ")?;
     out.append(name)?;

@@ -73,7 +73,8 @@ pub(crate) fn spell_behind<T: Spell>(
 
 // The items, each behind a comma.
 fn spell_others<T: Spell>(out: &mut Bytes, items: &[T]) -> Result<(), NoMemory>
-    ensures { OnOk result (out.new ≡ out.old ++ flat_map (λ x. codes ", " ++ value_text (T.json x)) items.now) }
+    ensures { OnOk result (out.new
+        ≡ out.old ++ flat_map (λ x. codes ", " ++ value_text (T.json x)) items.now) }
 {
     for item in items {
         out.append(b", ")?;
@@ -101,7 +102,8 @@ pub(crate) fn list_behind<T: Spell>(
     before: &[u8],
     items: &[T],
 ) -> Result<(), NoMemory>
-    ensures { OnOk result (out.new ≡ out.old ++ (before.now ++ value_text (array (map T.json items.now)))) }
+    ensures { OnOk result (out.new
+        ≡ out.old ++ (before.now ++ value_text (array (map T.json items.now)))) }
 {
     out.append(before)?;
     spell_list(out, items)?;

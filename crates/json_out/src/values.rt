@@ -92,7 +92,8 @@ impl Spell for Curve {
 }
 
 fn spell_component(out: &mut Bytes, before: &[u8], component: &Option<Dec>) -> Result<(), NoMemory>
-    ensures { OnOk result (out.new ≡ out.old ++ (before.now ++ value_text (component_json component.now))) }
+    ensures { OnOk result (out.new
+        ≡ out.old ++ (before.now ++ value_text (component_json component.now))) }
 {
     match component {
         Some(number) => spell_behind(out, before, number),
@@ -116,7 +117,8 @@ fn spell_digits(out: &mut Bytes, digits: &[u8; 6]) -> Result<(), NoMemory>
 
 // The digits, where they are given, and the end of the colour.
 fn spell_end(out: &mut Bytes, hex: &Option<[u8; 6]>) -> Result<(), NoMemory>
-    ensures { OnOk result (out.new ≡ out.old ++ more_members_text (plain_members_of (hex_members hex.now))) }
+    ensures { OnOk result (out.new
+        ≡ out.old ++ more_members_text (plain_members_of (hex_members hex.now))) }
 {
     match hex {
         Some(digits) => {

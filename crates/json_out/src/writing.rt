@@ -37,7 +37,9 @@ pub fn frame() -> Frame
 }
 
 fn append_description(out: &mut Bytes, description: Option<&str>) -> Result<(), NoMemory>
-    ensures { OnOk result (out.new ≡ out.old ++ given_text (codes "$description") (option_map string_text (option_map (λ t. t.now) description.entry))) }
+    ensures { OnOk result (out.new
+        ≡ out.old ++ given_text (codes "$description")
+        (option_map string_text (option_map (λ t. t.now) description.entry))) }
 {
     match description {
         Some(text) => {
@@ -50,7 +52,8 @@ fn append_description(out: &mut Bytes, description: Option<&str>) -> Result<(), 
 }
 
 fn append_extensions(out: &mut Bytes, extensions: Option<&str>) -> Result<(), NoMemory>
-    ensures { OnOk result (out.new ≡ out.old ++ given_text (codes "$extensions") (option_map (λ t. t.now) extensions.entry)) }
+    ensures { OnOk result (out.new
+        ≡ out.old ++ given_text (codes "$extensions") (option_map (λ t. t.now) extensions.entry)) }
 {
     match extensions {
         Some(text) => {
@@ -63,7 +66,9 @@ fn append_extensions(out: &mut Bytes, extensions: Option<&str>) -> Result<(), No
 }
 
 fn append_mark(out: &mut Bytes, mark: &Mark<'_>) -> Result<(), NoMemory>
-    ensures { OnOk result (out.new ≡ out.old ++ given_text (codes "$deprecated") (option_map value_text (mark_json mark.now))) }
+    ensures { OnOk result (out.new
+        ≡ out.old ++ given_text (codes "$deprecated")
+        (option_map value_text (mark_json mark.now))) }
 {
     match mark {
         Mark::No => Ok(()),
@@ -113,7 +118,8 @@ fn append_member(
     typed: &Typed<'_>,
     extras: &Extras<'_>,
 ) -> Result<(), NoMemory>
-    ensures { OnOk result (out.new ≡ out.old ++ fragment_text path.now typed.now (extras_view extras.now)) }
+    ensures { OnOk result (out.new
+        ≡ out.old ++ fragment_text path.now typed.now (extras_view extras.now)) }
 {
     out.append(b"  ")?;
     append_path(out, path)?;
@@ -128,7 +134,8 @@ fn written(
     typed: &Typed<'_>,
     extras: &Extras<'_>,
 ) -> Result<Bytes, NoMemory>
-    ensures { IfOk result (λ body. body ≡ fragment_text path.now typed.now (extras_view extras.now)) }
+    ensures { IfOk result (λ body. body
+        ≡ fragment_text path.now typed.now (extras_view extras.now)) }
 {
     let mut body = Bytes::new(alloc);
     append_member(&mut body, path, typed, extras)?;

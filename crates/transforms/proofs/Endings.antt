@@ -33,12 +33,15 @@ first_digit : (name ending : List ℕ) → nat_lt 0 (length name) ≡ true → b
 first_digit [] ending h = cc
 first_digit (c ∷ cs) ending h = refl
 
+pub kept_name : (name : List ℕ) → is_identifier name ≡ true → list_all (is_kept Android) name ≡ true
+kept_name name is = second_of (not (begins_with_digit name)) _ (second_of (nat_lt 0 (length name)) _ is)
+
 identifier : (name ending : List ℕ) → is_identifier name ≡ true → list_all (is_kept Android) ending ≡ true → is_identifier (name ++ ending) ≡ true
 identifier name ending is k =
     let more = second_of (nat_lt 0 (length name)) _ is in
     let some = first_of (nat_lt 0 (length name)) _ is in
     both _ _ (long 0 name ending some)
-    (both _ _ (ap not (first_digit name ending some) ∙ first_of (not (begins_with_digit name)) _ more) (kept Android name ending (second_of (not (begins_with_digit name)) _ more) k))
+    (both _ _ (ap not (first_digit name ending some) ∙ first_of (not (begins_with_digit name)) _ more) (kept Android name ending (kept_name name is) k))
 
 pub endings_stay : EndingsStay
 endings_stay Css name ending is k = property name ending is k

@@ -5,3 +5,11 @@ pub mod FirstRefused
 pub mod Added
 pub mod HexDigits
 pub mod Endings
+pub mod Allowed
+pub mod PathsNamed
+pub mod FiveNamesDiffer
+pub mod NamesApart
+pub mod PlainFramesJoin
+pub mod QuotedReadsBack
+pub mod RunsAreFronts
+pub mod ScaledAreWritten

@@ -2,8 +2,9 @@
 use Rattle.std.specs.Prelude.{◌≡◌, ℕ, Bool, cond, List, [], ◌∷◌, Option, Some, None, Contains, AllPairs}
 use Rattle.std.specs.BTreeMap.{is_at}
 use Rattle.std.specs.FinMap as map
-use Rattle.std.specs.List.{list_any}
+use Rattle.std.specs.List.{flat_map, list_any}
 use Rattle.std.specs.Option.{option_or}
+use Rattle.ring.specs.Lists.{AreApart, Each}
 use Rattle.tk_io.specs.Order.{text_cmp}
 
 -- the path under which each name was added
@@ -69,3 +70,8 @@ NamesAreThere = (tokens : List Named) (taken : Taken) → AllAdded map.empty tok
 abbrev pub NamesComeFromTokens : Type 0
 NamesComeFromTokens = (tokens : List Named) (taken : Taken) → AllAdded map.empty tokens taken
     → (name : List ℕ) (path : List (List ℕ)) → map.get taken name ≡ Some path → IsNameAt tokens name path
+
+-- all names are apart, where those of each token are and no two tokens share one
+abbrev pub AllNamesApart : Type 0
+AllNamesApart = (tokens : List Named) → Each tokens (λ token. AreApart token.names) → AllPairs ShareNoName tokens
+    → AreApart (flat_map (λ token. token.names) tokens)

@@ -1,5 +1,5 @@
 -- What a configuration holds, and what a text says of it.
-use Rattle.std.specs.Prelude.{◌≡◌, ◌≢◌, ℕ, ◌&&◌, List, [], ◌∷◌, codes, length, nat_le, Bool, true, false, ℤ, pos, negsuc, if◌then◌else◌, Option, Some, None, is_some, option_and_then, unwrap_or, Result, Ok, Err}
+use Rattle.std.specs.Prelude.{◌≡◌, ◌≢◌, ℕ, ◌≤◌, ◌&&◌, List, [], ◌∷◌, codes, length, nat_le, Bool, true, false, ℤ, pos, negsuc, if◌then◌else◌, Option, Some, None, is_some, option_and_then, unwrap_or, Result, Ok, Err}
 use Rattle.std.specs.Char.{is_ascii_alphabetic, is_ascii_alphanumeric}
 use Rattle.std.specs.List.{list_all}
 use Rattle.std.specs.Str.{bytes_eq}
@@ -24,6 +24,12 @@ is_prefix (first ∷ rest) = is_ascii_alphabetic first && (list_all is_ascii_alp
 -- the settings that no text has changed
 abbrev pub plain : Settings
 plain = record { prefix = []; rem_base = 16; references = true }
+
+-- settings that a configuration can have
+pub record AreAllowed (settings : Settings) : Type 0 where
+  pub prefix : is_prefix settings.prefix ≡ true
+  pub least : 1 ≤ settings.rem_base
+  pub most : settings.rem_base ≤ 100
 
 -- the prefix that a value says, where it has the form of one
 abbrev pub prefix_in : Data → Option (List ℕ)
@@ -71,6 +77,10 @@ config_in (Some table) = unless_refused (first_refused table) (settings_in table
 -- what a text says
 abbrev pub config_of : List ℕ → Result Settings ConfigFault
 config_of text = config_in (parse_document text)
+
+-- what a text says is allowed
+abbrev pub TextsSayAllowed : Type 0
+TextsSayAllowed = (text : List ℕ) (settings : Settings) → config_of text ≡ Ok settings → AreAllowed settings
 
 -- the key of the table is refused, and no refused key comes before it in byte order
 pub record IsFirstRefused (table : Members) (key : List ℕ) : Type 0 where

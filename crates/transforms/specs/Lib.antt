@@ -1,6 +1,9 @@
 pub mod Config
 pub mod PlatformName
+pub mod FiveNames
 pub mod Hexadecimal
+pub mod Quoted
+pub mod Runs
 pub mod Scaling
 pub mod Sheet
 pub mod Clash

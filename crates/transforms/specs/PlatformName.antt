@@ -1,9 +1,10 @@
 -- How a token is named on each platform, and which texts are names there.
-use Rattle.std.specs.Prelude.{◌≡◌, ℕ, ◌==◌, ◌&&◌, ◌||◌, not, Bool, true, false, List, [], ◌∷◌, ◌++◌, codes, length, map, nat_eq, nat_lt, if◌then◌else◌}
+use Rattle.std.specs.Prelude.{◌≡◌, ℕ, ◌==◌, ◌&&◌, ◌||◌, not, All, Bool, true, false, List, [], ◌∷◌, ◌++◌, codes, length, map, nat_eq, nat_lt, if◌then◌else◌}
 use Rattle.std.specs.Char.{is_ascii_alphanumeric, is_ascii_digit}
 use Rattle.std.specs.List.{flat_map, join_with_byte, list_all, starts_with}
-use Rattle.std.specs.Str.{bytes_eq, chars}
-use Rattle.name_path.specs.Names.{root_name}
+use Rattle.std.specs.Str.{bytes_eq, chars, IsUtf8}
+use Rattle.name_path.specs.Names.{root_name, IsTokenPath}
+use Rattle.transforms.specs.Config.{Settings, AreAllowed}
 use Rattle.transforms.specs.Hexadecimal.{hex_number}
 use Rattle.transforms.specs.declared.platform.Platform.{Platform}
 use Rattle.transforms.specs.declared.platform.Platform.TheVariants.{Css, Android, Swift}
@@ -83,3 +84,8 @@ is_name_on Swift name = is_identifier name
 abbrev pub EndingsStay : Type 0
 EndingsStay = (platform : Platform) (name ending : List ℕ) → is_name_on platform name ≡ true
     → list_all (is_kept platform) ending ≡ true → is_name_on platform (name ++ ending) ≡ true
+
+-- the path of a token has a name on each platform
+abbrev pub PathsAreNamed : Type 0
+PathsAreNamed = (platform : Platform) (settings : Settings) (path : List (List ℕ)) → AreAllowed settings → All IsUtf8 path
+    → IsTokenPath path → is_name_on platform (name_on platform settings.prefix path) ≡ true

@@ -28,6 +28,15 @@ behind_last frame (body ∷ bodies) = frame.last
 abbrev pub sheet_text : FrameData → List (List ℕ) → List ℕ
 sheet_text frame bodies = frame.head ++ (glued frame.glue bodies ++ (behind_last frame bodies ++ frame.tail))
 
+-- a frame with nothing between bodies or behind the last
+abbrev pub plain_frame : List ℕ → List ℕ → FrameData
+plain_frame head tail = record { head = head; glue = []; last = []; tail = tail }
+
+-- in it the bodies stand one after another
+abbrev pub PlainFramesJoin : Type 0
+PlainFramesJoin = (head tail : List ℕ) (bodies : List (List ℕ))
+    → sheet_text (plain_frame head tail) bodies ≡ head ++ (flat_map (λ body. body) bodies ++ tail)
+
 -- a sheet that may still grow: its frame, its bytes so far, and whether they have a body
 pub record OpenSheet : Type 0 where
   pub frame : FrameData

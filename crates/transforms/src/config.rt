@@ -142,7 +142,8 @@ fn first_refused(table: &Table) -> Option<&str>
 }
 
 fn value_under<'t>(table: &'t Table, key: &str) -> Option<&'t Value>
-    ensures { option_map (λ value. view value.now) result ≡ get_member key.now (table_view table.now) }
+    ensures { option_map (λ value. view value.now) result
+        ≡ get_member key.now (table_view table.now) }
 {
     table.get(key)
 }

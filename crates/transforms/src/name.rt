@@ -61,7 +61,8 @@ fn append_behind_joints(
     names: &[Text<'_>],
     out: &mut Bytes,
 ) -> Result<(), NoMemory>
-    ensures { OnOk result (out.new ≡ out.old ++ flat_map (λ name. joint platform ∷ spelled platform name) names.now) }
+    ensures { OnOk result (out.new
+        ≡ out.old ++ flat_map (λ name. joint platform ∷ spelled platform name) names.now) }
 {
     for name in names {
         out.append(&[platform.joint()])?;
@@ -111,7 +112,8 @@ fn append_joined(
     out: &mut Bytes,
 ) -> Result<(), NoMemory>
     ensures joined { OnOk result (out.new ≡ out.old ++ joined platform prefix.now path.now) }
-    ensures some { OnOk result (IsTokenPath path.now → 0 < length (joined platform prefix.now path.now)) }
+    ensures some { OnOk result (IsTokenPath path.now
+        → 0 < length (joined platform prefix.now path.now)) }
 {
     let names = own_names(path.as_slice());
     if prefix.is_empty() {
@@ -126,8 +128,10 @@ fn append_joined(
 }
 
 fn property(alloc: Global, prefix: &[u8], path: &Path<'_>) -> Result<Bytes, NoMemory>
-    ensures is { IfOk result (λ name. name ≡ codes "--" ++ joined Platform.Css prefix.now path.now) }
-    ensures named { IfOk result (λ name. is_prefix prefix.now ≡ true → IsTokenPath path.now → is_property name ≡ true) }
+    ensures is { IfOk result (λ name. name
+        ≡ codes "--" ++ joined Platform.Css prefix.now path.now) }
+    ensures named { IfOk result (λ name. is_prefix prefix.now ≡ true → IsTokenPath path.now
+        → is_property name ≡ true) }
 {
     let mut name = Bytes::new(alloc);
     name.append(b"--")?;
@@ -160,8 +164,8 @@ fn identifier(
     path: &Path<'_>,
 ) -> Result<Bytes, NoMemory>
     ensures is { IfOk result (λ name. name ≡ behind_mark (joined platform prefix.now path.now)) }
-    ensures named { joint platform ≡ joint Platform.Android → is_prefix prefix.now ≡ true → IsTokenPath path.now
-        → IfOk result (λ name. is_identifier name ≡ true) }
+    ensures named { joint platform ≡ joint Platform.Android → is_prefix prefix.now ≡ true
+        → IsTokenPath path.now → IfOk result (λ name. is_identifier name ≡ true) }
 {
     let mut name = Bytes::new(alloc);
     append_joined(platform, prefix, path, &mut name)?;
@@ -191,4 +195,14 @@ pub fn name_for(
         Platform::Android => identifier(alloc, Platform::Android, prefix, path),
         Platform::Swift => identifier(alloc, Platform::Swift, prefix, path),
     }
+}
+
+/// The name with an ending, as the five values of a typography have it.
+pub fn name_with_ending(alloc: Global, name: &[u8], ending: &str) -> Result<Bytes, NoMemory>
+    ensures { IfOk result (λ ended. ended ≡ name.now ++ ending.now) }
+{
+    let mut ended = Bytes::new(alloc);
+    ended.append(name)?;
+    ended.append(ending.as_bytes())?;
+    Ok(ended)
 }

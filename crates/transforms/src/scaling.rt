@@ -11,7 +11,8 @@ pub fn scale_rem(value: &Dec, is_rem: bool, base: u8) -> Dec
     requires { IsExact value.now }
     ensures is { result ≡ scaled value.now is_rem base }
     ensures pixels { is_rem ≡ false → result ≡ value.now }
-    ensures rem { is_rem ≡ true → IsSameNumber result (record { c = value.now.c *ℤ pos base; s = value.now.s }) }
+    ensures rem { is_rem ≡ true
+        → IsSameNumber result (record { c = value.now.c *ℤ pos base; s = value.now.s }) }
 {
     if is_rem {
         value.times_whole(base)

@@ -1,6 +1,7 @@
 use Rattle.std.proofs.Common.{◌++◌, ap, ◌∙◌}
 use Rattle.android_out.specs.Spelling.{line_text}
-use Rattle.android_out.specs.PlatformValue.{size_end, spacing_end}
+use Rattle.transforms.specs.FiveNames.{size_end, spacing_end}
+use Rattle.transforms.specs.declared.platform.Platform.TheVariants.{Android}
 use Rattle.android_out.proofs.FiveLines.{five_texts, five_names}
 use Rattle.android_out.proofs.typography.typography_fragment.Goals as goal
 
@@ -10,6 +11,6 @@ returns c =
     record {
       names = five_names _ _ _ _ _ _ _ _ _ _ _ c.new.ensures c.in_ok-add.ensures.names c.in_ok-add-2.ensures.names c.in_ok-add-3.ensures.names c.in_ok-add-4.ensures.names c.in_ok-add-5.ensures.names;
       body = five_texts _ _ _ _ _ _ _ _ _ _ _ c.new-2.ensures c.in_ok-add.ensures.body
-          (c.in_ok-add-2.ensures.body ∙ ap (λ x. c.add.new.lines.body ++ line_text (name ++ size_end, x)) c.size_content-size.ensures) c.in_ok-add-3.ensures.body
-          (c.in_ok-add-4.ensures.body ∙ ap (λ x. c.add-3.new.lines.body ++ line_text (name ++ spacing_end, x)) c.size_content-spacing.ensures) c.in_ok-add-5.ensures.body;
+          (c.in_ok-add-2.ensures.body ∙ ap (λ x. c.add.new.lines.body ++ line_text (name ++ size_end Android, x)) c.size_content-size.ensures) c.in_ok-add-3.ensures.body
+          (c.in_ok-add-4.ensures.body ∙ ap (λ x. c.add-3.new.lines.body ++ line_text (name ++ spacing_end Android, x)) c.size_content-spacing.ensures) c.in_ok-add-5.ensures.body;
     }

@@ -1,6 +1,8 @@
 use Rattle.std.proofs.Common.{◌++◌, ap, ◌∙◌}
 use Rattle.ios_out.specs.Constant.{number}
-use Rattle.ios_out.specs.PlatformValue.{length_type, size_end, spacing_end}
+use Rattle.transforms.specs.FiveNames.{size_end, spacing_end}
+use Rattle.transforms.specs.declared.platform.Platform.TheVariants.{Swift}
+use Rattle.ios_out.specs.PlatformValue.{length_type}
 use Rattle.ios_out.specs.Spelling.{line_text}
 use Rattle.ios_out.proofs.FiveLines.{five_texts, five_names}
 use Rattle.ios_out.proofs.typography.typography_fragment.Goals as goal
@@ -12,6 +14,6 @@ returns c =
       names = five_names _ _ _ _ _ _ _ _ _ _ _ c.new.ensures c.in_ok-add.ensures.names c.in_ok-add_number.ensures.names c.in_ok-add_number-2.ensures.names
           c.in_ok-add_number-3.ensures.names c.in_ok-add_number-4.ensures.names;
       body = five_texts _ _ _ _ _ _ _ _ _ _ _ c.new-2.ensures c.in_ok-add.ensures.body
-          (c.in_ok-add_number.ensures.body ∙ ap (λ x. c.add.new.lines.body ++ line_text (name ++ size_end, number length_type x)) c.points-size.ensures) c.in_ok-add_number-2.ensures.body
-          (c.in_ok-add_number-3.ensures.body ∙ ap (λ x. c.add_number-2.new.lines.body ++ line_text (name ++ spacing_end, number length_type x)) c.points-spacing.ensures) c.in_ok-add_number-4.ensures.body;
+          (c.in_ok-add_number.ensures.body ∙ ap (λ x. c.add.new.lines.body ++ line_text (name ++ size_end Swift, number length_type x)) c.points-size.ensures) c.in_ok-add_number-2.ensures.body
+          (c.in_ok-add_number-3.ensures.body ∙ ap (λ x. c.add_number-2.new.lines.body ++ line_text (name ++ spacing_end Swift, number length_type x)) c.points-spacing.ensures) c.in_ok-add_number-4.ensures.body;
     }

@@ -1,4 +1,5 @@
 use Rattle.transforms.proofs.Added.{names_apart, names_there, names_from_tokens}
+use Rattle.transforms.proofs.NamesApart.{all_names_apart}
 use Rattle.transforms.proofs.laws.clash_laws.Goals as goal
 
 pub returns-clause-apart : goal.returns-clause-apart
@@ -9,3 +10,6 @@ returns-clause-there c = names_there
 
 pub returns-clause-tokens : goal.returns-clause-tokens
 returns-clause-tokens c = names_from_tokens
+
+pub returns-clause-all : goal.returns-clause-all
+returns-clause-all c = all_names_apart
