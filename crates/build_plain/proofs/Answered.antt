@@ -1,5 +1,5 @@
 -- Each permutation of a plan has four files that denote its tokens' values, or the refusal that tells its first break; and nothing else stands in the outputs.
-use Rattle.std.proofs.Common.{◌≡◌, ◌≢◌, ℕ, List, [], ◌∷◌, ◌++◌, Some, None, Result, Ok, inl, inr, refl, sym, subst, ◌∙◌, codes}
+use Rattle.std.proofs.Common.{arith, ◌≡◌, ◌≢◌, ◌<◌, ◌^◌, ℕ, List, [], ◌∷◌, ◌++◌, Some, None, Result, Ok, inl, inr, refl, sym, subst, ◌∙◌, codes}
 use Rattle.std.specs.FinMap as finite
 use Rattle.std.specs.List.{AllByRecursion}
 use Rattle.std.specs.Prelude.{◌⊎◌}
@@ -32,9 +32,9 @@ use Rattle.token_cells.specs.declared.token_cell.TokenCell.{TokenCell}
 use Rattle.build_plain.specs.Breaks.{home_of, first_file, tree_reports, InTokens, InTree, InTrees, Finds}
 use Rattle.build_plain.specs.Denotes.{IsAccepted, IsRefused, AreOutputsOf, IsOfOne, EachIsAnswered, NeverBoth, NoOtherStands}
 use Rattle.build_plain.specs.Out.{perm_outputs, OfPlan, GivesFrom, BuildsUnder, settings_of}
-use Rattle.build_plain.proofs.BaseIsSmall.{base_is_small}
 use Rattle.build_plain.proofs.OneOutputs.{TreeLaws, one_finding}
 use Rattle.build_plain.proofs.OutputsStand.{Stands, each_stands, only_own}
+use Rattle.build_plain.proofs.SettingsAllowed.{ConfigLaws, settings_allowed}
 use Rattle.build_plain.proofs.Stands.{all_stand}
 
 -- the laws of the layers below that are needed
@@ -44,6 +44,7 @@ pub record Laws : Type 0 where
   pub apart : NamesAreApart
   pub paths : PathsAreOfTokens
   pub definitions : TokensAreDefinitions
+  pub config : ConfigLaws
   pub css : CellsDenote
   pub android : AndroidCellsDenote
   pub swift : SwiftCellsDenote
@@ -103,7 +104,8 @@ module _ (laws : Laws) (settings : Settings) (files : FilesData) (configured : s
       let u = of_finding settings files p cells stand found in
       let flat = u.flat in
       let tokens = u.tokens in
-      let small = base_is_small files settings configured in
+      let allowed = settings_allowed laws.config files settings configured in
+      let small : settings.rem_base < 2 ^ 8 = omega (arith, allowed.most) in
       let paths : AreTokenPaths flat = λ token i. laws.paths files (home_of files) p.sources flat u.is_flat token (listed token (finite.entries flat) i) in
       record {
         cells = cells;

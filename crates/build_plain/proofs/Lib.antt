@@ -1,5 +1,5 @@
 pub mod Answered
-pub mod BaseIsSmall
+pub mod EachBuilds
 pub mod Gives
 pub mod Kept
 pub mod KeptParts
@@ -9,6 +9,7 @@ pub mod OutputsStand
 pub mod Perm
 pub mod Perms
 pub mod Planned
+pub mod SettingsAllowed
 pub mod Shapes
 pub mod Stands
 pub mod Trees

@@ -1,18 +1,17 @@
 -- Where there are no files, nothing is kept.
-use Rattle.std.proofs.Common.{◌≡◌, ℕ, List, [], ◌∷◌, Option, Some, None, MatchOption, refl, sym, ap, subst, ◌∙◌}
+use Rattle.std.proofs.Common.{◌≡◌, ℕ, List, [], ◌∷◌, Option, Some, None, refl, sym, ap, subst, ◌∙◌}
 use Rattle.std.specs.FinMap as finite
 use Rattle.tk_io.specs.FilesData.{FilesData}
 use Rattle.tk_io.specs.Order.{text_cmp}
-use Rattle.token_tree.specs.Tree.{Group}
-use Rattle.permutations.specs.Permutation as perm
 use Rattle.file_plan.specs.InUse.{resolver_path, files_in_use}
 use Rattle.file_plan.specs.Plan.{planned, default_plan, Plans}
 use Rattle.file_plan.specs.Trees.{IsRead}
 use Rattle.file_plan.specs.declared.tree.Tree.{Tree}
 use Rattle.file_plan.proofs.FilesInUse.{in_use_among}
-use Rattle.source_trees.specs.Sources.{BreakAt, break_at, FoundIn, SourceFound}
+use Rattle.source_trees.specs.Sources.{BreakAt, break_at}
 use Rattle.source_trees.specs.declared.merge.Merge.{Merge}
 use Rattle.source_trees.specs.declared.source.SourceFault.TheVariants.{Missing}
+use Rattle.source_trees.proofs.EachMerge.{missing_found}
 use Rattle.token_cells.specs.declared.token_cell.TokenCell.{TokenCell}
 use Rattle.transforms.specs.Config.{plain}
 use Rattle.build_plain.specs.Breaks.{tokens_path, home_of}
@@ -42,19 +41,8 @@ neither_read None None e f = tt
 neither_read None (Some tree) e f = cc
 neither_read (Some t) u e f = absurd (some_none e)
 
-abbrev no_groups : List Group
-no_groups = []
-
 abbrev missing : BreakAt
 missing = break_at Missing (home_of no_files).file 0 0
-
-missing_found : SourceFound no_files (home_of no_files) (perm.file tokens_path 0 0) (missing ∷ []) []
-missing_found = at (finite.get no_files tokens_path) (no_text tokens_path)
-  where
-    at : (o : Option (List ℕ)) → o ≡ None
-        → MatchOption o ((missing ∷ [] ≡ break_at Missing (home_of no_files).file 0 0 ∷ []) × (no_groups ≡ no_groups)) (λ text. FoundIn tokens_path text (missing ∷ []) no_groups)
-    at None e = (refl, refl)
-    at (Some t) e = absurd (some_none e)
 
 module _ (parts : Parts) (trees : parts.trees ≡ finite.empty) (merges : parts.merges ≡ finite.empty) (cells : parts.cells ≡ finite.empty) where
   no_merge : (name : List ℕ) → finite.get parts.merges name ≡ None
@@ -69,7 +57,7 @@ module _ (parts : Parts) (trees : parts.trees ≡ finite.empty) (merges : parts.
   are_parts : AreParts plain no_files default_plan parts
   are_parts = record {
     trees = λ path. neither_read (finite.get (files_in_use no_files default_plan) path) (finite.get parts.trees path) (none_in_use path) (no_tree path);
-    each = ((missing ∷ [], [], (missing ∷ [], [], [], [], missing_found, (refl, refl), refl, refl), (no_merge _, no_cells _)), tt);
+    each = ((missing ∷ [], [], (missing ∷ [], [], [], [], missing_found no_files (home_of no_files) tokens_path 0 0 (no_text tokens_path), (refl, refl), refl, refl), (no_merge _, no_cells _)), tt);
     no_other = λ name other. (no_merge name, no_cells name);
   }
 

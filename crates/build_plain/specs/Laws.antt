@@ -1,6 +1,7 @@
 -- Laws over the definitions.
 use Rattle.std.specs.Prelude.{◌≡◌}
 use Rattle.tk_io.specs.FilesData.{FilesData}
+use Rattle.source_trees.specs.Texts.{AreTexts}
 use Rattle.build_plain.specs.Out.{Builds}
 use Rattle.build_plain.specs.Work.{Work, IsWork}
 
@@ -11,3 +12,11 @@ OneBuild = (files a b : FilesData) → Builds files a → Builds files b → a �
 -- .. and one amount of work
 abbrev pub OneWork : Type 0
 OneWork = (files : FilesData) (v w : Work) → IsWork files v → IsWork files w → v ≡ w
+
+-- any files that are texts in memory have an answer
+abbrev pub EachBuilds : Type 0
+EachBuilds = (files : FilesData) → AreTexts files → (out : FilesData) × Builds files out
+
+-- .. and any files have an amount of work
+abbrev pub EachWorks : Type 0
+EachWorks = (files : FilesData) → (w : Work) × IsWork files w

@@ -17,5 +17,5 @@ mod tests;
 pub use assembling::assemble;
 pub use building::build;
 pub use keeping::parts_of;
-pub use laws::{one_build, outputs_denote};
+pub use laws::{each_build, one_build, outputs_denote};
 pub use parts::{CellMap, Parts};

@@ -3,6 +3,7 @@ use Rattle.std.proofs.Common.{◌≡◌, ℕ, ◌+◌, ◌<◌, ◌≤◌, lengt
 use Rattle.std.proofs.lemmas.List.{drop_more, drop_all}
 use Rattle.std.specs.FinMap as finite
 use Rattle.std.specs.List.{slice_get}
+use Rattle.tk_io.specs.FilesData.{FilesData}
 use Rattle.tk_io.specs.Order.{text_cmp}
 use Rattle.token_tree.specs.Shape.{Break as ShapeBreak, shape_breaks, shape_of}
 use Rattle.token_tree.specs.Shown.{group_view}
@@ -19,12 +20,13 @@ use Rattle.file_plan.specs.declared.source.PlanSource.TheVariants.{File, Inline}
 use Rattle.source_trees.specs.declared.source.SourceBreak.{SourceBreak}
 use Rattle.source_trees.specs.declared.source.SourceFault.TheVariants.{Missing}
 use Rattle.source_trees.specs.Merging.{IsKnown, AreKnown, IsLaid, Lays, IsLaidOver}
-use Rattle.source_trees.specs.Sources.{Texts, HomeAt, BreakAt, break_at, shape_break, FoundIn, SourceFound, SourcesFound}
+use Rattle.source_trees.specs.Sources.{HomeAt, BreakAt, break_at, shape_break, FoundIn, SourceFound, SourcesFound}
 use Rattle.permutations.specs.Permutation as perm
 use Rattle.permutations.specs.Permutation.{TokenSource}
 use Rattle.source_trees.specs.Trees.{IsShapeFor}
 use Rattle.source_trees.specs.View.{break_view}
 use Rattle.file_plan.specs.View.{plan_source_view, plan_sources_view}
+use Rattle.source_trees.proofs.EachMerge.{missing_found, sources_found}
 
 merged_append : (before : Group) (xs ys : List Group) → merged_over (merged_over before xs) ys ≡ merged_over before (xs ++ ys)
 merged_append before [] ys = refl
@@ -34,9 +36,9 @@ nil_append : {A : Type 0} (xs ys : List A) → xs ≡ [] → xs ++ ys ≡ ys
 nil_append xs ys e = ap (λ zs. zs ++ ys) e
 
 -- a first source that breaks nothing, and the others over its tree
-pub laid_next : (texts : Texts) (home : HomeAt) (s : TokenSource) (ss : List TokenSource) (before tree : Group) (bs : List BreakAt) (ts : List Group) (m : Merged)
-    → SourceFound texts home s bs ts → bs ≡ [] → tree ≡ merged_over before ts → IsLaidOver texts home ss tree m → IsLaidOver texts home (s ∷ ss) before m
-laid_next texts home s ss before tree bs ts m found none is (cs, us, rest, laid) =
+pub laid_next : (files : FilesData) (home : HomeAt) (s : TokenSource) (ss : List TokenSource) (before tree : Group) (bs : List BreakAt) (ts : List Group) (m : Merged)
+    → SourceFound files home s bs ts → bs ≡ [] → tree ≡ merged_over before ts → IsLaidOver files home ss tree m → IsLaidOver files home (s ∷ ss) before m
+laid_next files home s ss before tree bs ts m found none is (cs, us, rest, laid) =
     (bs ++ cs, ts ++ us, (bs, cs, ts, us, found, rest, refl, refl), at m laid)
   where
     at : (k : Merged) → IsLaid cs us tree k → IsLaid (bs ++ cs) (ts ++ us) before k
@@ -44,61 +46,22 @@ laid_next texts home s ss before tree bs ts m found none is (cs, us, rest, laid)
     at (Broken b) l = (l.0, nil_append bs cs none ∙ l.1)
 
 -- a first source that breaks something
-pub laid_broken : (texts : Texts) (home : HomeAt) (s : TokenSource) (ss : List TokenSource) (before : Group) (bs cs : List BreakAt) (ts us : List Group) (b : SourceBreak) (more : List BreakAt)
-    → SourceFound texts home s bs ts → bs ≡ break_view b ∷ more → SourcesFound texts home ss cs us → IsLaidOver texts home (s ∷ ss) before (Broken b)
-laid_broken texts home s ss before bs cs ts us b more found is rest =
+pub laid_broken : (files : FilesData) (home : HomeAt) (s : TokenSource) (ss : List TokenSource) (before : Group) (bs cs : List BreakAt) (ts us : List Group) (b : SourceBreak) (more : List BreakAt)
+    → SourceFound files home s bs ts → bs ≡ break_view b ∷ more → SourcesFound files home ss cs us → IsLaidOver files home (s ∷ ss) before (Broken b)
+laid_broken files home s ss before bs cs ts us b more found is rest =
     (bs ++ cs, ts ++ us, (bs, cs, ts, us, found, rest, refl, refl), (more ++ cs, ap (λ xs. xs ++ cs) is))
 
--- where a file is known, what it comes to is found
+-- a file that is not there
+pub missing_laid : (files : FilesData) (home : HomeAt) (name : List ℕ) (start end : ℕ) (before : Group) (b : SourceBreak) → finite.get files name ≡ None
+    → break_view b ≡ break_at Missing home.file start end → Lays files home (perm.file name start end) before (Broken b)
+missing_laid files home name start end before b e is =
+    (break_at Missing home.file start end ∷ [], [], missing_found files home name start end e, ([], ap (λ x. x ∷ []) (sym is)))
 
-abbrev no_trees : List Group
-no_trees = []
-
-missing_found : (texts : Texts) (home : HomeAt) (name : List ℕ) (start end : ℕ) → finite.get texts name ≡ None → SourceFound texts home (perm.file name start end) (break_at Missing home.file start end ∷ []) []
-missing_found texts home name start end e =
-    subst (λ (o : Option (List ℕ)). MatchOption o ((break_at Missing home.file start end ∷ [] ≡ break_at Missing home.file start end ∷ []) × (no_trees ≡ no_trees)) (λ text. FoundIn name text (break_at Missing home.file start end ∷ []) []))
-    (sym e) (same home start end)
-  where
-    same : (h : HomeAt) (m n : ℕ) → (break_at Missing h.file m n ∷ [] ≡ break_at Missing h.file m n ∷ []) × (no_trees ≡ no_trees)
-    same h m n = (refl, refl)
-
-pub missing_laid : (texts : Texts) (home : HomeAt) (name : List ℕ) (start end : ℕ) (before : Group) (b : SourceBreak) → finite.get texts name ≡ None
-    → break_view b ≡ break_at Missing home.file start end → Lays texts home (perm.file name start end) before (Broken b)
-missing_laid texts home name start end before b e is =
-    (break_at Missing home.file start end ∷ [], [], missing_found texts home name start end e, ([], ap (λ x. x ∷ []) (sym is)))
-
-pub text_found : (texts : Texts) (home : HomeAt) (name text : List ℕ) (start end : ℕ) (bs : List BreakAt) (ts : List Group) → finite.get texts name ≡ Some text → FoundIn name text bs ts
-    → SourceFound texts home (perm.file name start end) bs ts
-text_found texts home name text start end bs ts e f =
-    subst (λ (o : Option (List ℕ)). MatchOption o ((bs ≡ break_at Missing home.file start end ∷ []) × (ts ≡ [])) (λ x. FoundIn name x bs ts)) (sym e) f
-
--- what is known of a file whose shape is there, and of one whose shape is not
-pub known_some : (texts : Texts) (shapes : finite.FinMap text_cmp FileShape) (name : List ℕ) (start end : ℕ) (shape : FileShape) → Some shape ≡ finite.get shapes name
-    → IsKnown texts shapes (perm.file name start end) → (text : List ℕ) × (finite.get texts name ≡ Some text) × IsShapeFor name text shape
-known_some texts shapes name start end shape e k =
-    subst (λ (o : Option FileShape). MatchOption o (finite.get texts name ≡ None) (λ x. (text : List ℕ) × (finite.get texts name ≡ Some text) × IsShapeFor name text x)) (sym e) k
-
-pub known_none : (texts : Texts) (shapes : finite.FinMap text_cmp FileShape) (name : List ℕ) (start end : ℕ) → None ≡ finite.get shapes name
-    → IsKnown texts shapes (perm.file name start end) → finite.get texts name ≡ None
-known_none texts shapes name start end e k =
-    subst (λ (o : Option FileShape). MatchOption o (finite.get texts name ≡ None) (λ x. (text : List ℕ) × (finite.get texts name ≡ Some text) × IsShapeFor name text x)) (sym e) k
-
-source_found : (texts : Texts) (home : HomeAt) (shapes : finite.FinMap text_cmp FileShape) (s : TokenSource) → IsKnown texts shapes s → (bs : List BreakAt) × (ts : List Group) × SourceFound texts home s bs ts
-source_found texts home shapes (perm.file name start end) k = at (finite.get shapes name) refl
-  where
-    at : (o : Option FileShape) → finite.get shapes name ≡ o → (bs : List BreakAt) × (ts : List Group) × SourceFound texts home (perm.file name start end) bs ts
-    at None e = (break_at Missing home.file start end ∷ [], [], missing_found texts home name start end (known_none texts shapes name start end (sym e) k))
-    at (Some shape) e =
-        let (text, there, (bs, ts, found, by)) = known_some texts shapes name start end shape (sym e) k in
-        (bs, ts, text_found texts home name text start end bs ts there found)
-source_found texts home shapes (perm.inline n) k = (map (shape_break home.file) (shape_breaks n), shape_of home.file home.text n ∷ [], (refl, refl))
-
-pub sources_found : (texts : Texts) (home : HomeAt) (shapes : finite.FinMap text_cmp FileShape) (ss : List TokenSource) → AreKnown texts shapes ss → (bs : List BreakAt) × (ts : List Group) × SourcesFound texts home ss bs ts
-sources_found texts home shapes [] k = ([], [], (refl, refl))
-sources_found texts home shapes (s ∷ ss) k =
-    let (b, t, first) = source_found texts home shapes s k.0 in
-    let (bs, ts, rest) = sources_found texts home shapes ss k.1 in
-    (b ++ bs, t ++ ts, (b, bs, t, ts, first, rest, refl, refl))
+-- what is known of a file whose shape is not there
+pub known_none : (files : FilesData) (shapes : finite.FinMap text_cmp FileShape) (name : List ℕ) (start end : ℕ) → None ≡ finite.get shapes name
+    → IsKnown files shapes (perm.file name start end) → finite.get files name ≡ None
+known_none files shapes name start end e k =
+    subst (λ (o : Option FileShape). MatchOption o (finite.get files name ≡ None) (λ x. (text : List ℕ) × (finite.get files name ≡ Some text) × IsShapeFor name text x)) (sym e) k
 
 -- the first of breaks that are mapped
 pub first_mapped : (file : List ℕ) (bs : List ShapeBreak) (b : ShapeBreak) → slice_get bs 0 ≡ Some b → (rest : List BreakAt) × (map (shape_break file) bs ≡ shape_break file b ∷ rest)
@@ -108,31 +71,31 @@ first_mapped file (c ∷ cs) b e = (map (shape_break file) cs, ap (λ x. shape_b
     some_is : {A : Type 0} {x y : A} → Some x ≡ Some y → x ≡ y
     some_is h = cc
 
-pub lay_none : (texts : Texts) (home : HomeAt) (shapes : finite.FinMap text_cmp FileShape) (s : PlanSource) (name : List ℕ) (start end : ℕ) (before : Group) (b : SourceBreak) → s ≡ File name start end
-    → None ≡ finite.get shapes name → break_view b ≡ break_at Missing home.file start end → IsKnown texts shapes (plan_source_view s) → Lays texts home (plan_source_view s) before (Broken b)
-lay_none texts home shapes s name start end before b is e at k =
-    subst (λ (x : PlanSource). Lays texts home (plan_source_view x) before (Broken b)) (sym is)
-    (missing_laid texts home name start end before b (known_none texts shapes name start end e (subst (λ (x : PlanSource). IsKnown texts shapes (plan_source_view x)) is k)) at)
+pub lay_none : (files : FilesData) (home : HomeAt) (shapes : finite.FinMap text_cmp FileShape) (s : PlanSource) (name : List ℕ) (start end : ℕ) (before : Group) (b : SourceBreak) → s ≡ File name start end
+    → None ≡ finite.get shapes name → break_view b ≡ break_at Missing home.file start end → IsKnown files shapes (plan_source_view s) → Lays files home (plan_source_view s) before (Broken b)
+lay_none files home shapes s name start end before b is e at k =
+    subst (λ (x : PlanSource). Lays files home (plan_source_view x) before (Broken b)) (sym is)
+    (missing_laid files home name start end before b (known_none files shapes name start end e (subst (λ (x : PlanSource). IsKnown files shapes (plan_source_view x)) is k)) at)
 
-pub lay_inline : (texts : Texts) (home : HomeAt) (s : PlanSource) (node : Node) (before : Group) (m : Merged) → s ≡ Inline node
-    → IsLaid (map (shape_break home.file) (shape_breaks (node_view node))) (shape_of home.file home.text (node_view node) ∷ []) before m → Lays texts home (plan_source_view s) before m
-lay_inline texts home s node before m is l =
-    subst (λ (x : PlanSource). Lays texts home (plan_source_view x) before m) (sym is)
+pub lay_inline : (files : FilesData) (home : HomeAt) (s : PlanSource) (node : Node) (before : Group) (m : Merged) → s ≡ Inline node
+    → IsLaid (map (shape_break home.file) (shape_breaks (node_view node))) (shape_of home.file home.text (node_view node) ∷ []) before m → Lays files home (plan_source_view s) before m
+lay_inline files home s node before m is l =
+    subst (λ (x : PlanSource). Lays files home (plan_source_view x) before m) (sym is)
     (map (shape_break home.file) (shape_breaks (node_view node)), shape_of home.file home.text (node_view node) ∷ [], (refl, refl), l)
 
 -- the first source, laid, and the others
-pub lay_tree : (texts : Texts) (home : HomeAt) (s : TokenSource) (ss : List TokenSource) (before tree : Group) (g : GroupCode) (m : Merged) → tree ≡ group_view g
-    → Lays texts home s before (Tree g) → IsLaidOver texts home ss tree m → IsLaidOver texts home (s ∷ ss) before m
-lay_tree texts home s ss before tree g m is (bs, ts, found, (none, over_is)) rest = laid_next texts home s ss before tree bs ts m found none (is ∙ over_is) rest
+pub lay_tree : (files : FilesData) (home : HomeAt) (s : TokenSource) (ss : List TokenSource) (before tree : Group) (g : GroupCode) (m : Merged) → tree ≡ group_view g
+    → Lays files home s before (Tree g) → IsLaidOver files home ss tree m → IsLaidOver files home (s ∷ ss) before m
+lay_tree files home s ss before tree g m is (bs, ts, found, (none, over_is)) rest = laid_next files home s ss before tree bs ts m found none (is ∙ over_is) rest
 
-pub lay_broken : (texts : Texts) (home : HomeAt) (shapes : finite.FinMap text_cmp FileShape) (s : TokenSource) (ss : List TokenSource) (before : Group) (b : SourceBreak) → AreKnown texts shapes ss
-    → Lays texts home s before (Broken b) → IsLaidOver texts home (s ∷ ss) before (Broken b)
-lay_broken texts home shapes s ss before b k (bs, ts, found, (more, is)) =
-    let (cs, us, rest) = sources_found texts home shapes ss k in
-    laid_broken texts home s ss before bs cs ts us b more found is rest
+pub lay_broken : (files : FilesData) (home : HomeAt) (s : TokenSource) (ss : List TokenSource) (before : Group)
+    (b : SourceBreak) → Lays files home s before (Broken b) → IsLaidOver files home (s ∷ ss) before (Broken b)
+lay_broken files home s ss before b (bs, ts, found, (more, is)) =
+    let (cs, us, rest) = sources_found files home ss in
+    laid_broken files home s ss before bs cs ts us b more found is rest
 
-pub lay_end : (texts : Texts) (home : HomeAt) (g : GroupCode) → IsLaidOver texts home [] (group_view g) (Tree g)
-lay_end texts home g = ([], [], (refl, refl), (refl, refl))
+pub lay_end : (files : FilesData) (home : HomeAt) (g : GroupCode) → IsLaidOver files home [] (group_view g) (Tree g)
+lay_end files home g = ([], [], (refl, refl), (refl, refl))
 
 -- the sources from one on, and behind the last
 pub next_sources : (sources : List PlanSource) (i : ℕ) (x : PlanSource) → i < length sources → x ≡ get_or sources i x → plan_sources_view (drop i sources) ≡ plan_source_view x ∷ plan_sources_view (drop (i + 1) sources)

@@ -1,8 +1,10 @@
 pub mod ShapesAdded
 pub mod NamedTrees
+pub mod EachMerge
 pub mod Laid
 pub mod Known
 pub mod OneMerge
 pub mod MergingKeepsTokens
 pub mod ShapesHoldTokens
+pub mod StringsAreTexts
 pub mod SourcesHoldTokens

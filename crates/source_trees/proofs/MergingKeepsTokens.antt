@@ -1,6 +1,6 @@
--- What holds of the tokens of trees, and that members have names, stays so where trees are merged, expanded and made flat.
-use Rattle.std.proofs.Common.{arith, ◌≡◌, ℕ, Bool, true, false, cond, List, [], ◌∷◌, ◌++◌, Option, Some, None, inl, inr, refl, sym, subst, ◌∙◌}
-use Rattle.std.proofs.lemmas.List.Elements.{All-push}
+-- What holds of the tokens and the strings of trees, and that members have names, stays so where trees are merged, expanded and made flat.
+use Rattle.std.proofs.Common.{arith, ◌≡◌, ℕ, Bool, true, false, cond, All, List, [], ◌∷◌, ◌++◌, Option, Some, None, inl, inr, refl, sym, subst, ◌∙◌}
+use Rattle.std.proofs.lemmas.List.Elements.{All-nil, All-push}
 use Rattle.std.specs.Cmp.Lexicographic.{nat_list_cmp_total}
 use Rattle.std.specs.FinMap as finite
 use Rattle.std.specs.FinMap.{put, slice_cmp-IsAntisymmetric, nat_cmp-IsAntisymmetric}
@@ -14,16 +14,37 @@ use Rattle.ring.specs.Routes.{In}
 use Rattle.tk_io.specs.Order.{text_cmp}
 use Rattle.name_path.specs.Names.{IsName, AreNames, IsTokenPath, root_name}
 use Rattle.token_tree.specs.Tree.{Definition, Properties, Child, a_token, a_group, Group, group, Children, no_children, child, Named, children_of, group_with}
+use Rattle.token_tree.specs.declared.mark.Mark.{Mark}
+use Rattle.token_tree.specs.declared.mark.Mark.TheVariants.{No, Yes, Because}
 use Rattle.group_inherit.specs.Expansion.{properties_in, without_extension, over_inherited, Expands, expands, AreExpanded, no_member, own_token, child_group, IsInherited, no_target, its_target}
 use Rattle.group_inherit.specs.Extension.{GroupPath, group_of as member_group, group_at, children_in, at_path, target_path}
 use Rattle.group_inherit.specs.Flattening.{Nearest, nearest, TokenAt, tokens_in, tokens_among, tokens_at, nothing_above}
-use Rattle.group_inherit.specs.Merging.{over_properties, named, over, over_members, over_child, empty_group, merged_over}
+use Rattle.group_inherit.specs.Merging.{either, over_properties, named, over, over_members, over_child, empty_group, merged_over}
+
+-- what holds of strings, which are the names of members and the reasons of marks, and of the definitions of tokens
+pub record Holding : Type 1 where
+  pub string : List ℕ → Type 0
+  pub token : Definition → Type 0
 
 -- a name of a token
 abbrev pub IsTokenName : List ℕ → Type 0
 IsTokenName name = IsName name ⊎ (name ≡ root_name)
 
-is_equal : (o : Ordering) → is_eq o ≡ true → o ≡ Equal
+-- a mark without a reason, or with one of which this holds
+abbrev pub IsMarked : Holding → Option Mark → Type 0
+IsMarked holds None = Unit {0}
+IsMarked holds (Some No) = Unit {0}
+IsMarked holds (Some Yes) = Unit {0}
+IsMarked holds (Some (Because reason)) = holds.string reason
+
+-- a token at a path that one can have, of whose strings and definition this holds
+pub record IsTokenWith (holds : Holding) (token : TokenAt) : Type 0 where
+  pub path : IsTokenPath token.0
+  pub names : All holds.string token.0
+  pub mark : IsMarked holds token.1.group_mark
+  pub sound : holds.token token.1.def
+
+pub is_equal : (o : Ordering) → is_eq o ≡ true → o ≡ Equal
 is_equal Less h = cc
 is_equal Equal h = refl
 is_equal Greater h = cc
@@ -36,23 +57,23 @@ in_either x [] ys i = inr i
 in_either x (y ∷ xs) ys (inl same) = inl (inl same)
 in_either x (y ∷ xs) ys (inr i) = elim (in_either x xs ys i) as (λ _. In x (y ∷ xs) ⊎ In x ys) [ inl a ↦ inl (inr a) | inr b ↦ inr b ]
 
--- a token at a path that one can have, of whose definition this holds
-abbrev pub IsTokenWith : (Definition → Type 0) → TokenAt → Type 0
-IsTokenWith holds token = IsTokenPath token.0 × holds token.1.def
+module _ (holds : Holding) where
+  nearer_marked : (own above : Option Mark) → IsMarked holds own → IsMarked holds above → IsMarked holds (either own above)
+  nearer_marked None above h k = k
+  nearer_marked (Some m) above h k = h
 
-module _ (holds : Definition → Type 0) where
-  -- groups stand under names, and tokens, of which this holds, under names or `$root`
+  -- groups stand under names, and tokens under names or `$root`
   abbrev mutual
     pub WellFormed : Group → Type 0
-    WellFormed (group ps cs) = AreWellFormed cs
+    WellFormed (group ps cs) = IsMarked holds ps.deprecated × AreWellFormed cs
 
     pub AreWellFormed : Children → Type 0
     AreWellFormed no_children = Unit {0}
     AreWellFormed (child name c cs) = IsWellFormed name c × AreWellFormed cs
 
     pub IsWellFormed : List ℕ → Child → Type 0
-    IsWellFormed name (a_token d) = IsTokenName name × holds d
-    IsWellFormed name (a_group g) = IsName name × WellFormed g
+    IsWellFormed name (a_token d) = IsTokenName name × holds.string name × holds.token d
+    IsWellFormed name (a_group g) = IsName name × holds.string name × WellFormed g
 
   -- Maps of children as lists of entries.
 
@@ -104,14 +125,15 @@ module _ (holds : Definition → Type 0) where
   map_formed no_children h = none_formed
   map_formed (child name c cs) h = more_formed (named cs) name c (map_formed cs h.1) h.0
 
-  pub group_formed : (ps : Properties) (m : Named) → AreFormed m → WellFormed (group_with ps m)
-  group_formed ps m h = children_formed (finite.entries m) h
+  pub group_formed : (ps : Properties) (m : Named) → IsMarked holds ps.deprecated → AreFormed m → WellFormed (group_with ps m)
+  group_formed ps m mark h = (mark, children_formed (finite.entries m) h)
 
   -- Merged groups.
 
   mutual
     pub over_formed : (g h : Group) → WellFormed g → WellFormed h → WellFormed (over g h)
-    over_formed (group ps cs) (group qs ds) o p = group_formed (over_properties ps qs) (over_members cs (named ds)) (members_formed cs (named ds) o (map_formed ds p))
+    over_formed (group ps cs) (group qs ds) o p =
+        group_formed (over_properties ps qs) (over_members cs (named ds)) (nearer_marked ps.deprecated qs.deprecated o.0 p.0) (members_formed cs (named ds) o.1 (map_formed ds p.1))
 
     members_formed : (cs : Children) (es : Named) → AreWellFormed cs → AreFormed es → AreFormed (over_members cs es)
     members_formed no_children es o h = h
@@ -122,7 +144,7 @@ module _ (holds : Definition → Type 0) where
     child_formed name (a_token d) old o h = o
     child_formed name (a_group g) None o h = o
     child_formed name (a_group g) (Some (a_token d)) o h = o
-    child_formed name (a_group g) (Some (a_group k)) o h = (o.0, over_formed g k o.1 (h (a_group k) refl).1)
+    child_formed name (a_group g) (Some (a_group k)) o h = (o.0, o.1, over_formed g k o.2 (h (a_group k) refl).2)
 
   -- trees, each over those before it
   pub merged_formed : (before : Group) (trees : List Group) → WellFormed before → AllByRecursion WellFormed trees → WellFormed (merged_over before trees)
@@ -134,26 +156,30 @@ module _ (holds : Definition → Type 0) where
   -- what holds of children, whatever stands under the groups
   abbrev FrontFormed : Children → Type 0
   FrontFormed no_children = Unit {0}
-  FrontFormed (child name (a_token d) cs) = (IsTokenName name × holds d) × FrontFormed cs
-  FrontFormed (child name (a_group g) cs) = IsName name × FrontFormed cs
+  FrontFormed (child name (a_token d) cs) = IsWellFormed name (a_token d) × FrontFormed cs
+  FrontFormed (child name (a_group g) cs) = (IsName name × holds.string name) × FrontFormed cs
 
   front : (cs : Children) → AreWellFormed cs → FrontFormed cs
   front no_children h = tt
   front (child name (a_token d) cs) h = (h.0, front cs h.1)
-  front (child name (a_group g) cs) h = (h.0.0, front cs h.1)
+  front (child name (a_group g) cs) h = ((h.0.0, h.0.1), front cs h.1)
 
-  module _ (tree : Group) (fronts : (path : GroupPath) → FrontFormed (children_in (at_path tree path))) where
+  -- the same of a group
+  abbrev IsFront : Group → Type 0
+  IsFront g = IsMarked holds (properties_in g).deprecated × FrontFormed (children_in g)
+
+  module _ (tree : Group) (fronts : (path : GroupPath) → IsFront (at_path tree path)) where
     mutual
       expanded_formed : (path : GroupPath) {e : Group} → Expands tree path e → WellFormed e
       expanded_formed path (expands {members = ms} a t) =
           let g = at_path tree path in
           inherited_formed (target_path g) (group_with (without_extension (properties_in g)) (named ms)) t
-          (group_formed (without_extension (properties_in g)) (named ms) (map_formed ms (all_expanded path (children_in g) a (fronts path))))
+          (group_formed (without_extension (properties_in g)) (named ms) (fronts path).0 (map_formed ms (all_expanded path (children_in g) a (fronts path).1)))
 
       all_expanded : (path : GroupPath) (cs : Children) {ms : Children} → AreExpanded tree path cs ms → FrontFormed cs → AreWellFormed ms
       all_expanded path no_children no_member h = tt
       all_expanded path (child name (a_token d) cs) (own_token a) h = (h.0, all_expanded path cs a h.1)
-      all_expanded path (child name (a_group g) cs) (child_group x a) h = ((h.0, expanded_formed (path ++ name ∷ []) x), all_expanded path cs a h.1)
+      all_expanded path (child name (a_group g) cs) (child_group x a) h = ((h.0.0, h.0.1, expanded_formed (path ++ name ∷ []) x), all_expanded path cs a h.1)
 
       inherited_formed : (o : Option GroupPath) (local : Group) {i : Option Group} → IsInherited tree o i → WellFormed local → WellFormed (over_inherited local i)
       inherited_formed None local no_target h = h
@@ -163,24 +189,24 @@ module _ (holds : Definition → Type 0) where
 
   group_in_child : (name : List ℕ) (c : Child) (g : Group) → IsWellFormed name c → member_group c ≡ Some g → WellFormed g
   group_in_child name (a_token d) g h is = cc
-  group_in_child name (a_group k) g h is = let same : k ≡ g = cc in subst WellFormed same h.1
+  group_in_child name (a_group k) g h is = let same : k ≡ g = cc in subst WellFormed same h.2
 
   behind_formed : (o : Option Child) (name : List ℕ) (path : GroupPath) (g : Group) → ((c : Child) → o ≡ Some c → IsWellFormed name c)
       → ((k : Group) → WellFormed k → group_at k path ≡ Some g → WellFormed g) → option_and_then (λ h. group_at h path) (option_and_then member_group o) ≡ Some g → WellFormed g
   behind_formed None name path g all later is = cc
   behind_formed (Some (a_token d)) name path g all later is = cc
-  behind_formed (Some (a_group k)) name path g all later is = later k (all (a_group k) refl).1 is
+  behind_formed (Some (a_group k)) name path g all later is = later k (all (a_group k) refl).2 is
 
   at_formed : (path : GroupPath) (tree g : Group) → WellFormed tree → group_at tree path ≡ Some g → WellFormed g
   at_formed [] tree g h is = let same : tree ≡ g = cc in subst WellFormed same h
   at_formed (name ∷ path) (group ps cs) g h is =
-      behind_formed (finite.get (named cs) name) name path g (λ c e. get_formed (named cs) name c (map_formed cs h) e) (λ k w e. at_formed path k g w e) is
+      behind_formed (finite.get (named cs) name) name path g (λ c e. get_formed (named cs) name c (map_formed cs h.1) e) (λ k w e. at_formed path k g w e) is
 
-  or_empty : (o : Option Group) → ((g : Group) → o ≡ Some g → WellFormed g) → FrontFormed (children_in (unwrap_or o empty_group))
-  or_empty None h = tt
-  or_empty (Some (group ps cs)) h = front cs (h (group ps cs) refl)
+  or_empty : (o : Option Group) → ((g : Group) → o ≡ Some g → WellFormed g) → IsFront (unwrap_or o empty_group)
+  or_empty None h = (tt, tt)
+  or_empty (Some (group ps cs)) h = ((h (group ps cs) refl).0, front cs (h (group ps cs) refl).1)
 
-  fronts_formed : (tree : Group) → WellFormed tree → (path : GroupPath) → FrontFormed (children_in (at_path tree path))
+  fronts_formed : (tree : Group) → WellFormed tree → (path : GroupPath) → IsFront (at_path tree path)
   fronts_formed tree h path = or_empty (group_at tree path) (λ g e. at_formed path tree g h e)
 
   expansion_formed : (tree e : Group) → WellFormed tree → Expands tree [] e → WellFormed e
@@ -188,25 +214,35 @@ module _ (holds : Definition → Type 0) where
 
   -- Tokens of a group.
 
-  mutual
-    tokens_formed : (path : GroupPath) (near : Nearest) (g : Group) → AreNames path → WellFormed g → (t : TokenAt) → In t (tokens_in path near g) → IsTokenWith holds t
-    tokens_formed path near (group ps cs) names h t i = among_formed path (nearest ps near) cs names h t i
+  -- what holds of the path of a group and of what the groups above it say
+  abbrev IsAbove : GroupPath → Nearest → Type 0
+  IsAbove path near = AreNames path × All holds.string path × IsMarked holds near.mark
 
-    among_formed : (path : GroupPath) (near : Nearest) (cs : Children) → AreNames path → AreWellFormed cs → (t : TokenAt) → In t (tokens_among path near cs) → IsTokenWith holds t
-    among_formed path near no_children names h t i = absurd i
-    among_formed path near (child name c cs) names h t i =
+  mutual
+    tokens_formed : (path : GroupPath) (near : Nearest) (g : Group) → IsAbove path near → WellFormed g → (t : TokenAt) → In t (tokens_in path near g) → IsTokenWith holds t
+    tokens_formed path near (group ps cs) above h t i = among_formed path (nearest ps near) cs (above.0, above.1, nearer_marked ps.deprecated near.mark h.0 above.2) h.1 t i
+
+    among_formed : (path : GroupPath) (near : Nearest) (cs : Children) → IsAbove path near → AreWellFormed cs → (t : TokenAt) → In t (tokens_among path near cs) → IsTokenWith holds t
+    among_formed path near no_children above h t i = absurd i
+    among_formed path near (child name c cs) above h t i =
         elim (in_either t (tokens_at (path ++ name ∷ []) near c) (tokens_among path near cs) i) as (λ _. IsTokenWith holds t) [
-          | inl j ↦ child_tokens path name near c names h.0 t j
-          | inr j ↦ among_formed path near cs names h.1 t j
+          | inl j ↦ child_tokens path name near c above h.0 t j
+          | inr j ↦ among_formed path near cs above h.1 t j
         ]
 
-    child_tokens : (path : GroupPath) (name : List ℕ) (near : Nearest) (c : Child) → AreNames path → IsWellFormed name c → (t : TokenAt) → In t (tokens_at (path ++ name ∷ []) near c) → IsTokenWith holds t
-    child_tokens path name near (a_token d) names h t (inl same) =
-        subst (IsTokenWith holds) (sym same) (record { front = path; last = name; whole = refl; names = names; ends = h.0 }, h.1)
-    child_tokens path name near (a_token d) names h t (inr i) = absurd i
-    child_tokens path name near (a_group g) names h t i = tokens_formed (path ++ name ∷ []) near g (All-push IsName path name names h.0) h.1 t i
+    child_tokens : (path : GroupPath) (name : List ℕ) (near : Nearest) (c : Child) → IsAbove path near → IsWellFormed name c → (t : TokenAt) → In t (tokens_at (path ++ name ∷ []) near c) → IsTokenWith holds t
+    child_tokens path name near (a_token d) above h t (inl same) =
+        subst (IsTokenWith holds) (sym same) (record {
+          path = record { front = path; last = name; whole = refl; names = above.0; ends = h.0 };
+          names = All-push holds.string path name above.1 h.1;
+          mark = above.2;
+          sound = h.2;
+        })
+    child_tokens path name near (a_token d) above h t (inr i) = absurd i
+    child_tokens path name near (a_group g) above h t i =
+        tokens_formed (path ++ name ∷ []) near g (All-push IsName path name above.0 h.0, All-push holds.string path name above.1 h.1, above.2) h.2 t i
 
   -- the tokens of the expansion of a tree
   pub expanded_tokens : (tree e : Group) (tokens : List TokenAt) → WellFormed tree → Expands tree [] e → tokens ≡ tokens_in [] nothing_above e → (t : TokenAt) → In t tokens → IsTokenWith holds t
   expanded_tokens tree e tokens h x list t i =
-      tokens_formed [] nothing_above e (λ k d within. absurd (omega (arith, within))) (expansion_formed tree e h x) t (subst (In t) list i)
+      tokens_formed [] nothing_above e (All-nil IsName, All-nil holds.string, tt) (expansion_formed tree e h x) t (subst (In t) list i)

@@ -2,6 +2,7 @@
 use Rattle.std.proofs.Common.{◌≡◌, ℕ, List, [], ◌∷◌, ◌++◌, Option, Some, None, MatchOption, sym, ap, ◌∙◌}
 use Rattle.std.specs.FinMap as finite
 use Rattle.json_span.proofs.OneAnswer.{one_answer}
+use Rattle.tk_io.specs.FilesData.{FilesData}
 use Rattle.permutations.specs.Permutation as perm
 use Rattle.permutations.specs.Permutation.{TokenSource}
 use Rattle.token_tree.specs.Tree.{Group}
@@ -11,7 +12,7 @@ use Rattle.source_trees.specs.declared.laying.Merged.TheVariants.{Tree, Broken}
 use Rattle.source_trees.specs.declared.source.SourceFault.TheVariants.{Missing}
 use Rattle.source_trees.specs.Laws.{SameMerged, OneMerge}
 use Rattle.source_trees.specs.Merging.{IsLaid}
-use Rattle.source_trees.specs.Sources.{Texts, HomeAt, BreakAt, break_at, answer_breaks, answer_trees, FoundIn, SourceFound, SourcesFound}
+use Rattle.source_trees.specs.Sources.{HomeAt, BreakAt, break_at, answer_breaks, answer_trees, FoundIn, SourceFound, SourcesFound}
 
 abbrev pub Same : List BreakAt → List BreakAt → List Group → List Group → Type 0
 Same bs cs ts us = (bs ≡ cs) × (ts ≡ us)
@@ -21,20 +22,20 @@ found_one file text bs cs ts us (a, is, b, t) (d, is', c, u) =
     let same = one_answer text a d is is' in
     (b ∙ (ap (answer_breaks file) same ∙ sym c), t ∙ (ap (answer_trees file text) same ∙ sym u))
 
-source_one : (texts : Texts) (home : HomeAt) (s : TokenSource) (bs cs : List BreakAt) (ts us : List Group) → SourceFound texts home s bs ts → SourceFound texts home s cs us → Same bs cs ts us
-source_one texts home (perm.file name start end) bs cs ts us f g = at (finite.get texts name) f g
+source_one : (files : FilesData) (home : HomeAt) (s : TokenSource) (bs cs : List BreakAt) (ts us : List Group) → SourceFound files home s bs ts → SourceFound files home s cs us → Same bs cs ts us
+source_one files home (perm.file name start end) bs cs ts us f g = at (finite.get files name) f g
   where
     at : (o : Option (List ℕ)) → MatchOption o ((bs ≡ break_at Missing home.file start end ∷ []) × (ts ≡ [])) (λ text. FoundIn name text bs ts)
         → MatchOption o ((cs ≡ break_at Missing home.file start end ∷ []) × (us ≡ [])) (λ text. FoundIn name text cs us) → Same bs cs ts us
     at None x y = (x.0 ∙ sym y.0, x.1 ∙ sym y.1)
     at (Some text) x y = found_one name text bs cs ts us x y
-source_one texts home (perm.inline n) bs cs ts us f g = (f.0 ∙ sym g.0, f.1 ∙ sym g.1)
+source_one files home (perm.inline n) bs cs ts us f g = (f.0 ∙ sym g.0, f.1 ∙ sym g.1)
 
-pub sources_one : (texts : Texts) (home : HomeAt) (ss : List TokenSource) (bs cs : List BreakAt) (ts us : List Group) → SourcesFound texts home ss bs ts → SourcesFound texts home ss cs us → Same bs cs ts us
-sources_one texts home [] bs cs ts us f g = (f.0 ∙ sym g.0, f.1 ∙ sym g.1)
-sources_one texts home (s ∷ ss) bs cs ts us (b, bs', t, ts', f, fs, eb, et) (c, cs', u, us', g, gs, ec, eu) =
-    let here = source_one texts home s b c t u f g in
-    let later = sources_one texts home ss bs' cs' ts' us' fs gs in
+pub sources_one : (files : FilesData) (home : HomeAt) (ss : List TokenSource) (bs cs : List BreakAt) (ts us : List Group) → SourcesFound files home ss bs ts → SourcesFound files home ss cs us → Same bs cs ts us
+sources_one files home [] bs cs ts us f g = (f.0 ∙ sym g.0, f.1 ∙ sym g.1)
+sources_one files home (s ∷ ss) bs cs ts us (b, bs', t, ts', f, fs, eb, et) (c, cs', u, us', g, gs, ec, eu) =
+    let here = source_one files home s b c t u f g in
+    let later = sources_one files home ss bs' cs' ts' us' fs gs in
     (eb ∙ (ap (λ x. x ++ bs') here.0 ∙ (ap (λ x. c ++ x) later.0 ∙ sym ec)), et ∙ (ap (λ x. x ++ ts') here.1 ∙ (ap (λ x. u ++ x) later.1 ∙ sym eu)))
 
 none_some : {A : Type 0} {x : A} {xs : List A} → [] ≡ x ∷ xs → ⊥
@@ -50,4 +51,4 @@ laid_one bs cs ts us before (Broken b) (Tree g) same l k = none_some (sym k.0 �
 laid_one bs cs ts us before (Broken b) (Broken c) same l k = head_is (sym l.1 ∙ (same.0 ∙ k.1))
 
 pub one_merge : OneMerge
-one_merge texts home sources m n (bs, ts, f, l) (cs, us, g, k) = laid_one bs cs ts us empty_group m n (sources_one texts home sources bs cs ts us f g) l k
+one_merge files home sources m n (bs, ts, f, l) (cs, us, g, k) = laid_one bs cs ts us empty_group m n (sources_one files home sources bs cs ts us f g) l k

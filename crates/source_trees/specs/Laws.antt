@@ -5,11 +5,14 @@ use Rattle.ring.specs.Routes.{In}
 use Rattle.tk_io.specs.Order.{text_cmp}
 use Rattle.source_trees.specs.declared.shape.FileShape.{FileShape}
 use Rattle.token_tree.specs.Shown.{group_view}
+use Rattle.token_tree.specs.Tree.{Group}
+use Rattle.group_inherit.specs.Merging.{merged}
+use Rattle.group_inherit.specs.Ordered.{IsOrdered}
 use Rattle.source_trees.specs.declared.laying.Merged.{Merged}
 use Rattle.source_trees.specs.declared.laying.Merged.TheVariants.{Tree, Broken}
 use Rattle.source_trees.specs.Merging.{AreKnown, IsMergedOf}
 use Rattle.source_trees.specs.View.{break_view}
-use Rattle.source_trees.specs.Sources.{Texts, HomeAt}
+use Rattle.source_trees.specs.Sources.{HomeAt, BreakAt, SourcesFound}
 use Rattle.permutations.specs.Permutation.{TokenSource, Permutation}
 use Rattle.tk_io.specs.FilesData.{FilesData}
 use Rattle.file_plan.specs.InUse.{files_in_use}
@@ -29,4 +32,14 @@ SameMerged (Broken b) (Broken c) = break_view b ≡ break_view c
 
 -- sources come to one thing
 abbrev pub OneMerge : Type 0
-OneMerge = (texts : Texts) (home : HomeAt) (sources : List TokenSource) (m n : Merged) → IsMergedOf texts home sources m → IsMergedOf texts home sources n → SameMerged m n
+OneMerge = (files : FilesData) (home : HomeAt) (sources : List TokenSource) (m n : Merged) → IsMergedOf files home sources m → IsMergedOf files home sources n → SameMerged m n
+
+-- any sources come to something: breaks, or trees
+abbrev pub EachMerge : Type 0
+EachMerge = (files : FilesData) (home : HomeAt) (sources : List TokenSource)
+    → (breaks : List BreakAt) × (trees : List Group) × SourcesFound files home sources breaks trees
+
+-- the members of each group ascend in the tree that is merged of theirs
+abbrev pub MergedIsOrdered : Type 0
+MergedIsOrdered = (files : FilesData) (home : HomeAt) (sources : List TokenSource) (breaks : List BreakAt)
+    (trees : List Group) → SourcesFound files home sources breaks trees → IsOrdered (merged trees)

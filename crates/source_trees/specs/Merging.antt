@@ -2,6 +2,7 @@
 use Rattle.std.specs.Prelude.{◌≡◌, ℕ, List, [], ◌∷◌, Some, None, MatchOption}
 use Rattle.std.specs.FinMap as finite
 use Rattle.std.specs.List.{AllByRecursion}
+use Rattle.tk_io.specs.FilesData.{FilesData}
 use Rattle.tk_io.specs.Order.{text_cmp}
 use Rattle.token_tree.specs.Promise.{StandsIn}
 use Rattle.token_tree.specs.Shown.{group_view}
@@ -10,7 +11,7 @@ use Rattle.group_inherit.specs.Merging.{merged_over, empty_group}
 use Rattle.source_trees.specs.declared.laying.Merged.{Merged}
 use Rattle.source_trees.specs.declared.laying.Merged.TheVariants.{Tree, Broken}
 use Rattle.source_trees.specs.declared.shape.FileShape.{FileShape}
-use Rattle.source_trees.specs.Sources.{Texts, HomeAt, BreakAt, SourceFound, SourcesFound}
+use Rattle.source_trees.specs.Sources.{HomeAt, BreakAt, SourceFound, SourcesFound}
 use Rattle.permutations.specs.Permutation as perm
 use Rattle.permutations.specs.Permutation.{TokenSource}
 use Rattle.source_trees.specs.Trees.{IsShapeFor}
@@ -25,13 +26,13 @@ abbrev pub AllInlineStand : List ℕ → List TokenSource → Type 0
 AllInlineStand text sources = AllByRecursion (InlineStands text) sources
 
 -- the shape of a file is known, where the file is there
-abbrev pub IsKnown : Texts → finite.FinMap text_cmp FileShape → TokenSource → Type 0
-IsKnown texts shapes (perm.file name start end) =
-    MatchOption (finite.get shapes name) (finite.get texts name ≡ None) (λ shape. (text : List ℕ) × (finite.get texts name ≡ Some text) × IsShapeFor name text shape)
-IsKnown texts shapes (perm.inline n) = Unit {0}
+abbrev pub IsKnown : FilesData → finite.FinMap text_cmp FileShape → TokenSource → Type 0
+IsKnown files shapes (perm.file name start end) =
+    MatchOption (finite.get shapes name) (finite.get files name ≡ None) (λ shape. (text : List ℕ) × (finite.get files name ≡ Some text) × IsShapeFor name text shape)
+IsKnown files shapes (perm.inline n) = Unit {0}
 
-abbrev pub AreKnown : Texts → finite.FinMap text_cmp FileShape → List TokenSource → Type 0
-AreKnown texts shapes sources = AllByRecursion (IsKnown texts shapes) sources
+abbrev pub AreKnown : FilesData → finite.FinMap text_cmp FileShape → List TokenSource → Type 0
+AreKnown files shapes sources = AllByRecursion (IsKnown files shapes) sources
 
 -- trees over what is merged before them, where nothing is broken, and else the first break
 abbrev pub IsLaid : List BreakAt → List Group → Group → Merged → Type 0
@@ -39,14 +40,14 @@ IsLaid breaks trees before (Tree g) = (breaks ≡ []) × (group_view g ≡ merge
 IsLaid breaks trees before (Broken b) = (rest : List BreakAt) × (breaks ≡ break_view b ∷ rest)
 
 -- one source over what is merged before it
-abbrev pub Lays : Texts → HomeAt → TokenSource → Group → Merged → Type 0
-Lays texts home source before m =
-    (breaks : List BreakAt) × (trees : List Group) × SourceFound texts home source breaks trees × IsLaid breaks trees before m
+abbrev pub Lays : FilesData → HomeAt → TokenSource → Group → Merged → Type 0
+Lays files home source before m =
+    (breaks : List BreakAt) × (trees : List Group) × SourceFound files home source breaks trees × IsLaid breaks trees before m
 
-abbrev pub IsLaidOver : Texts → HomeAt → List TokenSource → Group → Merged → Type 0
-IsLaidOver texts home sources before m =
-    (breaks : List BreakAt) × (trees : List Group) × SourcesFound texts home sources breaks trees × IsLaid breaks trees before m
+abbrev pub IsLaidOver : FilesData → HomeAt → List TokenSource → Group → Merged → Type 0
+IsLaidOver files home sources before m =
+    (breaks : List BreakAt) × (trees : List Group) × SourcesFound files home sources breaks trees × IsLaid breaks trees before m
 
 -- what the sources come to: their trees merged, or the first break
-abbrev pub IsMergedOf : Texts → HomeAt → List TokenSource → Merged → Type 0
-IsMergedOf texts home sources m = IsLaidOver texts home sources empty_group m
+abbrev pub IsMergedOf : FilesData → HomeAt → List TokenSource → Merged → Type 0
+IsMergedOf files home sources m = IsLaidOver files home sources empty_group m

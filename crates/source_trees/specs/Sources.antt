@@ -5,15 +5,11 @@ use Rattle.json_span.specs.Answer.{Answer, IsAnswer, shows, flawed, stops}
 use Rattle.json_span.specs.Flaw.{Flaw, equal_names, too_deep}
 use Rattle.permutations.specs.Permutation as perm
 use Rattle.permutations.specs.Permutation.{TokenSource}
-use Rattle.tk_io.specs.Order.{text_cmp}
+use Rattle.tk_io.specs.FilesData.{FilesData}
 use Rattle.token_tree.specs.Shape.{Break as ShapeBreak, shape_breaks, shape_of}
 use Rattle.token_tree.specs.Tree.{Group}
 use Rattle.source_trees.specs.declared.source.SourceFault.{SourceFault}
 use Rattle.source_trees.specs.declared.source.SourceFault.TheVariants.{Missing, Syntax, Duplicate, Depth, Shape}
-
--- texts by their paths
-abbrev pub Texts : Type 0
-Texts = finite.FinMap text_cmp (List ℕ)
 
 -- the file that names the sources, and its text
 pub record HomeAt : Type 0 where
@@ -57,15 +53,15 @@ abbrev pub FoundIn : List ℕ → List ℕ → List BreakAt → List Group → T
 FoundIn file text breaks trees =
     (answer : Answer) × IsAnswer text answer × (breaks ≡ answer_breaks file answer) × (trees ≡ answer_trees file text answer)
 
-abbrev pub SourceFound : Texts → HomeAt → TokenSource → List BreakAt → List Group → Type 0
-SourceFound texts home (perm.file name start end) breaks trees =
-    MatchOption (finite.get texts name) ((breaks ≡ break_at Missing home.file start end ∷ []) × (trees ≡ [])) (λ text. FoundIn name text breaks trees)
-SourceFound texts home (perm.inline n) breaks trees =
+abbrev pub SourceFound : FilesData → HomeAt → TokenSource → List BreakAt → List Group → Type 0
+SourceFound files home (perm.file name start end) breaks trees =
+    MatchOption (finite.get files name) ((breaks ≡ break_at Missing home.file start end ∷ []) × (trees ≡ [])) (λ text. FoundIn name text breaks trees)
+SourceFound files home (perm.inline n) breaks trees =
     (breaks ≡ map (shape_break home.file) (shape_breaks n)) × (trees ≡ shape_of home.file home.text n ∷ [])
 
 -- Of all sources, in their order.
 
-abbrev pub SourcesFound : Texts → HomeAt → List TokenSource → List BreakAt → List Group → Type 0
-SourcesFound texts home [] breaks trees = (breaks ≡ []) × (trees ≡ [])
-SourcesFound texts home (s ∷ ss) breaks trees =
-    (b bs : List BreakAt) × (t ts : List Group) × SourceFound texts home s b t × SourcesFound texts home ss bs ts × (breaks ≡ b ++ bs) × (trees ≡ t ++ ts)
+abbrev pub SourcesFound : FilesData → HomeAt → List TokenSource → List BreakAt → List Group → Type 0
+SourcesFound files home [] breaks trees = (breaks ≡ []) × (trees ≡ [])
+SourcesFound files home (s ∷ ss) breaks trees =
+    (b bs : List BreakAt) × (t ts : List Group) × SourceFound files home s b t × SourcesFound files home ss bs ts × (breaks ≡ b ++ bs) × (trees ≡ t ++ ts)

@@ -4,7 +4,8 @@ ghost use Rattle.std.specs.Prelude.{◌≡◌, [], ◌∷◌, List, IfOk};
 ghost use Rattle.token_tree.specs.Shown.{group_view};
 ghost use Rattle.token_tree.specs.Tree.{Group as GroupData};
 ghost use Rattle.group_inherit.specs.Merging.{empty_group};
-ghost use Rattle.source_trees.specs.Sources.{Texts, BreakAt};
+ghost use Rattle.tk_io.specs.FilesData.{FilesData};
+ghost use Rattle.source_trees.specs.Sources.{BreakAt};
 ghost use Rattle.source_trees.specs.Trees.{IsShapeBy};
 ghost use Rattle.source_trees.specs.Merging.{InlineStands, AllInlineStand, IsKnown, AreKnown, IsLaid, Lays, IsMergedOf};
 ghost use Rattle.source_trees.specs.View.{home_view};
@@ -48,7 +49,7 @@ fn lay<'s>(
     before: &Group<'s>,
 ) -> Result<Merged<'s>, NoMemory>
     requires { InlineStands home.text.now (plan_source_view source.now) }
-    ensures { IfOk result (λ m. (texts : Texts) → IsKnown texts shapes.now (plan_source_view source.now) → Lays texts (home_view home.entry) (plan_source_view source.now) (group_view before.now) m) }
+    ensures { IfOk result (λ m. (files : FilesData) → IsKnown files shapes.now (plan_source_view source.now) → Lays files (home_view home.entry) (plan_source_view source.now) (group_view before.now) m) }
 {
     match source {
         PlanSource::File(name, start, end) => match shapes.get(name.as_str()) {
@@ -90,8 +91,8 @@ pub fn merged_sources<'s>(
 ) -> Result<Merged<'s>, NoMemory>
     // An object is a value of the home's text, which has no flaw.
     requires { AllInlineStand home.text.now (plan_sources_view sources.now) }
-    ensures { IfOk result (λ m. (texts : Texts) → AreKnown texts shapes.now (plan_sources_view sources.now)
-        → IsMergedOf texts (home_view home.entry) (plan_sources_view sources.now) m) }
+    ensures { IfOk result (λ m. (files : FilesData) → AreKnown files shapes.now (plan_sources_view sources.now)
+        → IsMergedOf files (home_view home.entry) (plan_sources_view sources.now) m) }
 {
     let mut merged = no_tree(alloc);
     for source in sources {

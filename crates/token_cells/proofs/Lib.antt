@@ -1,6 +1,7 @@
 pub mod AndroidDenotes
 pub mod Beside
 pub mod Bodies
+pub mod CellsExist
 pub mod Comes
 pub mod Entries
 pub mod JsonDenotes
@@ -12,3 +13,5 @@ pub mod RealClashes
 pub mod SheetDenotes
 pub mod Sides
 pub mod SwiftDenotes
+pub mod TextsOfTokens
+pub mod ValuesFit

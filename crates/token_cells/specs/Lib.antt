@@ -5,4 +5,5 @@ pub mod Sheets
 pub mod Denotes
 pub mod OtherSheets
 pub mod Laws
+pub mod Existence
 pub mod inner

@@ -1,12 +1,14 @@
 // Laws over the definitions alone.
 ghost use Rattle.token_cells.specs.Denotes.{CellsDenote};
+ghost use Rattle.token_cells.specs.Existence.{EachCell, EachCells};
 ghost use Rattle.token_cells.specs.OtherSheets.{AndroidCellsDenote, JsonCellsDenote, SwiftCellsDenote};
 ghost use Rattle.token_cells.specs.Laws.{ApartAreUnclashed, BreaksAreReal, ClashesAreReal, OneCells, UnclashedAreApart};
 
-use alias_ref::{one_answer, one_meaning, parts_mean, unbroken_tokens};
+use alias_ref::{meanings_fit, one_answer, one_meaning, parts_mean, unbroken_tokens};
 use composite_rules::{part_laws, value_laws};
 use css_out::sheet_laws;
-use transforms::clash_laws;
+use json_span::plain_laws;
+use transforms::{clash_laws, name_laws};
 
 /// The tokens of a flat tree come to one list of cells under a configuration.
 pub fn one_cells()
@@ -61,4 +63,16 @@ pub fn other_sheets_denote()
     ios_out::sheet_laws();
     json_out::sheet_laws();
     json_out::fragment_laws();
+}
+
+/// Each token of a flat tree that texts in memory define comes to something under a configuration: it breaks a rule, or it
+/// has a value and gives something to each platform.
+pub fn each_cell()
+    ensures one { EachCell }
+    ensures all { EachCells }
+{
+    unbroken_tokens();
+    meanings_fit();
+    plain_laws::<usize>();
+    name_laws();
 }

@@ -13,7 +13,9 @@ mod verdict;
 
 pub use cells::{Cells, cells_of};
 pub use format::Format;
-pub use laws::{breaks_are_real, clashes_are_real, one_cells, other_sheets_denote, sheets_denote};
+pub use laws::{
+    breaks_are_real, clashes_are_real, each_cell, one_cells, other_sheets_denote, sheets_denote,
+};
 pub use shared_cell::SharedCell;
 pub use sheet::sheet_of;
 pub use token_cell::{TokenCell, cell};

@@ -8,6 +8,7 @@ returns-clause-each c = each_is_answered (record {
   apart = c.file_plan_laws.ensures.apart;
   paths = c.merged_tokens.ensures.paths;
   definitions = c.merged_tokens.ensures.definitions;
+  config = record { texts = c.config_laws.ensures.texts; plain = c.config_laws.ensures.plain };
   css = c.sheets_denote.ensures;
   android = c.other_sheets_denote.ensures.android;
   swift = c.other_sheets_denote.ensures.swift;

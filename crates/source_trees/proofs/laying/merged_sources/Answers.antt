@@ -8,7 +8,7 @@ use Rattle.source_trees.proofs.Laid.{lay_tree, lay_broken, lay_end, next_sources
 use Rattle.source_trees.proofs.laying.merged_sources.Goals as goal
 
 pub returns-in-Broken : goal.returns-in-Broken
-returns-in-Broken c = λ texts k.
+returns-in-Broken c = λ files k.
     let home = home_view c.args.home in
     let shapes = c.args.shapes.now in
     let sources = c.args.sources.now in
@@ -18,10 +18,10 @@ returns-in-Broken c = λ texts k.
     let before = group_view c.loop-source.merged in
     let b = c.in-Broken.found in
     let next = next_sources sources i c.source-item.result c.loop-source-test.true c.source-item.is in
-    let known = subst (AreKnown texts shapes) next (c.loop-source.invariant.known texts k) in
-    let lays = subst (λ m. Lays texts home s before m) c.in-Broken.is (c.in_ok-tree.ensures texts known.0) in
-    c.loop-source.invariant.laid texts (Broken b) k
-    (subst (λ l. IsLaidOver texts home l before (Broken b)) (sym next) (lay_broken texts home shapes s ss before b known.1 lays))
+    let known = subst (AreKnown files shapes) next (c.loop-source.invariant.known files k) in
+    let lays = subst (λ m. Lays files home s before m) c.in-Broken.is (c.in_ok-tree.ensures files known.0) in
+    c.loop-source.invariant.laid files (Broken b) k
+    (subst (λ l. IsLaidOver files home l before (Broken b)) (sym next) (lay_broken files home s ss before b lays))
 
 pub loop-source-preserved : goal.loop-source-preserved
 loop-source-preserved c =
@@ -35,17 +35,17 @@ loop-source-preserved c =
     let next = next_sources sources i c.source-item.result c.loop-source-test.true c.source-item.is in
     record {
       stand = (subst (AllInlineStand c.args.home.text.now) next c.loop-source.invariant.stand).1;
-      known = λ texts k. (subst (AreKnown texts shapes) next (c.loop-source.invariant.known texts k)).1;
-      laid = λ texts m k rest.
-          let known = subst (AreKnown texts shapes) next (c.loop-source.invariant.known texts k) in
-          let lays = subst (λ x. Lays texts home s before x) c.in-Tree.is (c.in_ok-tree.ensures texts known.0) in
-          c.loop-source.invariant.laid texts m k
-          (subst (λ l. IsLaidOver texts home l before m) (sym next) (lay_tree texts home s ss before (group_view c.in-Tree.tree) c.in-Tree.tree m refl lays rest));
+      known = λ files k. (subst (AreKnown files shapes) next (c.loop-source.invariant.known files k)).1;
+      laid = λ files m k rest.
+          let known = subst (AreKnown files shapes) next (c.loop-source.invariant.known files k) in
+          let lays = subst (λ x. Lays files home s before x) c.in-Tree.is (c.in_ok-tree.ensures files known.0) in
+          c.loop-source.invariant.laid files m k
+          (subst (λ l. IsLaidOver files home l before m) (sym next) (lay_tree files home s ss before (group_view c.in-Tree.tree) c.in-Tree.tree m refl lays rest));
     }
 
 pub returns : goal.returns
-returns c = λ texts k.
+returns c = λ files k.
     let home = home_view c.args.home in
     let g = c.loop-source.merged in
-    c.loop-source.invariant.laid texts (Tree g) k
-    (subst (λ l. IsLaidOver texts home l (group_view g) (Tree g)) (sym (no_sources c.args.sources.now c.loop-source.source-index c.loop-source-test.false)) (lay_end texts home g))
+    c.loop-source.invariant.laid files (Tree g) k
+    (subst (λ l. IsLaidOver files home l (group_view g) (Tree g)) (sym (no_sources c.args.sources.now c.loop-source.source-index c.loop-source-test.false)) (lay_end files home g))
