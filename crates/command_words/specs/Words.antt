@@ -1,10 +1,11 @@
 -- Which words are a command, and which command they are.
-use Rattle.std.specs.Prelude.{◌≡◌, ◌<◌, ◌≤◌, ◌-◌, ◌^◌, ℕ, ◌&&◌, nat_le, List, [], ◌∷◌, codes, Option, Some, None, if◌then◌else◌}
+use Rattle.std.specs.Prelude.{◌≡◌, ◌≤◌, ℕ, ◌&&◌, nat_le, List, [], ◌∷◌, codes, Option, Some, None, if◌then◌else◌}
 use Rattle.std.specs.Fmt.{decimal}
 use Rattle.std.specs.Str.{bytes_eq}
 use Rattle.std.specs.Str.Parse.{digits_value}
 use Rattle.command_words.specs.declared.command.Command.{Command}
 use Rattle.command_words.specs.declared.command.Command.TheVariants.{Build, Replay, Stats, Gen}
+use Rattle.command_words.specs.declared.command.TheConstants.{GREATEST_SEED, MOST_TOKENS}
 
 -- the words that spell a command: its name, and behind `gen` its two numbers in decimal digits
 abbrev pub spelling : Command → List (List ℕ)
@@ -13,12 +14,12 @@ spelling Replay = codes "replay" ∷ []
 spelling Stats = codes "stats" ∷ []
 spelling (Gen seed size) = codes "gen" ∷ decimal seed ∷ decimal size ∷ []
 
--- a seed is below 2 ^ 32, and a size is 1 to 4,000
+-- a seed and a size are within the limits, and a size is at least 1
 abbrev pub IsInBounds : Command → Type 0
 IsInBounds Build = Unit {0}
 IsInBounds Replay = Unit {0}
 IsInBounds Stats = Unit {0}
-IsInBounds (Gen seed size) = (seed < 2 ^ 32) × (1 ≤ size) × (size ≤ 4000)
+IsInBounds (Gen seed size) = (seed ≤ GREATEST_SEED) × (1 ≤ size) × (size ≤ MOST_TOKENS)
 
 -- the words are this command
 pub record IsCommand (words : List (List ℕ)) (c : Command) : Type 0 where
@@ -34,10 +35,10 @@ unfoldable pub number_in : ℕ → ℕ → List ℕ → Option ℕ
 number_in low high text = if_spelled low high text (digits_value 10 text)
 
 abbrev pub seed_of : List ℕ → Option ℕ
-seed_of text = number_in 0 (2 ^ 32 - 1) text
+seed_of text = number_in 0 GREATEST_SEED text
 
 abbrev pub size_of : List ℕ → Option ℕ
-size_of text = number_in 1 4000 text
+size_of text = number_in 1 MOST_TOKENS text
 
 abbrev pub gen_of : Option ℕ → Option ℕ → Option Command
 gen_of None size = None

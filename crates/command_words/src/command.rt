@@ -5,6 +5,12 @@ ghost use Rattle.command_words.specs.declared.command.WordStop.TheVariants.{NoMe
 use std::alloc::AllocError;
 use thiserror::Error;
 
+/// The greatest seed of a generated script.
+pub const GREATEST_SEED: u32 = 4_294_967_295;
+
+/// The most tokens that a generated script has.
+pub const MOST_TOKENS: u32 = 4_000;
+
 /// What the words of a command line ask for.
 #[derive(Clone, Copy, Debug, PartialEq, Eq)]
 pub enum Command {

@@ -6,11 +6,9 @@ ghost use Rattle.clap.specs.Walk.{first_of, rows_of};
 ghost use Rattle.command_words.specs.inner.ClapWords.{command_in, gen_in};
 
 use crate::Command;
+use crate::command::{GREATEST_SEED, MOST_TOKENS};
 use crate::number::number_in;
 use clap::ArgMatches;
-
-/// The most tokens that a generated script has.
-const MOST_TOKENS: u32 = 4_000;
 
 // The value of the argument.
 fn value_of<'a>(inner: &ArgMatches<'a>, id: &str) -> Option<&'a str>
@@ -25,7 +23,7 @@ fn gen_found(inner: &ArgMatches<'_>) -> Option<Command>
 {
     let seed = value_of(inner, "seed")?;
     let size = value_of(inner, "size")?;
-    let seed = number_in(0, u32::MAX, seed)?;
+    let seed = number_in(0, GREATEST_SEED, seed)?;
     let size = number_in(1, MOST_TOKENS, size)?;
     Some(Command::Gen(seed, size))
 }

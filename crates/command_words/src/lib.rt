@@ -11,6 +11,6 @@ mod reading;
 #[cfg(test)]
 mod tests;
 
-pub use command::{Command, WordStop};
+pub use command::{Command, GREATEST_SEED, MOST_TOKENS, WordStop};
 pub use laws::words_of_commands;
 pub use reading::read_words;

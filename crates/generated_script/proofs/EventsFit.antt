@@ -9,6 +9,7 @@ use Rattle.std.specs.Prelude.{nat_lt}
 use Rattle.std.specs.Str.{IsAscii}
 use Rattle.edit_script.specs.Files.{commit_count}
 use Rattle.edit_script.specs.Script.{EventFits, IsScript, event_text, header, is_path, put}
+use Rattle.generated_script.specs.declared.script.TheConstants.{MOST_TOKENS}
 use Rattle.generated_script.specs.Tokens.{core_text, edited, literal, token_text, value_text}
 use Rattle.generated_script.specs.Script.{edit_events, events_of, first_events, put_core, resolver_text, script_of}
 
@@ -56,7 +57,7 @@ literal_small seed size zero i h = omega arith
 literal_small seed size (suc j) i h =
     pick (edited seed size (suc j) == i) (100 + suc j) (literal seed size j i) (omega arith) (literal_small seed size j i (omega arith))
 
-value_short : (seed size edits i : ℕ) → edits ≤ 20 → i < 4000 → IsShort 26 (value_text seed size edits i)
+value_short : (seed size edits i : ℕ) → edits ≤ 20 → i < MOST_TOKENS → IsShort 26 (value_text seed size edits i)
 value_short seed size edits i h small =
     let value = literal seed size edits i in
     let bound : value ≤ 120 = literal_small seed size edits i h in
@@ -70,7 +71,7 @@ value_short seed size edits i h small =
     (joined 4 2 6 (decimal (i - 1)) (codes "}\"") (digits (i - 1) (omega arith)) (fixed 2 (codes "}\"") refl refl) (omega arith))
     (omega arith))
 
-token_short : (seed size edits i : ℕ) → edits ≤ 20 → i < 4000 → IsShort 46 (token_text seed size edits i)
+token_short : (seed size edits i : ℕ) → edits ≤ 20 → i < MOST_TOKENS → IsShort 46 (token_text seed size edits i)
 token_short seed size edits i h small =
     let value = value_text seed size edits i in
     joined 3 43 46 (codes ",\"n") (decimal i ++ (codes "\":{\"$value\":" ++ (value ++ codes "}")))
@@ -84,7 +85,7 @@ token_short seed size edits i h small =
     (omega arith))
     (omega arith)
 
-core_short : (seed size edits : ℕ) → edits ≤ 20 → size ≤ 4000 → IsShort 200000 (core_text seed size edits)
+core_short : (seed size edits : ℕ) → edits ≤ 20 → size ≤ MOST_TOKENS → IsShort 200000 (core_text seed size edits)
 unfolding core_text
 core_short seed size edits h small =
     let tokens = flat_map (token_text seed size edits) (range_with_len 0 size) in
@@ -104,7 +105,7 @@ fits : (most : ℕ) (path text : List ℕ) → is_path path ≡ true → IsShort
 fits most path text p short h =
     (p, IsUtf8-from_ascii text short.ascii, omega (arith, short.bound))
 
-core_fits : (seed size edits : ℕ) → edits ≤ 20 → size ≤ 4000 → EventFits (put_core seed size edits)
+core_fits : (seed size edits : ℕ) → edits ≤ 20 → size ≤ MOST_TOKENS → EventFits (put_core seed size edits)
 core_fits seed size edits h small =
     fits 200000 (codes "core.json") (core_text seed size edits) refl (core_short seed size edits h small) (omega arith)
 
@@ -118,7 +119,7 @@ each P f a (suc n) h =
     both P (f a) (flat_map f (range_with_len (a + 1) n)) (h a (omega arith) (omega arith))
     (each P f (a + 1) n (λ i l u. h i (omega arith) (omega arith)))
 
-first_fit : (seed size : ℕ) → size ≤ 4000 → AllByRecursion EventFits (first_events seed size)
+first_fit : (seed size : ℕ) → size ≤ MOST_TOKENS → AllByRecursion EventFits (first_events seed size)
 first_fit seed size small = (
   fits 400 (codes "resolver.json") resolver_text refl resolver_short (omega arith),
   (
@@ -139,7 +140,7 @@ first_fit seed size small = (
   ),
 )
 
-events_fit : (seed size : ℕ) → size ≤ 4000 → AllByRecursion EventFits (events_of seed size)
+events_fit : (seed size : ℕ) → size ≤ MOST_TOKENS → AllByRecursion EventFits (events_of seed size)
 unfolding events_of
 events_fit seed size small =
     both EventFits (first_events seed size) (flat_map (edit_events seed size) (range_with_len 1 20)) (first_fit seed size small)
@@ -150,7 +151,7 @@ unfolding script_of
 text_is seed size = refl
 
 -- the text is a script of the events
-pub script : (seed size : ℕ) → size ≤ 4000 → IsScript (script_of seed size) (events_of seed size)
+pub script : (seed size : ℕ) → size ≤ MOST_TOKENS → IsScript (script_of seed size) (events_of seed size)
 script seed size small = (text_is seed size, events_fit seed size small)
 
 -- the first commit, and one for each edit

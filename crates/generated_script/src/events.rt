@@ -3,6 +3,7 @@ ghost use Rattle.std.specs.Prelude.{◌≡◌, ◌<◌, ◌≤◌, ◌^◌, ◌+
 ghost use Rattle.std.specs.List.{flat_map, range_with_len};
 ghost use Rattle.edit_script.specs.Script.{commit, event_text, put};
 ghost use Rattle.generated_script.specs.Script.{edit_events, first_events, put_core, resolver_text};
+ghost use Rattle.generated_script.specs.declared.script.TheConstants.{MOST_TOKENS};
 
 use crate::core_file::{add_number, core_text};
 use std::alloc::Global;
@@ -47,7 +48,7 @@ fn add_core(
     size: u64,
     edits: u64,
 ) -> Result<(), NoMemory>
-    requires { (seed < 2 ^ 32) × (1 ≤ size) × (size ≤ 4000) × (edits ≤ 20) }
+    requires { (seed < 2 ^ 32) × (1 ≤ size) × (size ≤ MOST_TOKENS) × (edits ≤ 20) }
     ensures { OnOk result (out.new ≡ out.old ++ event_text (put_core seed size edits)) }
 {
     let text = core_text(alloc, seed, size, edits)?;
@@ -62,7 +63,7 @@ pub(crate) fn add_first(
     seed: u64,
     size: u64,
 ) -> Result<(), NoMemory>
-    requires { (seed < 2 ^ 32) × (1 ≤ size) × (size ≤ 4000) }
+    requires { (seed < 2 ^ 32) × (1 ≤ size) × (size ≤ MOST_TOKENS) }
     ensures { OnOk result (out.new ≡ out.old ++ flat_map event_text (first_events seed size)) }
 {
     add_put(out, "resolver.json", resolver_text().as_bytes())?;
@@ -93,7 +94,7 @@ pub(crate) fn add_first(
 
 // Adds an edit of `core.json`, and its commit.
 fn add_edit(alloc: Global, out: &mut Bytes, seed: u64, size: u64, edit: u64) -> Result<(), NoMemory>
-    requires { (seed < 2 ^ 32) × (1 ≤ size) × (size ≤ 4000) × (edit ≤ 20) }
+    requires { (seed < 2 ^ 32) × (1 ≤ size) × (size ≤ MOST_TOKENS) × (edit ≤ 20) }
     ensures { OnOk result (out.new ≡ out.old ++ flat_map event_text (edit_events seed size edit)) }
 {
     add_core(alloc, out, seed, size, edit)?;
@@ -107,7 +108,7 @@ pub(crate) fn add_edits(
     seed: u64,
     size: u64,
 ) -> Result<(), NoMemory>
-    requires { (seed < 2 ^ 32) × (1 ≤ size) × (size ≤ 4000) }
+    requires { (seed < 2 ^ 32) × (1 ≤ size) × (size ≤ MOST_TOKENS) }
     ensures { OnOk result (out.new ≡ out.old
         ++ flat_map event_text (flat_map (edit_events seed size) (range_with_len 1 20))) }
 {

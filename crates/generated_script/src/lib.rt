@@ -10,4 +10,4 @@ mod script;
 mod tests;
 
 pub use laws::generated_events;
-pub use script::gen_script;
+pub use script::{MOST_TOKENS, gen_script};

@@ -1,5 +1,5 @@
 //! Generated scripts: lines, lengths and sums that an independent program gives.
-use crate::gen_script;
+use crate::{MOST_TOKENS, gen_script};
 use edit_script::{Event, read_script};
 use std::alloc::Global;
 use std::process::Abort;
@@ -29,7 +29,7 @@ const LEAST: &[&str] = &[
 
 // The script of the numbers, with ample memory.
 fn script_of(alloc: Global, seed: u32, size: u32) -> Result<Bytes, Fail> {
-    if size < 1 || size > 4_000 {
+    if size < 1 || size > MOST_TOKENS {
         return Err("no such size".into());
     }
     match gen_script(alloc, seed, size) {

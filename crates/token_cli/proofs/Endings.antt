@@ -8,13 +8,14 @@ use Rattle.std.specs.Io.KnownBytes.{Appends}
 use Rattle.tk_io.specs.Writing.{AppendsFront, AppendsPart}
 use Rattle.edit_script.specs.Script.{EventData, commit}
 use Rattle.edit_script.specs.Files.{commit_count}
-use Rattle.edit_script.specs.Delta.{Held, Delta}
+use Rattle.tk_io.specs.FilesData.{FilesData}
+use Rattle.edit_script.specs.Delta.{Delta}
 use Rattle.edit_script.specs.Stream.{line_text}
 use Rattle.edit_script.specs.declared.line.Line.TheVariants.{Done}
 use Rattle.edit_script.proofs.Written.{front_of_part, part_after}
 use Rattle.token_cli.specs.Ending.{Writes}
 use Rattle.token_cli.specs.Headline.{AreCommits, WroteWhole, WrotePart, is_refused}
-use Rattle.token_cli.specs.Step.{State, Leads, Fails}
+use Rattle.token_cli.specs.inner.Step.{State, Leads, Fails}
 use Rattle.token_cli.specs.Told.{commit_text, commits_so_far, head_line, whole_text}
 use Rattle.token_cli.specs.declared.telling.Telling.{Telling}
 use Rattle.token_cli.specs.declared.stop.Stop.{Stop}
@@ -39,7 +40,7 @@ less_than_all old new all first last front e some =
     (done, rest ++ last, e ∙ (ap (λ l. l ++ last) split ∙ append_assoc done rest last), omega (arith, some, length-append rest last), appended)
 
 -- a front of what some commits gave is a part of the stream
-pub part_is : (told : Telling) (es : List EventData) (held : List Held) (deltas : List Delta) (old new : Option (List ℕ)) → AreCommits es held deltas → AppendsFront old new (commits_so_far told deltas) → WrotePart told es old new
+pub part_is : (told : Telling) (es : List EventData) (held : List FilesData) (deltas : List Delta) (old new : Option (List ℕ)) → AreCommits es held deltas → AppendsFront old new (commits_so_far told deltas) → WrotePart told es old new
 part_is told es held deltas old new commits front =
     elim (le_split (length held) (commit_count es) commits.count) [
       | inl h ↦ (held, deltas, commits, inl (h, front))
@@ -59,7 +60,7 @@ part_standing told es i s old now stands =
     part_is told es stands.held stands.deltas old now stands.commits (so_far, [], sym (append-nil so_far), stands.text)
 
 -- and so is what was written of the next commit
-pub part_commit : (told : Telling) (es : List EventData) (i : ℕ) (s : State) (old now new : Option (List ℕ)) (next : Held) (d : Delta) → (stands : Stands told es i s old now) → slice_get es i ≡ Some commit → Leads s next d → AppendsPart now new (commit_text told (s.commits + 1) d) → WrotePart told es old new
+pub part_commit : (told : Telling) (es : List EventData) (i : ℕ) (s : State) (old now new : Option (List ℕ)) (next : FilesData) (d : Delta) → (stands : Stands told es i s old now) → slice_get es i ≡ Some commit → Leads s next d → AppendsPart now new (commit_text told (s.commits + 1) d) → WrotePart told es old new
 part_commit told es i s old now new next d stands here leads part =
     let ds = stands.deltas in
     let text = one_more_text told ds d s.commits (sym (as_many map.empty stands.held ds stands.commits.changes ∙ stands.length)) in

@@ -6,7 +6,8 @@ use Rattle.std.proofs.lemmas.Option.{none-some}
 use Rattle.std.specs.FinMap as map
 use Rattle.std.specs.List.{slice_get}
 use Rattle.edit_script.specs.Script.{EventData}
-use Rattle.edit_script.specs.Delta.{Held, Delta, AreDeltas}
+use Rattle.tk_io.specs.FilesData.{FilesData}
+use Rattle.edit_script.specs.Delta.{Delta, AreDeltas}
 use Rattle.edit_script.specs.Stream.{line_text}
 use Rattle.edit_script.specs.declared.line.Line.TheVariants.{Done}
 use Rattle.build_plain.specs.Laws.{OneBuild}
@@ -22,7 +23,7 @@ taken_at (suc n) [] k x e = absurd (none-some x e)
 taken_at (suc n) (y ∷ ys) zero x e = e
 taken_at (suc n) (y ∷ ys) (suc k) x e = taken_at n ys k x e
 
-first_changes : (n : ℕ) (before : Held) (os : List Held) (ds : List Delta) → AreDeltas before os ds → AreDeltas before (take n os) (take n ds)
+first_changes : (n : ℕ) (before : FilesData) (os : List FilesData) (ds : List Delta) → AreDeltas before os ds → AreDeltas before (take n os) (take n ds)
 first_changes zero before os ds h = tt
 first_changes (suc n) before [] [] h = tt
 first_changes (suc n) before [] (d ∷ ds) h = absurd h
@@ -34,7 +35,7 @@ taken_length zero xs h = refl
 taken_length (suc n) [] h = absurd (omega (arith, h))
 taken_length (suc n) (x ∷ xs) h = ap suc (taken_length n xs (omega (arith, h)))
 
-first_commits : (n : ℕ) (es : List EventData) (held : List Held) (deltas : List Delta) → n ≤ length held → AreCommits es held deltas → AreCommits es (take n held) (take n deltas)
+first_commits : (n : ℕ) (es : List EventData) (held : List FilesData) (deltas : List Delta) → n ≤ length held → AreCommits es held deltas → AreCommits es (take n held) (take n deltas)
 first_commits n es held deltas h commits = record {
   count = omega (arith, taken_length n held h, h, commits.count);
   built = λ k out at. commits.built k out (taken_at n held k out at);
@@ -42,7 +43,7 @@ first_commits n es held deltas h commits = record {
 }
 
 -- the first commits of a script make less than all
-less_than_all : (told : Telling) (one : OneBuild) (es : List EventData) (held others : List Held) (deltas changes : List Delta) → AreCommits es held deltas → AreCommits es others changes → length held < length others → length (commits_so_far told deltas) < length (whole_text told changes)
+less_than_all : (told : Telling) (one : OneBuild) (es : List EventData) (held others : List FilesData) (deltas changes : List Delta) → AreCommits es held deltas → AreCommits es others changes → length held < length others → length (commits_so_far told deltas) < length (whole_text told changes)
 less_than_all told one es held others deltas changes left right below =
     let n = length held in
     let within : n ≤ length others = omega (arith, below) in

@@ -1,21 +1,23 @@
 -- What stands at a place of a list.
-use Rattle.std.proofs.Common.{◌≡◌, ◌<◌, ◌+◌, ℕ, zero, suc, List, [], ◌∷◌, length, Option, Some, None, refl, arith}
-use Rattle.std.proofs.lemmas.Option.{none-some}
+use Rattle.std.proofs.Common.{◌≡◌, ◌<◌, ◌≤◌, ◌+◌, ℕ, zero, suc, List, [], ◌∷◌, length, map, get_or, Some, ap, sym, subst, refl, arith}
+use Rattle.std.proofs.lemmas.List.{length-map}
 use Rattle.std.specs.List.{slice_get}
-use Rattle.std.specs.Option.{is_some, option_map}
-
-none_below : {A : Type 0} (xs : List A) (i : ℕ) → None ≡ slice_get xs i → i < length xs → ⊥
-none_below [] i e h = absurd (omega arith)
-none_below (x ∷ xs) zero e h = none-some x e
-none_below (x ∷ xs) (suc i) e h = none_below xs i e (omega arith)
-
--- below the length something stands
-pub at_none : {A : Type 0} (xs : List A) (i n : ℕ) → None ≡ slice_get xs i → i < n → n ≡ length xs → ⊥
-at_none xs i n e h size = none_below xs i e (omega (arith, h, size))
 
 pub plus_one : (i : ℕ) → suc i ≡ i + 1
 plus_one i = omega arith
 
-pub some_shown : {A B : Type 0} (f : A → B) (o : Option A) → is_some (option_map f o) ≡ is_some o
-some_shown f None = refl
-some_shown f (Some x) = refl
+at_shown : {A B : Type 0} (xs : List A) (v : A → B) (i : ℕ) (d : A) → i < length xs → slice_get (map v xs) i ≡ Some (v (get_or xs i d))
+at_shown [] v i d h = absurd (omega (arith, h))
+at_shown (y ∷ xs) v zero d h = refl
+at_shown (y ∷ xs) v (suc i) d h = at_shown xs v i d (omega (arith, h))
+
+-- what stands at a place of the listed items
+pub read_listed : {A B : Type 0} (xs : List A) (v : A → B) (ys : List B) (i : ℕ) (d : A) → map v xs ≡ ys → i < length xs → slice_get ys i ≡ Some (v (get_or xs i d))
+read_listed xs v ys i d e h = subst (λ l. slice_get l i ≡ Some (v (get_or xs i d))) e (at_shown xs v i d h)
+
+pub at_listed : {A B : Type 0} (xs : List A) (v : A → B) (ys : List B) (i : ℕ) (x : A) → map v xs ≡ ys → i < length xs → x ≡ get_or xs i x → slice_get ys i ≡ Some (v x)
+at_listed xs v ys i x e h is = subst (λ z. slice_get ys i ≡ Some (v z)) (sym is) (read_listed xs v ys i x e h)
+
+-- behind the listed items there are no more
+pub all_listed : {A B : Type 0} (xs : List A) (v : A → B) (ys : List B) (i : ℕ) → map v xs ≡ ys → length xs ≤ i → length ys ≤ i
+all_listed xs v ys i e h = omega (arith, h, length-map xs v, ap length e)

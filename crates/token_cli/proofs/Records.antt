@@ -3,10 +3,10 @@ use Rattle.std.proofs.Common.{◌≡◌, ◌∙◌, ◌+◌, ℕ, zero, suc, Lis
 use Rattle.std.proofs.lemmas.Option.{none-some, same_Some}
 use Rattle.std.specs.List.{flat_map, slice_get}
 use Rattle.edit_script.specs.Delta.{ChangeData}
-use Rattle.edit_script.specs.Shown.{Lined, with_line}
+use Rattle.edit_script.specs.View.{Lined, with_line}
 use Rattle.edit_script.specs.Stream.{record_of}
 use Rattle.token_cli.proofs.Places.{plus_one}
-use Rattle.token_cli.specs.Step.{records_of}
+use Rattle.token_cli.specs.inner.Step.{records_of}
 
 pub split_at : (cs : List Lined) (i : ℕ) (c : Lined) → slice_get cs i ≡ Some c → records_of cs ≡ records_of (take i cs) ++ (record_of c.0 ++ records_of (drop (suc i) cs))
 split_at [] i c e = absurd (none-some c e)

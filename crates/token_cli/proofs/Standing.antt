@@ -8,19 +8,19 @@ use Rattle.std.specs.Io.KnownBytes.{Appends}
 use Rattle.edit_script.specs.Script.{EventData, put, del, commit}
 use Rattle.tk_io.specs.FilesData.{FilesData}
 use Rattle.edit_script.specs.Files.{AreFilesAfter, AreFilesAt, commit_count, up_to}
-use Rattle.edit_script.specs.Delta.{Held, Delta, IsDelta, AreDeltas}
+use Rattle.edit_script.specs.Delta.{Delta, IsDelta, AreDeltas}
 use Rattle.edit_script.specs.Stream.{line_text}
 use Rattle.edit_script.proofs.Deltas.{one_more_delta}
 use Rattle.edit_script.proofs.Standing.{empty_files, put_files, del_files, commit_files, up_to_here, count_parts}
 use Rattle.token_cli.specs.Headline.{AreCommits, BuildsAt, last_held}
-use Rattle.token_cli.specs.Step.{State, Follows, Leads}
+use Rattle.token_cli.specs.inner.Step.{State, Follows, Leads}
 use Rattle.token_cli.specs.Told.{all_commits, commit_text, commits_so_far, head_line}
 use Rattle.token_cli.specs.declared.telling.Telling.{Telling}
 use Rattle.token_cli.proofs.Lists.{split_here, take_more, at_pushed, last_pushed}
 use Rattle.token_cli.proofs.Told.{no_text, more_text}
 
 pub record Stands (told : Telling) (es : List EventData) (i : ℕ) (s : State) (old now : Option (List ℕ)) : Type 0 where
-  pub held : List Held
+  pub held : List FilesData
   pub deltas : List Delta
   pub files : AreFilesAfter (take i es) s.files
   pub commits : AreCommits es held deltas
@@ -29,13 +29,13 @@ pub record Stands (told : Telling) (es : List EventData) (i : ℕ) (s : State) (
   pub last : s.held ≡ last_held held
   pub text : Appends old now (commits_so_far told deltas)
 
-pub as_many : (before : Held) (held : List Held) (deltas : List Delta) → AreDeltas before held deltas → length deltas ≡ length held
+pub as_many : (before : FilesData) (held : List FilesData) (deltas : List Delta) → AreDeltas before held deltas → length deltas ≡ length held
 as_many before [] [] h = refl
 as_many before [] (d ∷ ds) h = absurd h
 as_many before (o ∷ os) [] h = absurd h
 as_many before (o ∷ os) (d ∷ ds) h = ap suc (as_many o os ds h.1)
 
-no_held : (es : List EventData) (k : ℕ) (out : Held) → slice_get [] k ≡ Some out → BuildsAt es (suc k) out
+no_held : (es : List EventData) (k : ℕ) (out : FilesData) → slice_get [] k ≡ Some out → BuildsAt es (suc k) out
 no_held es k out e = absurd (none-some out e)
 
 pub no_commit : (es : List EventData) → AreCommits es [] []
@@ -58,10 +58,10 @@ one_more_text told ds d k e =
     ∙ sym (append_assoc (line_text (head_line told)) (all_commits told 1 ds) (commit_text told (k + 1) d))
 
 -- the k-th outputs of the files at the k-th commit, where one more commit was taken
-built_more : (es : List EventData) (held : List Held) (next out : Held) (k : ℕ) → BuildsAt es (suc (length held)) next → ((j : ℕ) → (o : Held) → slice_get held j ≡ Some o → BuildsAt es (suc j) o) → (slice_get held k ≡ Some out) ⊎ ((k ≡ length held) × (next ≡ out)) → BuildsAt es (suc k) out
+built_more : (es : List EventData) (held : List FilesData) (next out : FilesData) (k : ℕ) → BuildsAt es (suc (length held)) next → ((j : ℕ) → (o : FilesData) → slice_get held j ≡ Some o → BuildsAt es (suc j) o) → (slice_get held k ≡ Some out) ⊎ ((k ≡ length held) × (next ≡ out)) → BuildsAt es (suc k) out
 built_more es held next out k new before (inl e) = before k out e
 built_more es held next out k new before (inr (n, e)) =
-    let P : Held → Type 0 = λ o. BuildsAt es (suc k) o in
+    let P : FilesData → Type 0 = λ o. BuildsAt es (suc k) o in
     let Q : ℕ → Type 0 = λ j. BuildsAt es (suc j) next in
     subst P e (subst Q (sym n) new)
 
@@ -81,12 +81,12 @@ count_below es i e =
     let before = take i es in
     omega (arith, ap commit_count (split_here es i commit e), count_parts before (commit ∷ drop (suc i) es))
 
-pub commits_more : (told : Telling) (es : List EventData) (i : ℕ) (s : State) (old now : Option (List ℕ)) (next : Held) (d : Delta) → (stands : Stands told es i s old now) → slice_get es i ≡ Some commit → Leads s next d → AreCommits es (stands.held ++ (next ∷ [])) (stands.deltas ++ (d ∷ []))
+pub commits_more : (told : Telling) (es : List EventData) (i : ℕ) (s : State) (old now : Option (List ℕ)) (next : FilesData) (d : Delta) → (stands : Stands told es i s old now) → slice_get es i ≡ Some commit → Leads s next d → AreCommits es (stands.held ++ (next ∷ [])) (stands.deltas ++ (d ∷ []))
 commits_more told es i s old now next d stands e leads =
     let held = stands.held in
     let many : length held ≡ commit_count (take i es) = stands.length ∙ stands.count in
     let here : BuildsAt es (suc (length held)) next = (s.files, files_here es i (length held) s.files e stands.files many, leads.0) in
-    let P : Held → Type 0 = λ o. IsDelta o next d in
+    let P : FilesData → Type 0 = λ o. IsDelta o next d in
     record {
       count = omega (arith, many, count_below es i e, length-append held (next ∷ []));
       built = λ k out at. built_more es held next out k here stands.commits.built (at_pushed held next out k at);

@@ -2,12 +2,12 @@
 use Rattle.std.proofs.Common.{◌≡◌, ◌+◌, ℕ, Bool, List, Option, Result, Ok, Err, sym, subst, refl}
 use Rattle.std.specs.Prelude.{IfErr, IsErrAnd}
 use Rattle.edit_script.specs.Script.{EventData, commit}
-use Rattle.edit_script.specs.Delta.{Held}
+use Rattle.tk_io.specs.FilesData.{FilesData}
 use Rattle.build_plain.specs.Out.{Builds}
 use Rattle.token_cli.specs.declared.stop.Stop.{Stop}
 use Rattle.token_cli.specs.declared.stop.Stop.TheVariants as stop
 use Rattle.token_cli.specs.Ending.{Writes}
-use Rattle.token_cli.specs.Step.{State, Cuts, Fails}
+use Rattle.token_cli.specs.inner.Step.{State, Cuts, Fails}
 use Rattle.token_cli.specs.declared.telling.Telling.{Telling}
 
 -- an answer with this cause
@@ -16,7 +16,7 @@ if_err_is (Ok y) x P h p = tt
 if_err_is (Err e) x P h p = subst P (sym h) p
 
 -- a commit that isn't written whole fails by the same cause
-pub cut_fails : (told : Telling) (why : Stop) (s : State) (next : Held) (old new : Option (List ℕ)) (before now : ℕ) → Builds s.files next → Cuts told why s.held next (s.commits + 1) old new before now → Fails told why commit s old new before now
+pub cut_fails : (told : Telling) (why : Stop) (s : State) (next : FilesData) (old new : Option (List ℕ)) (before now : ℕ) → Builds s.files next → Cuts told why s.held next (s.commits + 1) old new before now → Fails told why commit s old new before now
 cut_fails told stop.NoMemory s next old new before now built cut = cut
 cut_fails told stop.WriteFault s next old new before now built cut = let (rose, (delta, is_delta, front)) = cut in (refl, rose, (next, delta, (built, is_delta), front))
 cut_fails told stop.Usage s next old new before now built cut = absurd cut

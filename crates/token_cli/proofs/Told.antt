@@ -3,13 +3,13 @@ use Rattle.std.proofs.Common.{◌≡◌, ◌∙◌, ◌<◌, ◌≤◌, ◌+◌,
 use Rattle.std.specs.FinMap as map
 use Rattle.std.specs.List.{flat_map}
 use Rattle.edit_script.specs.Delta.{ChangeData, Delta}
-use Rattle.edit_script.specs.Shown.{Lined, with_line}
+use Rattle.edit_script.specs.View.{Lined, with_line}
 use Rattle.edit_script.specs.Stats.{bare, short_line, short_lines}
 use Rattle.edit_script.specs.Stream.{commits_text, line_text, record_of}
 use Rattle.edit_script.specs.declared.line.Line.TheVariants.{Commit, Done}
 use Rattle.edit_script.proofs.Deltas.{no_commits, more_commits, stream_is}
 use Rattle.edit_script.proofs.Stats.{no_lines, more_lines, stats_are}
-use Rattle.token_cli.specs.Step.{changes_text, records_of}
+use Rattle.token_cli.specs.inner.Step.{changes_text, records_of}
 use Rattle.token_cli.specs.Told.{all_commits, commit_text, commits_so_far, whole_text}
 use Rattle.token_cli.specs.declared.telling.Telling.{Telling}
 use Rattle.token_cli.specs.declared.telling.Telling.TheVariants.{Records, Counts}

@@ -1,6 +1,6 @@
 -- What is written for a script: commit after commit, the output files that a build from nothing of the files then present
 -- would change, or how many they are.
-use Rattle.std.specs.Prelude.{◌≡◌, ◌<◌, ◌≤◌, ◌⊎◌, ℕ, suc, Bool, true, false, ◌||◌, List, length, codes, map as map_list, Option, Some, IfSome}
+use Rattle.std.specs.Prelude.{◌≡◌, ◌<◌, ◌≤◌, ◌+◌, ◌⊎◌, ℕ, suc, Bool, true, false, ◌||◌, List, length, codes, map as map_list, Option, Some, IfSome}
 use Rattle.std.specs.FinMap as map
 use Rattle.std.specs.List.{ends_with, list_any, slice_get}
 use Rattle.std.specs.Bool.{nat_eq}
@@ -8,11 +8,13 @@ use Rattle.std.specs.Str.{bytes_eq}
 use Rattle.std.specs.Io.KnownBytes.{Appends, IsAtEnd}
 use Rattle.std.specs.String.{string_bytes}
 use Rattle.std.specs.declared.string.String.{String}
+use Rattle.tk_io.specs.Causes.{Rose}
+use Rattle.tk_io.specs.Reading.{TakesExactly}
 use Rattle.tk_io.specs.Writing.{AppendsFront, AppendsPart}
 use Rattle.tk_io.specs.FilesData.{FilesData}
 use Rattle.edit_script.specs.Script.{EventData, IsScript, IsScriptStop}
 use Rattle.edit_script.specs.Files.{AreFilesAt, commit_count, whole}
-use Rattle.edit_script.specs.Delta.{Held, Delta, AreDeltas, held_at}
+use Rattle.edit_script.specs.Delta.{Delta, AreDeltas, held_at}
 use Rattle.build_plain.specs.Out.{Builds}
 use Rattle.command_words.specs.Words.{command_of}
 use Rattle.command_words.specs.declared.command.Command.{Command}
@@ -45,18 +47,18 @@ events_for Stats es = es
 events_for (Gen seed size) es = es
 
 -- what a build from nothing makes of the files at the k-th commit, counted from 1
-abbrev pub BuildsAt : List EventData → ℕ → Held → Type 0
+abbrev pub BuildsAt : List EventData → ℕ → FilesData → Type 0
 BuildsAt es k out = (files : FilesData) × AreFilesAt es k files × Builds files out
 
 -- the outputs held at the first commits, each built from nothing, and the changes from one to the next; before the first
 -- none are held
-pub record AreCommits (es : List EventData) (held : List Held) (deltas : List Delta) : Type 0 where
+pub record AreCommits (es : List EventData) (held : List FilesData) (deltas : List Delta) : Type 0 where
   pub count : length held ≤ commit_count es
-  pub built : (k : ℕ) → (out : Held) → slice_get held k ≡ Some out → BuildsAt es (suc k) out
+  pub built : (k : ℕ) → (out : FilesData) → slice_get held k ≡ Some out → BuildsAt es (suc k) out
   pub changes : AreDeltas map.empty held deltas
 
 -- what is held after the last of these commits
-abbrev pub last_held : List Held → Held
+abbrev pub last_held : List FilesData → FilesData
 last_held held = held_at map.empty held (length held)
 
 -- the path is `REFUSED`, or ends in `/REFUSED`
@@ -64,19 +66,19 @@ abbrev pub is_refusal : List ℕ → Bool
 is_refusal path = bytes_eq path (codes "REFUSED") || ends_with nat_eq path (codes "/REFUSED")
 
 -- a refusal is held: of the files' configuration or plan, or of a permutation
-abbrev pub is_refused : Held → Bool
+abbrev pub is_refused : FilesData → Bool
 is_refused held = list_any (λ output. is_refusal output.0) (map.entries held)
 
 -- all was written; `refused` says whether a refusal is held at the end
 abbrev pub WroteWhole : Telling → List EventData → Bool → Option (List ℕ) → Option (List ℕ) → Type 0
 WroteWhole told es refused old new =
-    (held : List Held) × (deltas : List Delta) × AreCommits es held deltas × (length held ≡ commit_count es)
+    (held : List FilesData) × (deltas : List Delta) × AreCommits es held deltas × (length held ≡ commit_count es)
     × (is_refused (last_held held) ≡ refused) × Appends old new (whole_text told deltas)
 
 -- a part was written, and not all: a front of what some of the commits gave, or less than the whole of what all gave
 abbrev pub WrotePart : Telling → List EventData → Option (List ℕ) → Option (List ℕ) → Type 0
 WrotePart told es old new =
-    (held : List Held) × (deltas : List Delta) × AreCommits es held deltas
+    (held : List FilesData) × (deltas : List Delta) × AreCommits es held deltas
     × (((length held < commit_count es) × AppendsFront old new (commits_so_far told deltas))
     ⊎ ((length held ≡ commit_count es) × AppendsPart old new (whole_text told deltas)))
 
@@ -134,3 +136,25 @@ WroteLess command left rest old new =
 -- what was read to its end is no script, and is refused at this byte
 abbrev pub IsNoScript : Option (List ℕ) → Option (List ℕ) → ℕ → Type 0
 IsNoScript left rest at = IsAtEnd rest × OfSource left (λ script. IsScriptStop script at)
+
+-- How a run ends before all is written.
+
+-- what was read is no script, and nothing was written
+abbrev pub RefusesScript : Option (List ℕ) → Option (List ℕ) → Option (List ℕ) → Option (List ℕ) → ℕ → Type 0
+RefusesScript left rest old new at = (new ≡ old) × IsNoScript left rest at
+
+-- the count of the source's faults rose, and nothing was written
+abbrev pub FailsToRead : ℕ → ℕ → Option (List ℕ) → Option (List ℕ) → Type 0
+FailsToRead before now old new = Rose before now × (new ≡ old)
+
+-- the count of the sink's faults rose, and a part was written
+abbrev pub FailsToWrite : Option Command → Option (List ℕ) → Option (List ℕ) → ℕ → ℕ → Option (List ℕ) → Option (List ℕ) → Type 0
+FailsToWrite command left rest before now old new = Rose before now × WroteLess command left rest old new
+
+-- memory ran out: nothing was written, or a part
+abbrev pub RunsOut : Option Command → Option (List ℕ) → Option (List ℕ) → Option (List ℕ) → Option (List ℕ) → Type 0
+RunsOut command left rest old new = (new ≡ old) ⊎ WroteLess command left rest old new
+
+-- one byte more than the limit was taken, and nothing was written
+abbrev pub TakesTooMuch : Option (List ℕ) → Option (List ℕ) → Option (List ℕ) → Option (List ℕ) → Type 0
+TakesTooMuch left rest old new = TakesExactly (most_bytes + 1) left rest × (new ≡ old)

@@ -18,11 +18,9 @@ fn is_refusal(path: &str) -> bool
 pub fn is_refused(held: &Outputs) -> bool
     ensures { result ≡ is_refused held.now }
 {
-    for i in 0..held.len() {
-        if let Some((path, _)) = held.at(i) {
-            if is_refusal(path) {
-                return true;
-            }
+    for (path, _) in held.entries() {
+        if is_refusal(path.as_str()) {
+            return true;
         }
     }
     false

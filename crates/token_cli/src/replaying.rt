@@ -1,7 +1,7 @@
 // Writing what a command tells of a script's events.
 ghost use Rattle.std.specs.Prelude.{◌≡◌, ◌≤◌, [], ◌∷◌, ◌++◌, IfOk, OnOk};
 ghost use Rattle.edit_script.specs.Files.{whole, without_commits};
-ghost use Rattle.edit_script.specs.Shown.{event_of};
+ghost use Rattle.edit_script.specs.View.{event_view};
 ghost use Rattle.token_cli.specs.Ending.{Writes};
 ghost use Rattle.token_cli.specs.Headline.{events_for, telling_of};
 ghost use Rattle.token_cli.specs.Told.{head_line};
@@ -17,7 +17,7 @@ use tk_io::{NoMemory, Sink};
 
 // Adds the event unless it is a commit.
 fn add_edit<'s>(edits: &mut Events<'s>, event: &Event<'s>) -> Result<(), NoMemory>
-    ensures { OnOk result (edits.new ≡ edits.old ++ without_commits (event_of event.now ∷ [])) }
+    ensures { OnOk result (edits.new ≡ edits.old ++ without_commits (event_view event.now ∷ [])) }
 {
     match event {
         Event::Commit => Ok(()),
@@ -30,10 +30,8 @@ fn whole<'s>(alloc: Global, events: &Events<'s>) -> Result<Events<'s>, NoMemory>
     ensures { IfOk result (λ es. es ≡ whole events.now) }
 {
     let mut all = Events::new(alloc);
-    for i in 0..events.len() {
-        if let Some(event) = events.at(i) {
-            add_edit(&mut all, event)?;
-        }
+    for event in events.as_slice() {
+        add_edit(&mut all, event)?;
     }
     all.push(Event::Commit)?;
     Ok(all)
@@ -62,10 +60,8 @@ fn replay<K: Sink>(
 {
     write_line(out, &head_line(telling))?;
     let mut workspace = Workspace::new(alloc);
-    for i in 0..events.len() {
-        if let Some(event) = events.at(i) {
-            workspace.take(alloc, telling, event, out)?;
-        }
+    for event in events.as_slice() {
+        workspace.take(alloc, telling, event, out)?;
     }
     write_line(out, &Line::Done(workspace.commits))?;
     Ok(is_refused(&workspace.held))

@@ -1,12 +1,13 @@
 // Running the words of the command line.
-ghost use Rattle.std.specs.Prelude.{Some, None, Err, List, ◌⊎◌, ◌≡◌, ◌≢◌, ◌≤◌, ◌<◌, ℕ, Bool, true, Ok, length, ◌+◌};
+ghost use Rattle.std.specs.Prelude.{Some, None, Err, List, ◌⊎◌, ◌≡◌, ◌≢◌, ◌≤◌, ◌<◌, ℕ, Bool, true, Ok, length};
 ghost use Rattle.tk_io.specs.Causes.{Rose};
-ghost use Rattle.tk_io.specs.Reading.{TakesAtMost, TakesExactly};
+ghost use Rattle.tk_io.specs.Reading.{TakesAtMost};
 ghost use Rattle.edit_script.specs.Script.{EventData, IsScript};
 ghost use Rattle.command_words.specs.declared.command.Command.{Command as CommandData};
 ghost use Rattle.generated_script.specs.Script.{script_of};
+ghost use Rattle.generated_script.specs.declared.script.TheConstants.{MOST_TOKENS};
 ghost use Rattle.token_cli.specs.Ending.{Scripted, whole_status};
-ghost use Rattle.token_cli.specs.Headline.{WroteAll, WroteLess, IsNoScript, IsScriptOf, WroteWhole, asked_by, events_for, most_bytes, reads_source, telling_of};
+ghost use Rattle.token_cli.specs.Headline.{FailsToRead, FailsToWrite, IsScriptOf, RefusesScript, RunsOut, TakesTooMuch, WroteAll, WroteWhole, asked_by, events_for, most_bytes, reads_source, telling_of};
 ghost use Rattle.token_cli.specs.Report.{error_text, Reports};
 
 use crate::reading::read_events;
@@ -49,18 +50,17 @@ fn tell_source<S: Source, K: Sink>(
         (S.left src.old) (S.left src.new) refused (K.written out.old) (K.written out.new) }
     ensures words { result ≡ Err Stop.Usage → ⊥ }
     ensures bad_script { (at : ℕ) → result ≡ Err (Stop.BadScript at)
-        → (K.written out.new ≡ K.written out.old)
-        × IsNoScript (S.left src.old) (S.left src.new) at }
-    ensures read_fault { result ≡ Err Stop.ReadFault → Rose (S.faults src.old) (S.faults src.new)
-        × (K.written out.new ≡ K.written out.old) }
-    ensures write_fault { result ≡ Err Stop.WriteFault → Rose (K.faults out.old) (K.faults out.new)
-        × WroteLess (Some command) (S.left src.old) (S.left src.new)
+        → RefusesScript (S.left src.old) (S.left src.new)
+        (K.written out.old) (K.written out.new) at }
+    ensures read_fault { result ≡ Err Stop.ReadFault → FailsToRead
+        (S.faults src.old) (S.faults src.new) (K.written out.old) (K.written out.new) }
+    ensures write_fault { result ≡ Err Stop.WriteFault → FailsToWrite (Some command)
+        (S.left src.old) (S.left src.new) (K.faults out.old) (K.faults out.new)
         (K.written out.old) (K.written out.new) }
-    ensures memory { result ≡ Err Stop.NoMemory → (K.written out.new ≡ K.written out.old)
-        ⊎ WroteLess (Some command) (S.left src.old) (S.left src.new)
-        (K.written out.old) (K.written out.new) }
-    ensures too_long { result ≡ Err Stop.TooLong → TakesExactly (most_bytes + 1)
-        (S.left src.old) (S.left src.new) × (K.written out.new ≡ K.written out.old) }
+    ensures memory { result ≡ Err Stop.NoMemory → RunsOut (Some command)
+        (S.left src.old) (S.left src.new) (K.written out.old) (K.written out.new) }
+    ensures too_long { result ≡ Err Stop.TooLong → TakesTooMuch
+        (S.left src.old) (S.left src.new) (K.written out.old) (K.written out.new) }
     ensures taken { (result ≡ Err Stop.TooLong → ⊥)
         → TakesAtMost most_bytes (S.left src.old) (S.left src.new) }
 {
@@ -70,7 +70,7 @@ fn tell_source<S: Source, K: Sink>(
 
 // Writes the statistics of the script that is made of the numbers of `gen`.
 fn tell_generated<K: Sink>(alloc: Global, seed: u32, size: u32, out: &mut K) -> Result<bool, Stop>
-    requires { (1 ≤ size) × (size ≤ 4000) }
+    requires { (1 ≤ size) × (size ≤ MOST_TOKENS) }
     ensures scripted { Scripted result (Command.Gen seed size) (script_of seed size)
         (K.written out.old) (K.written out.new) (K.faults out.old) (K.faults out.new) }
     ensures reads { (at : ℕ) → result ≡ Err (Stop.BadScript at) → ⊥ }
@@ -97,18 +97,17 @@ fn main_job<S: Source, K: Sink>(
         → (src.new ≡ src.old) × ((at : ℕ) → result ≡ Err (Stop.BadScript at) → ⊥)
         × (result ≢ Err Stop.ReadFault) × (result ≢ Err Stop.TooLong) }
     ensures bad_script { (at : ℕ) → result ≡ Err (Stop.BadScript at)
-        → (K.written out.new ≡ K.written out.old)
-        × IsNoScript (S.left src.old) (S.left src.new) at }
-    ensures read_fault { result ≡ Err Stop.ReadFault → Rose (S.faults src.old) (S.faults src.new)
-        × (K.written out.new ≡ K.written out.old) }
-    ensures write_fault { result ≡ Err Stop.WriteFault → Rose (K.faults out.old) (K.faults out.new)
-        × WroteLess (asked_by words.now) (S.left src.old) (S.left src.new)
+        → RefusesScript (S.left src.old) (S.left src.new)
+        (K.written out.old) (K.written out.new) at }
+    ensures read_fault { result ≡ Err Stop.ReadFault → FailsToRead
+        (S.faults src.old) (S.faults src.new) (K.written out.old) (K.written out.new) }
+    ensures write_fault { result ≡ Err Stop.WriteFault → FailsToWrite (asked_by words.now)
+        (S.left src.old) (S.left src.new) (K.faults out.old) (K.faults out.new)
         (K.written out.old) (K.written out.new) }
-    ensures memory { result ≡ Err Stop.NoMemory → (K.written out.new ≡ K.written out.old)
-        ⊎ WroteLess (asked_by words.now) (S.left src.old) (S.left src.new)
-        (K.written out.old) (K.written out.new) }
-    ensures too_long { result ≡ Err Stop.TooLong → TakesExactly (most_bytes + 1)
-        (S.left src.old) (S.left src.new) × (K.written out.new ≡ K.written out.old) }
+    ensures memory { result ≡ Err Stop.NoMemory → RunsOut (asked_by words.now)
+        (S.left src.old) (S.left src.new) (K.written out.old) (K.written out.new) }
+    ensures too_long { result ≡ Err Stop.TooLong → TakesTooMuch
+        (S.left src.old) (S.left src.new) (K.written out.old) (K.written out.new) }
     ensures taken { (result ≡ Err Stop.TooLong → ⊥)
         → TakesAtMost most_bytes (S.left src.old) (S.left src.new) }
 {
@@ -145,7 +144,8 @@ pub fn run<S: Source, K: Sink, E: Sink>(
         (before : List ℕ) (refused : Bool)
         → asked_by words.now ≡ Some c → IsScriptOf c (S.left src.old) script → IsScript script es
         → K.written out.old ≡ Some before
-        → WroteWhole (telling_of c) (events_for c es) refused (K.written out.old) (K.written out.new)
+        → WroteWhole (telling_of c) (events_for c es) refused
+        (K.written out.old) (K.written out.new)
         → result ≡ whole_status refused }
     // The usage is told only of words that are no command, ..
     ensures usage { result ≡ Status.Usage → asked_by words.now ≡ None }
@@ -158,23 +158,23 @@ pub fn run<S: Source, K: Sink, E: Sink>(
         → (src.new ≡ src.old) × (result ≢ Status.BadScript)
         × (result ≢ Status.ReadFault) × (result ≢ Status.TooLong) }
     // What was read to the end is no script, and the place where it is refused is said.
-    ensures bad_script { result ≡ Status.BadScript → (K.written out.new ≡ K.written out.old)
-        × ((at : ℕ) × IsNoScript (S.left src.old) (S.left src.new) at
+    ensures bad_script { result ≡ Status.BadScript → (at : ℕ)
+        × RefusesScript (S.left src.old) (S.left src.new)
+        (K.written out.old) (K.written out.new) at
         × Reports (E.written err.old) (E.written err.new) (E.faults err.old) (E.faults err.new)
-        (error_text result at)) }
+        (error_text result at) }
     // A fault is answered only where its count rose.
-    ensures read_fault { result ≡ Status.ReadFault → Rose (S.faults src.old) (S.faults src.new)
-        × (K.written out.new ≡ K.written out.old) }
-    ensures write_fault { result ≡ Status.WriteFault → Rose (K.faults out.old) (K.faults out.new)
-        × WroteLess (asked_by words.now) (S.left src.old) (S.left src.new)
+    ensures read_fault { result ≡ Status.ReadFault → FailsToRead
+        (S.faults src.old) (S.faults src.new) (K.written out.old) (K.written out.new) }
+    ensures write_fault { result ≡ Status.WriteFault → FailsToWrite (asked_by words.now)
+        (S.left src.old) (S.left src.new) (K.faults out.old) (K.faults out.new)
         (K.written out.old) (K.written out.new) }
     // Where memory ran out, nothing was written, or a part.
-    ensures memory { result ≡ Status.NoMemory → (K.written out.new ≡ K.written out.old)
-        ⊎ WroteLess (asked_by words.now) (S.left src.old) (S.left src.new)
-        (K.written out.old) (K.written out.new) }
+    ensures memory { result ≡ Status.NoMemory → RunsOut (asked_by words.now)
+        (S.left src.old) (S.left src.new) (K.written out.old) (K.written out.new) }
     // A script is too long exactly where one byte more than the limit was taken.
-    ensures too_long { result ≡ Status.TooLong → TakesExactly (most_bytes + 1)
-        (S.left src.old) (S.left src.new) × (K.written out.new ≡ K.written out.old) }
+    ensures too_long { result ≡ Status.TooLong → TakesTooMuch
+        (S.left src.old) (S.left src.new) (K.written out.old) (K.written out.new) }
     ensures taken { (result ≡ Status.TooLong → ⊥)
         → TakesAtMost most_bytes (S.left src.old) (S.left src.new) }
     // Where the script has a reading and nothing fails, all is written, or memory ran out; ..

@@ -7,10 +7,10 @@ ghost use Rattle.tk_io.specs.Causes.{HasCause};
 ghost use Rattle.tk_io.specs.Writing.{AppendsPart};
 ghost use Rattle.edit_script.specs.Delta.{Delta, IsDelta};
 ghost use Rattle.edit_script.specs.Script.{commit as commit_event};
-ghost use Rattle.edit_script.specs.Shown.{Lined, event_of, with_line};
-ghost use Rattle.token_cli.specs.Step.{Follows, Fails, Cuts, changes_text, records_of};
+ghost use Rattle.edit_script.specs.View.{Lined, event_view, with_line};
+ghost use Rattle.token_cli.specs.inner.Step.{Follows, Fails, Cuts, changes_text, records_of};
 ghost use Rattle.token_cli.specs.Told.{commit_text};
-ghost use Rattle.token_cli.specs.Views.{state_of};
+ghost use Rattle.token_cli.specs.inner.View.{workspace_view};
 
 use crate::building::build_files;
 use crate::stop::Stop;
@@ -41,10 +41,8 @@ fn write_changes<K: Sink>(out: &mut K, changes: &Changes<'_>) -> Result<(), Fail
         (K.written out.new) (records_of changes.now)) }
     ensures cause { HasCause (K.faults out.old) (K.faults out.new) result }
 {
-    for i in 0..changes.len() {
-        if let Some(change) = changes.at(i) {
-            write_change(out, change)?;
-        }
+    for change in changes.as_slice() {
+        write_change(out, change)?;
     }
     Ok(())
 }
@@ -107,7 +105,7 @@ fn write_commit<K: Sink>(
 impl<'s> Workspace<'s> {
     /// No file, no output and no commit.
     pub fn new(alloc: Global) -> Workspace<'s>
-        ensures { state_of result ≡ record { files = map.empty; held = map.empty; commits = 0 } }
+        ensures { workspace_view result ≡ record { files = map.empty; held = map.empty; commits = 0 } }
     {
         Workspace {
             files: Files::new(alloc),
@@ -119,9 +117,9 @@ impl<'s> Workspace<'s> {
     // Builds the files, and tells the commit.
     fn commit<K: Sink>(&mut self, alloc: Global, telling: Telling, out: &mut K) -> Result<(), Stop>
         requires { self.now.commits < 2 ^ 64 - 1 }
-        ensures ok { OnOk result (Follows telling commit_event (state_of self.old) (state_of self.new)
+        ensures ok { OnOk result (Follows telling commit_event (workspace_view self.old) (workspace_view self.new)
             (K.written out.old) (K.written out.new)) }
-        ensures err { IfErr result (λ stop. Fails telling stop commit_event (state_of self.old)
+        ensures err { IfErr result (λ stop. Fails telling stop commit_event (workspace_view self.old)
             (K.written out.old) (K.written out.new) (K.faults out.old) (K.faults out.new)) }
         ensures later { K.faults out.old ≤ K.faults out.new }
     {
@@ -141,9 +139,9 @@ impl<'s> Workspace<'s> {
         out: &mut K,
     ) -> Result<(), Stop>
         requires { self.now.commits < 2 ^ 64 - 1 }
-        ensures ok { OnOk result (Follows telling (event_of event.now) (state_of self.old)
-            (state_of self.new) (K.written out.old) (K.written out.new)) }
-        ensures err { IfErr result (λ stop. Fails telling stop (event_of event.now) (state_of self.old)
+        ensures ok { OnOk result (Follows telling (event_view event.now) (workspace_view self.old)
+            (workspace_view self.new) (K.written out.old) (K.written out.new)) }
+        ensures err { IfErr result (λ stop. Fails telling stop (event_view event.now) (workspace_view self.old)
             (K.written out.old) (K.written out.new) (K.faults out.old) (K.faults out.new)) }
         ensures later { K.faults out.old ≤ K.faults out.new }
     {

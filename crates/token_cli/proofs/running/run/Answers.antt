@@ -21,11 +21,10 @@ pub returns-clause-bad_script : goal.returns-clause-bad_script
 returns-clause-bad_script g c e =
     let r = c.main_job-ended.result in
     let (at, is) = is_bad r (sym c.status_of.ensures ∙ e) in
-    let (same, (end, place)) = c.main_job-ended.ensures.bad_script at is in
     let P : Status → ℕ → Type 0 = λ s n. Reports (g.E.Sink.written c.args.err.now) (g.E.Sink.written c.report.new.err) (g.E.Sink.faults c.args.err.now) (g.E.Sink.faults c.report.new.err) (error_text s n) in
     let Q : Status → Type 0 = λ s. P s at in
     let R : ℕ → Type 0 = λ n. P (status_of r) n in
-    (same, (at, (end, place), subst Q (sym c.status_of.ensures) (subst R (ap place_of is) c.report.ensures)))
+    (at, c.main_job-ended.ensures.bad_script at is, subst Q (sym c.status_of.ensures) (subst R (ap place_of is) c.report.ensures))
 
 pub returns-clause-generated : goal.returns-clause-generated
 returns-clause-generated g c seed size which =

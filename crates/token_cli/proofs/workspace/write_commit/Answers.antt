@@ -3,9 +3,9 @@ use Rattle.std.specs.FinMap as map
 use Rattle.std.specs.Io.KnownBytes.{Appends}
 use Rattle.std.specs.List.{slice_get}
 use Rattle.tk_io.specs.Writing.{AppendsPart}
-use Rattle.edit_script.specs.Shown.{Lined}
+use Rattle.edit_script.specs.View.{Lined}
 use Rattle.edit_script.proofs.Written.{line_carried}
-use Rattle.token_cli.specs.Step.{Cuts}
+use Rattle.token_cli.specs.inner.Step.{Cuts}
 use Rattle.token_cli.specs.declared.stop.Stop.{Stop}
 use Rattle.token_cli.specs.declared.stop.Stop.TheVariants as stop
 use Rattle.token_cli.proofs.Stops.{if_err_is}

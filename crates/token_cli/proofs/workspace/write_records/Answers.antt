@@ -2,7 +2,7 @@ use Rattle.std.proofs.Common.{[], refl, ◌++◌, ap, sym, append-nil}
 use Rattle.edit_script.specs.Stream.{line_text}
 use Rattle.edit_script.specs.declared.line.Line.TheVariants.{Commit}
 use Rattle.edit_script.proofs.Written.{on_err, on_err_then, part_more, part_after}
-use Rattle.token_cli.specs.Step.{changes_text, records_of}
+use Rattle.token_cli.specs.inner.Step.{changes_text, records_of}
 use Rattle.token_cli.specs.declared.telling.Telling.TheVariants.{Records}
 use Rattle.token_cli.proofs.Pieces.{on_ok_then, two_written}
 use Rattle.token_cli.proofs.workspace.write_records.Goals as goal

@@ -1,13 +1,13 @@
 use Rattle.edit_script.specs.Script.{commit}
-use Rattle.token_cli.specs.Step.{Fails}
-use Rattle.token_cli.specs.Views.{state_of}
+use Rattle.token_cli.specs.inner.Step.{Fails}
+use Rattle.token_cli.specs.inner.View.{workspace_view}
 use Rattle.token_cli.specs.declared.stop.Stop.{Stop}
 use Rattle.token_cli.proofs.Stops.{if_err_is, cut_fails}
 use Rattle.token_cli.proofs.workspace.Workspace.commit.Goals as goal
 
 pub returns-in_err-write_commit-clause-err : goal.returns-in_err-write_commit-clause-err
 returns-in_err-write_commit-clause-err g c =
-    let s = state_of c.args.self.now in
+    let s = workspace_view c.args.self.now in
     let old = g.K.Sink.written c.args.out.now in
     let new = g.K.Sink.written c.write_commit.new.out in
     let before = g.K.Sink.faults c.args.out.now in

@@ -7,8 +7,8 @@ use Rattle.tk_io.specs.Causes.{Rose}
 use Rattle.tk_io.specs.Writing.{AppendsPart}
 use Rattle.edit_script.specs.Script.{EventData, put, del, commit}
 use Rattle.tk_io.specs.FilesData.{FilesData}
-use Rattle.edit_script.specs.Delta.{Held, Delta, IsDelta}
-use Rattle.edit_script.specs.Shown.{Lined}
+use Rattle.edit_script.specs.Delta.{Delta, IsDelta}
+use Rattle.edit_script.specs.View.{Lined}
 use Rattle.edit_script.specs.Stats.{bare, short_line}
 use Rattle.edit_script.specs.Stream.{line_text, record_of}
 use Rattle.edit_script.specs.declared.line.Line.TheVariants.{Commit}
@@ -22,7 +22,7 @@ use Rattle.token_cli.specs.declared.stop.Stop.TheVariants as stop
 -- the files, the outputs held, and how many commits there were
 pub record State : Type 0 where
   pub files : FilesData
-  pub held : Held
+  pub held : FilesData
   pub commits : ℕ
 
 -- the records of changes with their lines
@@ -35,7 +35,7 @@ changes_text Records k changes = line_text (Commit k) ++ records_of changes
 changes_text Counts k changes = line_text (short_line k (bare changes))
 
 -- a commit of these files and outputs leads to these outputs by this delta
-abbrev pub Leads : State → Held → Delta → Type 0
+abbrev pub Leads : State → FilesData → Delta → Type 0
 Leads s held delta = Builds s.files held × IsDelta s.held held delta
 
 abbrev pub Follows : Telling → EventData → State → State → Option (List ℕ) → Option (List ℕ) → Type 0
@@ -46,7 +46,7 @@ Follows told commit s t old new =
     × ((delta : Delta) × Leads s t.held delta × Appends old new (commit_text told (s.commits + 1) delta))
 
 -- why the commit of this number isn't written whole, and what was written of it
-abbrev pub Cuts : Telling → Stop → Held → Held → ℕ → Option (List ℕ) → Option (List ℕ) → ℕ → ℕ → Type 0
+abbrev pub Cuts : Telling → Stop → FilesData → FilesData → ℕ → Option (List ℕ) → Option (List ℕ) → ℕ → ℕ → Type 0
 Cuts told stop.NoMemory held next k old new before now = new ≡ old
 Cuts told stop.WriteFault held next k old new before now = Rose before now × ((delta : Delta) × IsDelta held next delta × AppendsPart old new (commit_text told k delta))
 Cuts told stop.Usage held next k old new before now = ⊥
@@ -58,7 +58,7 @@ Cuts told stop.TooLong held next k old new before now = ⊥
 abbrev pub Fails : Telling → Stop → EventData → State → Option (List ℕ) → Option (List ℕ) → ℕ → ℕ → Type 0
 Fails told stop.NoMemory e s old new before now = new ≡ old
 Fails told stop.WriteFault e s old new before now =
-    (e ≡ commit) × Rose before now × ((held : Held) × (delta : Delta) × Leads s held delta × AppendsPart old new (commit_text told (s.commits + 1) delta))
+    (e ≡ commit) × Rose before now × ((held : FilesData) × (delta : Delta) × Leads s held delta × AppendsPart old new (commit_text told (s.commits + 1) delta))
 Fails told stop.Usage e s old new before now = ⊥
 Fails told (stop.BadScript at) e s old new before now = ⊥
 Fails told stop.ReadFault e s old new before now = ⊥
