@@ -14,9 +14,6 @@ TOOL = os.path.join(TOP, "tools", "make-scripts")
 TABLE = os.path.join(TOP, "crates", "whole_scripts", "stdin")
 HEAD = re.compile(rb"(build|replay) ([0-9]+) ([0-9]+) ([01])\n")
 
-# Rules of values that tokc is not given yet.
-LATER = {"legacy-text"}
-
 
 def loaded(name, path):
     """A tool as a module."""
@@ -27,7 +24,7 @@ def loaded(name, path):
 
 
 MAKE = loaded("make_scripts", TOOL)
-RULES = set(loaded("tokc_dir", TOKC_DIR).SENTENCES) - LATER
+RULES = set(loaded("tokc_dir", TOKC_DIR).SENTENCES)
 
 
 class Row(NamedTuple):

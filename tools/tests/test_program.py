@@ -160,7 +160,7 @@ class Documents(Room):
                 self.assertIn(f": {rule}: ", message)
 
     def test_what_blocks_give(self):
-        """Elsewhere blocks of JSON, one for each file, stand before blocks of what they give."""
+        """Elsewhere blocks of JSON, one for each file, stand before blocks of what they give, or of lines of that."""
         for name in (("README.md",), ("docs", "MANUAL.md")):
             text = re.sub(r"^### `[a-z-]+`\n.*?(?=^##|\Z)", "", self.document(*name), flags=re.M | re.S)
             files, given, tried = {}, None, 0
@@ -168,6 +168,11 @@ class Documents(Room):
                 if kind == "json":
                     files = files if given is None else {}
                     files[path or "tokens.json"], given = block, None
+                elif kind == "lines" and files:
+                    with self.subTest(name=name, files=files):
+                        given = self.built(files)
+                        self.assertLessEqual(set(block.splitlines()), {line for text in given.values() for line in text.splitlines()})
+                        tried += 1
                 elif kind in SHOWN and files:
                     with self.subTest(name=name, files=files):
                         given = self.built(files) if given is None else given
@@ -200,6 +205,24 @@ class Documents(Room):
                 if "://" not in link:
                     with self.subTest(name=name, link=link):
                         self.assertTrue(os.path.exists(os.path.join(TOP, os.path.dirname(name), link)))
+
+    def test_what_crates_use(self):
+        """The table of crates says of each whose crates its code uses, tests and definitions aside."""
+        layers = [line.split(":") for line in self.document("crates.txt").splitlines() if ":" in line and not line.startswith("#")]
+        rows = dict(re.findall(r"^\| (\w+) \|[^|]*\|([^|]*)\|", self.document("docs", "ARCHITECTURE.md").partition("## Code and its plain data")[0], re.M))
+        self.assertIn("build_plain", rows)
+        for name, below in ((name.strip(), below.split()) for name, below in layers):
+            if name in rows:
+                with self.subTest(name=name):
+                    self.assertEqual(set(re.findall(r"\w+", rows[name].replace("the kit's", ""))) - {"std"}, self.used_by(name, below))
+
+    def used_by(self, name, below):
+        """The crates below that the code of a crate names."""
+        folder = os.path.join(TOP, "crates", name, "src")
+        paths = (os.path.join(at, file) for at, _, files in os.walk(folder) for file in files if file.endswith(".rt"))
+        texts = [read(path).decode() for path in paths if "tests" not in os.path.relpath(path, folder)]
+        code = re.sub(r"//[^\n]*|ghost use[^;]*;", "", "\n".join(texts))
+        return {it for it in below if re.search(rf"(?<![\w:.]){it}::", code)}
 
     def test_names_of_files_stand(self):
         """A path in a document that leads into the repository leads somewhere."""
