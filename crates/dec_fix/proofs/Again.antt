@@ -8,7 +8,7 @@ use Rattle.std.specs.Char.{is_ascii_digit}
 use Rattle.std.proofs.lemmas.Fmt.{decimal_is_IsNumeral_wide}
 use Rattle.std.specs.Prelude.{unsigned_abs}
 use Rattle.dec_fix.specs.Decimal.{Decimal, shortest, is_negative, decimal_of, IsShort, IsDec}
-use Rattle.dec_fix.specs.Spelling.{value, value_after}
+use Rattle.dec_fix.specs.Spelling.{digits_number, digits_number_after}
 use Rattle.dec_fix.specs.Writing.{last_digits, point_and, spelling}
 use Rattle.dec_fix.specs.Reading.{digits_front, digits_rest}
 use Rattle.dec_fix.specs.Following.{fraction_after, unsigned_at, number_at, ends_number, ends_digits}
@@ -35,17 +35,17 @@ digits_rest-append (d ∷ ds) rest h e = let p = both (is_ascii_digit d) (all_as
 pub decimal-digits : (n : ℕ) → n < 10 ^ 64 → all_ascii_digits (decimal n) ≡ true
 decimal-digits n h = own.from (decimal n) ((decimal_is_IsNumeral_wide n h).0.1)
 
-pub value-decimal : (n : ℕ) → n < 10 ^ 64 → value (decimal n) ≡ n
+pub value-decimal : (n : ℕ) → n < 10 ^ 64 → digits_number (decimal n) ≡ n
 value-decimal n h = own.same (decimal n) ((decimal_is_IsNumeral_wide n h).0.1) ∙ (decimal_is_IsNumeral_wide n h).1
 
 pub last_digits-digits : (k n : ℕ) → all_ascii_digits (last_digits k n) ≡ true
 last_digits-digits zero n = refl
 last_digits-digits (suc k) n = let again = last_digits-digits k n in grind arith
 
-pub value-last_digits : (m k n : ℕ) → value_after m (last_digits k n) ≡ m * 10 ^ k + n % 10 ^ k
+pub value-last_digits : (m k n : ℕ) → digits_number_after m (last_digits k n) ≡ m * 10 ^ k + n % 10 ^ k
 value-last_digits m zero n = omega arith
 value-last_digits m (suc k) n =
-    let again : value_after (m * 10 + (48 + n / 10 ^ k % 10 - 48)) (last_digits k n) ≡ (m * 10 + (48 + n / 10 ^ k % 10 - 48)) * 10 ^ k + n % 10 ^ k = value-last_digits (m * 10 + (48 + n / 10 ^ k % 10 - 48)) k n in
+    let again : digits_number_after (m * 10 + (48 + n / 10 ^ k % 10 - 48)) (last_digits k n) ≡ (m * 10 + (48 + n / 10 ^ k % 10 - 48)) * 10 ^ k + n % 10 ^ k = value-last_digits (m * 10 + (48 + n / 10 ^ k % 10 - 48)) k n in
     let d : 48 + n / 10 ^ k % 10 - 48 ≡ n / 10 ^ k % 10 = omega arith in
     let last : n % (10 * 10 ^ k) ≡ n / 10 ^ k % 10 * 10 ^ k + n % 10 ^ k = mod-mul n (lit< tt) (one-le-pow k 10 (lit< tt)) in
     let p : 10 ^ suc k ≡ 10 * 10 ^ k = pow-suc 10 k ∙ mul_comm (10 ^ k) 10 in
@@ -60,12 +60,12 @@ ends_both [] e = refl
 ends_both (c ∷ t) e = grind arith
 
 -- the size is read again
-pub fraction_none : (negative : Bool) (whole rest : List ℕ) → ends_number rest ≡ true → fraction_after negative whole rest ≡ (decimal_of negative (value whole) 0, rest)
+pub fraction_none : (negative : Bool) (whole rest : List ℕ) → ends_number rest ≡ true → fraction_after negative whole rest ≡ (decimal_of negative (digits_number whole) 0, rest)
 fraction_none negative whole [] e = refl
 fraction_none negative whole (c ∷ t) e = let not_point : (c == 46) ≡ false = grind arith in rw not_point refl
 
 pub fraction_some : (negative : Bool) (whole ds rest : List ℕ) → all_ascii_digits ds ≡ true → 0 < length ds → ends_digits rest ≡ true
-    → fraction_after negative whole (46 ∷ (ds ++ rest)) ≡ (decimal_of negative (value (whole ++ ds)) (length ds), rest)
+    → fraction_after negative whole (46 ∷ (ds ++ rest)) ≡ (decimal_of negative (digits_number (whole ++ ds)) (length ds), rest)
 fraction_some negative whole ds rest h some e = rw (digits_front-append ds rest h e, digits_rest-append ds rest h e) (let t : nat_lt 0 (length ds) ≡ true = grind arith in rw t refl)
 
 pub unsigned_split : (negative : Bool) (whole t : List ℕ) → all_ascii_digits whole ≡ true → ends_digits t ≡ true → unsigned_at negative (whole ++ t) ≡ fraction_after negative whole t
@@ -79,9 +79,9 @@ fraction_again negative n zero rest small e =
     ∙ fraction_none negative (decimal n) rest e ∙ ap (λ v. (decimal_of negative v 0, rest)) (value-decimal n small))
 fraction_again negative n (suc s) rest small e =
     let whole : n / 10 ^ suc s < 10 ^ 64 = omega (arith, div-le_self n (10 ^ suc s)) in
-    let v : value (decimal (n / 10 ^ suc s) ++ last_digits (suc s) n) ≡ n =
+    let v : digits_number (decimal (n / 10 ^ suc s) ++ last_digits (suc s) n) ≡ n =
     value_after-append 0 (decimal (n / 10 ^ suc s)) (last_digits (suc s) n)
-    ∙ value-last_digits (value (decimal (n / 10 ^ suc s))) (suc s) n
+    ∙ value-last_digits (digits_number (decimal (n / 10 ^ suc s))) (suc s) n
     ∙ rw (value-decimal (n / 10 ^ suc s) whole) (div-add-mod' n (10 ^ suc s)) in
     let l : length (last_digits (suc s) n) ≡ suc s = length-last_digits (suc s) n in
     let pt : point_and n (suc s) ≡ 46 ∷ last_digits (suc s) n = grind arith in

@@ -4,7 +4,7 @@ use Rattle.std.specs.Prelude.{unsigned_abs}
 use Rattle.std.proofs.Math.Nat.{div-le_self, div-add-mod'}
 use Rattle.std.specs.Fmt.{decimal}
 use Rattle.dec_fix.specs.Decimal.{Decimal, IsSameNumber, IsDec, is_negative, signed}
-use Rattle.dec_fix.specs.Spelling.{Parts, none, minus_text, fraction_text, IsInt, value, number_of_parts, Spells}
+use Rattle.dec_fix.specs.Spelling.{NumberParts, none, minus_text, fraction_text, IsInt, digits_number, number_of_parts, Spells}
 use Rattle.dec_fix.specs.Writing.{last_digits, point_and, spelling, point_spelling}
 use Rattle.dec_fix.proofs.Digits.{value_after-append}
 use Rattle.dec_fix.proofs.LastDigits.{length-last_digits}
@@ -20,7 +20,7 @@ made c s = record { c = c; s = s }
 decimal_int : (n : ℕ) → n < 10 ^ 64 → IsInt (decimal n)
 decimal_int n h = whole_found (decimal n) (decimal-digits n h) (is_whole-decimal n h)
 
-abbrev written : Bool → ℕ → ℕ → Parts
+abbrev written : Bool → ℕ → ℕ → NumberParts
 written negative n s = record { negative = negative; whole = decimal (n / 10 ^ s); fraction = last_digits s n; exponent = none }
 
 point_text : (n s : ℕ) → point_and n s ≡ fraction_text (last_digits s n) ++ []
@@ -33,11 +33,11 @@ written_number : (c : ℤ) (s : ℕ) → unsigned_abs c < 10 ^ 64 → number_of_
 written_number c s h =
     let n = unsigned_abs c in
     let small : unsigned_abs c / 10 ^ s < 10 ^ 64 = omega (arith, div-le_self (unsigned_abs c) (10 ^ s), h) in
-    let v : value (decimal (unsigned_abs c / 10 ^ s) ++ last_digits s (unsigned_abs c)) ≡ unsigned_abs c =
+    let v : digits_number (decimal (unsigned_abs c / 10 ^ s) ++ last_digits s (unsigned_abs c)) ≡ unsigned_abs c =
     value_after-append 0 (decimal (n / 10 ^ s)) (last_digits s n)
-    ∙ (value-last_digits (value (decimal (n / 10 ^ s))) s n
+    ∙ (value-last_digits (digits_number (decimal (n / 10 ^ s))) s n
     ∙ rw (value-decimal (n / 10 ^ s) small) (div-add-mod' n (10 ^ s))) in
-    let size : value (decimal (unsigned_abs c / 10 ^ s) ++ last_digits s (unsigned_abs c)) * 10 ^ 0 ≡ unsigned_abs c = rw v (omega arith) in
+    let size : digits_number (decimal (unsigned_abs c / 10 ^ s) ++ last_digits s (unsigned_abs c)) * 10 ^ 0 ≡ unsigned_abs c = rw v (omega arith) in
     let places : length (last_digits s (unsigned_abs c)) + 0 ≡ s = rw (length-last_digits s n) (omega arith) in
     ap (λ m. made (signed (is_negative c) m) (length (last_digits s n) + 0)) size
     ∙ (ap (λ k. made (signed (is_negative c) n) k) places ∙ ap (λ z. made z s) (signed_same c))
@@ -58,10 +58,10 @@ spelling_spells d h =
     }
 
 -- a whole number with a point and a zero
-abbrev pointed : Bool → ℕ → Parts
+abbrev pointed : Bool → ℕ → NumberParts
 pointed negative n = record { negative = negative; whole = decimal n; fraction = 48 ∷ []; exponent = none }
 
-pointed_size : (n : ℕ) → n < 10 ^ 64 → value (decimal n ++ (48 ∷ [])) * 10 ^ 0 ≡ n * 10
+pointed_size : (n : ℕ) → n < 10 ^ 64 → digits_number (decimal n ++ (48 ∷ [])) * 10 ^ 0 ≡ n * 10
 pointed_size n h = rw (value_after-append 0 (decimal n) (48 ∷ []), value-decimal n h) (omega arith)
 
 tens_sign : (c : ℤ) → is_negative c ≡ is_negative (signed (is_negative c) (unsigned_abs c * 10))

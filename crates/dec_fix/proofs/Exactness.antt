@@ -5,7 +5,7 @@ use Rattle.std.specs.Result.{result_ok}
 use Rattle.std.proofs.lemmas.Bool.Decides.{nat_tests}
 use Rattle.dec_fix.specs.Decimal.{Decimal, IsSameNumber, IsExact, IsShort, signed, shortest, decimal_of}
 use Rattle.dec_fix.specs.Spelling.{Spells}
-use Rattle.dec_fix.specs.Reading.{Split, split_of, size_of, places_of, within, accepted, text_decimal, number_of}
+use Rattle.dec_fix.specs.Reading.{Split, split_of, size_of, places_of, within_bounds, accepted, text_decimal, number_of}
 use Rattle.dec_fix.proofs.Again.{both}
 use Rattle.dec_fix.proofs.Grammar.{split, number_by_split, split_text, text_split}
 use Rattle.dec_fix.proofs.SameNumber.{decimal_of-same, decimal_of-short, decimal_of-once, unsigned_abs-signed}
@@ -40,7 +40,7 @@ within_by negative p d true e h =
     let tests = both (nat_lt p.0 (10 ^ 30)) (nat_le p.1 30) e in
     record { is_it = cc; size = grind (arith, nat_tests, tests.0); places = grind (arith, nat_tests, tests.1) }
 
-within_found : (negative : Bool) (p : ℕ × ℕ) (d : Decimal) → within negative p ≡ Some d → Within negative p d
+within_found : (negative : Bool) (p : ℕ × ℕ) (d : Decimal) → within_bounds negative p ≡ Some d → Within negative p d
 within_found negative p d h = within_by negative p d (nat_lt p.0 (10 ^ 30) && nat_le p.1 30) refl h
 
 exact_from : (negative : Bool) (n s : ℕ) → (shortest n s).0 < 10 ^ 30 → (shortest n s).1 ≤ 30 → IsExact (decimal_of negative n s)
@@ -56,9 +56,9 @@ pub record IsRead (t : List ℕ) (d : Decimal) : Type 0 where
   pub exact : IsExact d
 
 abbrev pub number_then : Option Split → Option Decimal
-number_then o = option_and_then (λ q. within q.negative (shortest (size_of q) (places_of q))) o
+number_then o = option_and_then (λ q. within_bounds q.negative (shortest (size_of q) (places_of q))) o
 
-accepted-within : (negative : Bool) (n s : ℕ) → accepted (record { c = signed negative n; s = s }) ≡ within negative (n, s)
+accepted-within : (negative : Bool) (n s : ℕ) → accepted (record { c = signed negative n; s = s }) ≡ within_bounds negative (n, s)
 accepted-within negative n s = ap (λ m. if nat_lt m (10 ^ 30) && nat_le s 30 then Some (record { c = signed negative n; s = s }) else None) (unsigned_abs-signed negative n)
 
 number_then_is : (o : Option Split) → option_and_then accepted (option_map (λ q. decimal_of q.negative (size_of q) (places_of q)) o) ≡ number_then o
@@ -83,7 +83,7 @@ pub number_of-read : (t : List ℕ) (d : Decimal) → number_of t ≡ Some d →
 number_of-read t d h = read_by t d (split_of t) refl (sym (number_of-split t) ∙ h)
 
 -- each number within the bounds that the text spells is read
-within_all : (negative : Bool) (p : ℕ × ℕ) → p.0 < 10 ^ 30 → p.1 ≤ 30 → within negative p ≡ Some (record { c = signed negative p.0; s = p.1 })
+within_all : (negative : Bool) (p : ℕ × ℕ) → p.0 < 10 ^ 30 → p.1 ≤ 30 → within_bounds negative p ≡ Some (record { c = signed negative p.0; s = p.1 })
 within_all negative p size places = grind arith
 
 spelled_is : (t : List ℕ) (d : Decimal) → IsShort (unsigned_abs d.c) d.s → (s : Spells t d) → d ≡ decimal_of (split s.parts).negative (size_of (split s.parts)) (places_of (split s.parts))

@@ -6,7 +6,7 @@ use Rattle.std.specs.Char.{is_ascii_digit}
 use Rattle.std.proofs.lemmas.Bool.Decides.{nat_tests}
 use Rattle.std.proofs.lemmas.Bool.{cases_eq}
 use Rattle.dec_fix.specs.Decimal.{signed}
-use Rattle.dec_fix.specs.Spelling.{unsigned, plus, minus, Exponent, none, power, Parts, minus_text, fraction_text, exponent_text, text_of, IsDigits, IsInt, IsExponent, IsNumber, number_of_parts}
+use Rattle.dec_fix.specs.Spelling.{unsigned, plus, minus, Exponent, none, power, NumberParts, minus_text, fraction_text, exponent_text, text_of, IsDigits, IsInt, IsExponent, IsNumber, number_of_parts}
 use Rattle.dec_fix.specs.Reading.{digits_front, digits_rest, Split, sign_at, is_whole, fraction_at, exponent_sign_at, last_digits_at, exponent_at, split_tail, split_unsigned, split_of, size_of, places_of}
 use Rattle.dec_fix.specs.Following.{ends_digits}
 use Rattle.dec_fix.proofs.Digits.{digits_front-digits}
@@ -23,7 +23,7 @@ abbrev exponent_digits : Exponent → List ℕ
 exponent_digits none = []
 exponent_digits (power letter sign ds) = ds
 
-abbrev pub split : Parts → Split
+abbrev pub split : NumberParts → Split
 split p = record { negative = p.negative; whole = p.whole; fraction = p.fraction; below = is_below p.exponent; exponent = exponent_digits p.exponent }
 
 number_by : (negative : Bool) (whole fraction : List ℕ) (e : Exponent)
@@ -35,7 +35,7 @@ number_by negative whole fraction (power letter plus ds) = refl
 number_by negative whole fraction (power letter minus ds) = refl
 
 -- the number of the parts, by what the readers give
-pub number_by_split : (p : Parts) → number_of_parts p ≡ record { c = signed (split p).negative (size_of (split p)); s = places_of (split p) }
+pub number_by_split : (p : NumberParts) → number_of_parts p ≡ record { c = signed (split p).negative (size_of (split p)); s = places_of (split p) }
 number_by_split p = number_by p.negative p.whole p.fraction p.exponent
 
 -- ---- from parts to their text
@@ -114,7 +114,7 @@ abbrev split_from : Bool × List ℕ → Option Split
 split_from p = split_unsigned p.0 p.1
 
 -- the text of a JSON number is split into its parts
-pub split_text : (p : Parts) → IsNumber p → split_of (text_of p) ≡ Some (split p)
+pub split_text : (p : NumberParts) → IsNumber p → split_of (text_of p) ≡ Some (split p)
 split_text p h =
     ap split_from (sign_read p.negative p.whole (fraction_text p.fraction ++ exponent_text p.exponent) h.whole.digits)
     ∙ (unsigned_read p.negative p.whole (fraction_text p.fraction ++ exponent_text p.exponent) h.whole (tail_ends p.fraction p.exponent h.exponent)
@@ -291,7 +291,7 @@ exponent_found (c ∷ t) p h = exponent_by c t p ((c == 101) || (c == 69)) refl 
 
 -- the text is that of these parts
 pub record Found (t : List ℕ) (q : Split) : Type 0 where
-  pub parts : Parts
+  pub parts : NumberParts
   pub is_number : IsNumber parts
   pub spelled : t ≡ text_of parts
   pub same : split parts ≡ q

@@ -4,7 +4,7 @@ use Rattle.std.specs.Fmt.{decimal}
 use Rattle.std.proofs.lemmas.Fmt.{decimal_is_IsNumeral_wide}
 use Rattle.std.specs.Prelude.{unsigned_abs}
 use Rattle.dec_fix.specs.Decimal.{Decimal, signed, decimal_of, IsDec}
-use Rattle.dec_fix.specs.Spelling.{value}
+use Rattle.dec_fix.specs.Spelling.{digits_number}
 use Rattle.dec_fix.specs.Writing.{spelling, point_spelling}
 use Rattle.dec_fix.specs.Following.{unsigned_at, number_at, ends_number}
 use Rattle.dec_fix.proofs.Digits.{value_after-append}
@@ -20,7 +20,7 @@ tenth negative n =
 whole_again : (negative : Bool) (n : ℕ) (rest : List ℕ) → n < 10 ^ 64 → ends_number rest ≡ true →
     unsigned_at negative (decimal n ++ (46 ∷ 48 ∷ rest)) ≡ (record { c = signed negative n; s = 0 }, rest)
 whole_again negative n rest h e =
-    let v : value (decimal n ++ (48 ∷ [])) ≡ n * 10 + 0 = value_after-append 0 (decimal n) (48 ∷ []) ∙ ap (λ m. m * 10 + 0) (value-decimal n h) in
+    let v : digits_number (decimal n ++ (48 ∷ [])) ≡ n * 10 + 0 = value_after-append 0 (decimal n) (48 ∷ []) ∙ ap (λ m. m * 10 + 0) (value-decimal n h) in
     unsigned_split negative (decimal n) (46 ∷ 48 ∷ rest) (decimal-digits n h) refl
     ∙ fraction_some negative (decimal n) (48 ∷ []) rest refl (omega arith) (ends_both rest e)
     ∙ ap (λ m. (decimal_of negative m 1, rest)) v ∙ ap (λ d. (d, rest)) (tenth negative n)

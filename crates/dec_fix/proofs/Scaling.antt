@@ -2,7 +2,7 @@
 use Rattle.std.proofs.Common.{◌≡◌, ℕ, ◌+◌, ◌*◌, ◌%◌, ◌^◌, ◌<◌, ◌≤◌, inl, inr, min, arith, add-one}
 use Rattle.std.proofs.Math.Nat.{pow-suc, pow-zero, one-le-pow, min-eq_left, min-eq_right, le-mul_of_pos_right}
 use Rattle.std.proofs.lemmas.Bool.{cases_lt}
-use Rattle.dec_fix.specs.inner.Significand.{Holds}
+use Rattle.dec_fix.specs.inner.Significand.{IsSignificand}
 
 pub ten_step : (n k : ℕ) → n * 10 * 10 ^ k ≡ n * 10 ^ (k + 1)
 ten_step n k = rw (add-one k, pow-suc 10 k) (omega arith)
@@ -29,7 +29,7 @@ min_early size k d limit = elim (cases_lt size limit) [
 pub last_digit : (n d : ℕ) → d < 10 → (n * 10 + d) % 10 ≡ d
 last_digit n d h = omega arith
 
-pub holds_zero : (m zeros n : ℕ) → Holds m zeros n → Holds m (zeros + 1) (n * 10 + 0)
+pub holds_zero : (m zeros n : ℕ) → IsSignificand m zeros n → IsSignificand m (zeros + 1) (n * 10 + 0)
 holds_zero m zeros n h = record {
   size = h.size;
   value = omega (arith, h.value, ten_more h.size zeros);
@@ -37,7 +37,7 @@ holds_zero m zeros n h = record {
   kept = h.kept;
 }
 
-pub holds_digit : (m zeros n d : ℕ) → d < 10 → 0 < d → Holds m zeros n → Holds (min (min (m * 10 ^ (zeros + 1)) (10 ^ 30) + d) (10 ^ 30)) 0 (n * 10 + d)
+pub holds_digit : (m zeros n d : ℕ) → d < 10 → 0 < d → IsSignificand m zeros n → IsSignificand (min (min (m * 10 ^ (zeros + 1)) (10 ^ 30) + d) (10 ^ 30)) 0 (n * 10 + d)
 holds_digit m zeros n d small some h = record {
   size = h.size * 10 ^ (zeros + 1) + d;
   value = omega (arith, h.value, ten_more h.size zeros, pow-zero 10);

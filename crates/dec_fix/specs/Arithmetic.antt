@@ -6,8 +6,8 @@ use Rattle.std.specs.Ordering.{int_cmp}
 use Rattle.dec_fix.specs.Decimal.{Decimal, is_negative, decimal_of}
 
 -- a whole number
-abbrev pub whole : ℤ → Decimal
-whole n = record { c = n; s = 0 }
+abbrev pub whole_decimal : ℤ → Decimal
+whole_decimal n = record { c = n; s = 0 }
 
 -- the number, where it is whole and of 32 bits with a sign
 abbrev pub whole_of : Decimal → Option ℤ

@@ -3,9 +3,9 @@ use Rattle.std.specs.Prelude.{ℕ, ◌+◌, ◌*◌, ◌^◌, ◌==◌, ◌&&◌
 use Rattle.std.specs.Char.{is_ascii_digit}
 use Rattle.tk_io.specs.Characters.{plus_sign, hyphen, full_stop, digit_zero, capital_e, small_e}
 use Rattle.dec_fix.specs.Decimal.{Decimal, signed, decimal_of}
-use Rattle.dec_fix.specs.Spelling.{value}
+use Rattle.dec_fix.specs.Spelling.{digits_number}
 
--- the digits at the front
+-- the digits at the start
 abbrev pub digits_front : List ℕ → List ℕ
 digits_front [] = []
 digits_front (c ∷ t) = if is_ascii_digit c then c ∷ digits_front t else []
@@ -23,7 +23,7 @@ pub record Split : Type 0 where
   pub below : Bool
   pub exponent : List ℕ
 
--- whether a `-` stands at the front, and what follows
+-- whether a `-` stands at the start, and what follows
 abbrev pub sign_at : List ℕ → Bool × List ℕ
 sign_at [] = (false, [])
 sign_at (c ∷ t) = if c == hyphen then (true, t) else (false, c ∷ t)
@@ -76,10 +76,10 @@ split_of t = split_unsigned (sign_at t).0 (sign_at t).1
 
 -- the size of the number, as a whole number over a power of ten
 abbrev pub size_of : Split → ℕ
-size_of p = value (p.whole ++ p.fraction) * 10 ^ (if p.below then 0 else value p.exponent)
+size_of p = digits_number (p.whole ++ p.fraction) * 10 ^ (if p.below then 0 else digits_number p.exponent)
 
 abbrev pub places_of : Split → ℕ
-places_of p = length p.fraction + (if p.below then value p.exponent else 0)
+places_of p = length p.fraction + (if p.below then digits_number p.exponent else 0)
 
 -- the number that a JSON number's text is, of any length, with as few places as it can have
 abbrev pub text_decimal : List ℕ → Option Decimal
@@ -94,5 +94,5 @@ abbrev pub number_of : List ℕ → Option Decimal
 number_of t = option_and_then accepted (text_decimal t)
 
 -- the same of a sign and a size
-abbrev pub within : Bool → ℕ × ℕ → Option Decimal
-within negative p = if nat_lt p.0 (10 ^ 30) && nat_le p.1 30 then Some (record { c = signed negative p.0; s = p.1 }) else None
+abbrev pub within_bounds : Bool → ℕ × ℕ → Option Decimal
+within_bounds negative p = if nat_lt p.0 (10 ^ 30) && nat_le p.1 30 then Some (record { c = signed negative p.0; s = p.1 }) else None

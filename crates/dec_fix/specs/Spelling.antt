@@ -15,7 +15,7 @@ pub data Exponent : Type 0 where
   power : ℕ → Sign → List ℕ → Exponent
 
 -- the parts of a spelling; a fraction without digits is one that is not there
-pub record Parts : Type 0 where
+pub record NumberParts : Type 0 where
   pub negative : Bool
   pub whole : List ℕ
   pub fraction : List ℕ
@@ -38,7 +38,7 @@ abbrev pub exponent_text : Exponent → List ℕ
 exponent_text none = []
 exponent_text (power letter sign ds) = letter ∷ (sign_text sign ++ ds)
 
-abbrev pub text_of : Parts → List ℕ
+abbrev pub text_of : NumberParts → List ℕ
 text_of p = minus_text p.negative ++ (p.whole ++ (fraction_text p.fraction ++ exponent_text p.exponent))
 
 -- one digit or more
@@ -56,43 +56,43 @@ IsExponent none = ⊤
 IsExponent (power letter sign ds) = ((letter ≡ small_e) ⊎ (letter ≡ capital_e)) × IsDigits ds
 
 -- the parts are those of a JSON number
-pub record IsNumber (p : Parts) : Type 0 where
+pub record IsNumber (p : NumberParts) : Type 0 where
   pub whole : IsInt p.whole
   pub fraction : IsTrue (all_ascii_digits p.fraction)
   pub exponent : IsExponent p.exponent
 
 -- the whole number that digits write behind those of n
-abbrev pub value_after : ℕ → List ℕ → ℕ
-value_after n [] = n
-value_after n (c ∷ t) = value_after (n * 10 + (c - digit_zero)) t
+abbrev pub digits_number_after : ℕ → List ℕ → ℕ
+digits_number_after n [] = n
+digits_number_after n (c ∷ t) = digits_number_after (n * 10 + (c - digit_zero)) t
 
 -- the whole number that digits write
-abbrev pub value : List ℕ → ℕ
-value ds = value_after 0 ds
+abbrev pub digits_number : List ℕ → ℕ
+digits_number ds = digits_number_after 0 ds
 
 -- the powers of ten by which an exponent multiplies and divides
 abbrev pub power_up : Exponent → ℕ
 power_up none = 0
-power_up (power letter unsigned ds) = value ds
-power_up (power letter plus ds) = value ds
+power_up (power letter unsigned ds) = digits_number ds
+power_up (power letter plus ds) = digits_number ds
 power_up (power letter minus ds) = 0
 
 abbrev pub power_down : Exponent → ℕ
 power_down none = 0
 power_down (power letter unsigned ds) = 0
 power_down (power letter plus ds) = 0
-power_down (power letter minus ds) = value ds
+power_down (power letter minus ds) = digits_number ds
 
 -- the number that the parts are, of any length
-abbrev pub number_of_parts : Parts → Decimal
+abbrev pub number_of_parts : NumberParts → Decimal
 number_of_parts p = record {
-  c = signed p.negative (value (p.whole ++ p.fraction) * 10 ^ power_up p.exponent);
+  c = signed p.negative (digits_number (p.whole ++ p.fraction) * 10 ^ power_up p.exponent);
   s = length p.fraction + power_down p.exponent;
 }
 
 -- the text is a JSON number, and this is the number
 pub record Spells (text : List ℕ) (d : Decimal) : Type 0 where
-  pub parts : Parts
+  pub parts : NumberParts
   pub is_number : IsNumber parts
   pub spelled : text ≡ text_of parts
   pub same : IsSameNumber d (number_of_parts parts)

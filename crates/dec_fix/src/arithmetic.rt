@@ -1,8 +1,9 @@
 //! Products, quotients, the order and whole numbers.
 
-ghost use Rattle.std.specs.Prelude.{◌≡◌, ◌+◌, ◌*ℤ◌, ◌^◌, ◌≤◌, pos, ℤ, FitsSigned, IfSome, OnErr, IfNone};
+ghost use Rattle.std.specs.Prelude.{◌≡◌, ◌+◌, ◌*ℤ◌, ◌^◌, ◌≤◌, pos, ℤ, FitsSigned, IfSome, OnErr};
+ghost use Rattle.std.specs.Prelude.{IfNone};
 ghost use Rattle.dec_fix.specs.Decimal.{IsExact, IsSameNumber};
-ghost use Rattle.dec_fix.specs.Arithmetic.{times, over_1000, order_with, whole, whole_of};
+ghost use Rattle.dec_fix.specs.Arithmetic.{times, over_1000, order_with, whole_decimal, whole_of};
 ghost use Rattle.std.specs.Int.{w32};
 
 use crate::decimal::Dec;
@@ -74,9 +75,9 @@ impl Dec {
     /// This number as an `i32`, or `None` exactly where it is no whole number of that range.
     pub fn whole_i32(&self) -> Option<i32>
         ensures is { result ≡ whole_of self.now }
-        ensures found { IfSome result (λ n. self.now ≡ whole n) }
+        ensures found { IfSome result (λ n. self.now ≡ whole_decimal n) }
         ensures none { IfNone result ((n : ℤ) → FitsSigned w32 n
-            → ¬ IsSameNumber self.now (whole n)) }
+            → ¬ IsSameNumber self.now (whole_decimal n)) }
     {
         let (c, s) = self.parts();
         if s != 0 {

@@ -3,8 +3,8 @@
 ghost use Rattle.std.specs.Prelude.{◌≡◌, ◌^◌, ◌≤◌, ◌<◌, pos};
 ghost use Rattle.std.specs.Result.{result_ok};
 ghost use Rattle.dec_fix.specs.Decimal.{signed, shortest, decimal_of, IsShort, IsDec};
-ghost use Rattle.dec_fix.specs.Arithmetic.{whole};
-ghost use Rattle.dec_fix.specs.Reading.{within};
+ghost use Rattle.dec_fix.specs.Arithmetic.{whole_decimal};
+ghost use Rattle.dec_fix.specs.Reading.{within_bounds};
 
 use std::marker::Model;
 
@@ -47,7 +47,7 @@ impl Dec {
     /// The number of this sign and size, where it is within the bounds of a number that is read.
     pub(crate) fn within(negative: bool, size: u128, places: u128) -> Result<Dec, NotDec>
         requires short { IsShort size places }
-        ensures { result_ok result ≡ within negative (size, places) }
+        ensures { result_ok result ≡ within_bounds negative (size, places) }
     {
         if size < LIMIT && places <= 30 {
             let c = with_sign(negative, size);
@@ -60,7 +60,7 @@ impl Dec {
 
     /// A whole number.
     pub fn whole(n: u16) -> Dec
-        ensures { result ≡ whole (pos n) }
+        ensures { result ≡ whole_decimal (pos n) }
     {
         Dec::made(false, u128::from(n), 0)
     }

@@ -1,11 +1,14 @@
 //! Reading a JSON number exactly.
 
-ghost use Rattle.std.specs.Prelude.{◌≡◌, ◌*◌, ◌^◌, ◌<◌, ◌≤◌, ℕ, true, length, min, option_map, IsTrue, IfOk, IfSome, OnErr};
+ghost use Rattle.std.specs.Prelude.{◌≡◌, ◌*◌, ◌^◌, ◌<◌, ◌≤◌, ℕ, true, length, min, option_map};
+ghost use Rattle.std.specs.Prelude.{IsTrue, IfOk, IfSome, OnErr};
 ghost use Rattle.std.specs.Result.{result_ok};
 ghost use Rattle.std.specs.Str.{all_ascii_digits};
 ghost use Rattle.dec_fix.specs.Decimal.{Decimal, IsExact, shortest};
 ghost use Rattle.dec_fix.specs.Spelling.{Spells};
-ghost use Rattle.dec_fix.specs.Reading.{digits_front, digits_rest, sign_at, is_whole, fraction_at, exponent_sign_at, exponent_at, split_of, within, size_of, places_of, number_of};
+ghost use Rattle.dec_fix.specs.Reading.{digits_front, digits_rest, sign_at, is_whole, fraction_at};
+ghost use Rattle.dec_fix.specs.Reading.{exponent_sign_at, exponent_at, split_of, within_bounds};
+ghost use Rattle.dec_fix.specs.Reading.{size_of, places_of, number_of};
 ghost use Rattle.dec_fix.specs.inner.Significand.{IsLast};
 ghost use Rattle.dec_fix.specs.inner.View.{split_view};
 
@@ -32,7 +35,7 @@ impl Dec {
 
 /// The number of these parts, where it is within the bounds.
 fn from_parts(parts: Parts<'_>) -> Result<Dec, NotDec>
-    ensures { result_ok result ≡ within parts.entry.negative
+    ensures { result_ok result ≡ within_bounds parts.entry.negative
         (shortest (size_of (split_view parts.entry)) (places_of (split_view parts.entry))) }
 {
     let none = Significand { size: 0, zeros: 0 };
@@ -51,7 +54,7 @@ fn placed(negative: bool, kept: u128, up: u128, down: u128) -> Result<Dec, NotDe
     requires limit { kept ≤ 10 ^ 30 }
     requires last { kept < 10 ^ 30 → IsLast kept }
     ensures { (size : ℕ) → kept ≡ min size (10 ^ 30) → IsLast size
-        → result_ok result ≡ within negative (shortest (size * 10 ^ up) down) }
+        → result_ok result ≡ within_bounds negative (shortest (size * 10 ^ up) down) }
 {
     if kept >= LIMIT {
         Err(NotDec)
@@ -85,7 +88,7 @@ fn read_parts(text: &[u8]) -> Option<Parts<'_>>
     })
 }
 
-/// Whether a `-` stands at the front, and what follows.
+/// Whether a `-` stands at the start, and what follows.
 fn split_sign(text: &[u8]) -> (bool, &[u8])
     ensures sign { result.0 ≡ (sign_at text.now).0 }
     ensures rest { result.1.now ≡ (sign_at text.now).1 }
@@ -102,7 +105,7 @@ fn split_sign(text: &[u8]) -> (bool, &[u8])
     }
 }
 
-/// The digits at the front, and what follows them.
+/// The digits at the start, and what follows them.
 fn split_digits(text: &[u8]) -> (&[u8], &[u8])
     ensures are { IsTrue (all_ascii_digits result.0.now) }
     ensures digits { result.0.now ≡ digits_front text.now }
@@ -168,7 +171,7 @@ fn read_exponent(text: &[u8]) -> Option<(bool, &[u8])>
     Some((negative, digits))
 }
 
-/// Whether the sign at the front is `-`, and what follows the sign.
+/// Whether the sign at the start is `-`, and what follows the sign.
 fn split_exponent_sign(text: &[u8]) -> (bool, &[u8])
     ensures sign { result.0 ≡ (exponent_sign_at text.now).0 }
     ensures rest { result.1.now ≡ (exponent_sign_at text.now).1 }

@@ -2,8 +2,8 @@
 
 ghost use Rattle.std.specs.Prelude.{◌≡◌, ℕ, ◌+◌, ◌*◌, ◌^◌, ◌≤◌, ◌<◌, length, min, IsTrue};
 ghost use Rattle.std.specs.Str.{all_ascii_digits};
-ghost use Rattle.dec_fix.specs.inner.Significand.{Holds};
-ghost use Rattle.dec_fix.specs.Spelling.{value, value_after};
+ghost use Rattle.dec_fix.specs.inner.Significand.{IsSignificand};
+ghost use Rattle.dec_fix.specs.Spelling.{digits_number, digits_number_after};
 
 use crate::decimal::LIMIT;
 
@@ -41,8 +41,8 @@ fn with_digit(so_far: Significand, digit: u128) -> Significand
     requires digit { digit < 10 }
     ensures limit { result.size ≤ 10 ^ 30 }
     ensures zeros { result.zeros ≤ so_far.zeros + 1 }
-    ensures holds { (n : ℕ) → Holds so_far.size so_far.zeros n
-        → Holds result.size result.zeros (n * 10 + digit) }
+    ensures holds { (n : ℕ) → IsSignificand so_far.size so_far.zeros n
+        → IsSignificand result.size result.zeros (n * 10 + digit) }
 {
     if digit != 0 {
         let size = scaled(so_far.size, so_far.zeros + 1);
@@ -65,8 +65,8 @@ pub(crate) fn with_digits(so_far: Significand, digits: &[u8]) -> Significand
     requires digits { IsTrue (all_ascii_digits digits.now) }
     ensures limit { result.size ≤ 10 ^ 30 }
     ensures zeros { result.zeros ≤ so_far.zeros + length digits.now }
-    ensures holds { (n : ℕ) → Holds so_far.size so_far.zeros n
-        → Holds result.size result.zeros (value_after n digits.now) }
+    ensures holds { (n : ℕ) → IsSignificand so_far.size so_far.zeros n
+        → IsSignificand result.size result.zeros (digits_number_after n digits.now) }
 {
     let mut kept = so_far;
     for c in digits {
@@ -78,7 +78,7 @@ pub(crate) fn with_digits(so_far: Significand, digits: &[u8]) -> Significand
 /// The number that the digits write, or `FAR` where it is greater.
 pub(crate) fn exponent(digits: &[u8]) -> u128
     requires digits { IsTrue (all_ascii_digits digits.now) }
-    ensures { result ≡ min (value digits.now) FAR }
+    ensures { result ≡ min (digits_number digits.now) FAR }
 {
     let mut n: u128 = 0;
     for c in digits {

@@ -5,7 +5,7 @@ use Rattle.std.proofs.lemmas.List.Folds.{list_all-append}
 use Rattle.std.specs.List.{list_all, position_or_len, before_first, after_first}
 use Rattle.std.specs.Borrow.{Bor}
 use Rattle.std.specs.Option.{MatchOption}
-use Rattle.edit_script.specs.inner.Cut.{lacks, IsCut}
+use Rattle.edit_script.specs.inner.Cut.{lacks, IsFirstCut}
 
 pub both : (a b : Bool) → (a && b) ≡ true → (a ≡ true) × (b ≡ true)
 both true b e = (refl, e)
@@ -80,7 +80,7 @@ same_front (a ∷ t) (b ∷ u) x y h e =
 
 -- what `split_once` finds, as a cut
 pub cut_found : (c : ℕ) (bs : List ℕ) (r : Option (Bor (List ℕ) × Bor (List ℕ))) → MatchOption r (position_or_len (λ b. eqb b c) bs ≡ length bs) (λ x. (x.0.now ≡ before_first (λ b. eqb b c) bs) × (x.1.now ≡ after_first (λ b. eqb b c) bs) × (position_or_len (λ b. eqb b c) bs < length bs))
-    → MatchOption r (lacks c bs ≡ true) (λ p. IsCut c bs p.0.now p.1.now)
+    → MatchOption r (lacks c bs ≡ true) (λ p. IsFirstCut c bs p.0.now p.1.now)
 cut_found c bs None h = lacks-all c bs h
 cut_found c bs (Some p) h =
     let k = position_or_len (λ b. eqb b c) bs in

@@ -1,8 +1,8 @@
-pub mod Cuts
+mod Cuts
 pub mod Deltas
 pub mod Readings
-pub mod Rising
-pub mod Segments
+mod Rising
+mod Segments
 pub mod Spelled
 pub mod Standing
 pub mod Stats

@@ -1,4 +1,4 @@
--- Readings of scripts: there is at most one, and where the events at a text's front end.
+-- Readings of scripts: there is at most one, and where the events at a text's start end.
 use Rattle.std.proofs.Common.{◌≡◌, ◌<◌, ◌≤◌, ℕ, ◌+◌, ◌-◌, true, List, [], ◌∷◌, ◌++◌, length, take, drop, refl, sym, ap, ap₂, ◌∙◌, arith, append_assoc, append-nil, length-append, take-append-drop, inl, inr, ◌⊎◌, ⊎_elim, ltb, ltb-true, ltb-false, false}
 use Rattle.std.proofs.lemmas.List.{append_cancel_left, take_at, length-take-le}
 use Rattle.std.specs.List.{AllByRecursion, flat_map}
@@ -9,11 +9,11 @@ use Rattle.edit_script.proofs.Spelled.{not_empty, same_front_event}
 abbrev pub events_text : List EventData → List ℕ
 events_text es = flat_map event_text es
 
--- no event stands at the front
+-- no event stands at the start
 abbrev pub NoEvent : List ℕ → Type 0
 NoEvent bs = (e : EventData) (rest : List ℕ) → EventFits e → bs ≡ event_text e ++ rest → ⊥
 
--- events before a place where no event stands are not shorter than others at the same front
+-- events before a place where no event stands are not shorter than others at the same start
 pub longest : (es fs : List EventData) (a b : List ℕ) → AllByRecursion EventFits es → AllByRecursion EventFits fs → events_text es ++ a ≡ events_text fs ++ b → NoEvent a → length (events_text fs) ≤ length (events_text es)
 longest es [] a b g h e absent = omega arith
 longest [] (f ∷ fs) a b g h e absent = absurd (absent f (events_text fs ++ b) h.0 (e ∙ append_assoc (event_text f) (events_text fs) b))

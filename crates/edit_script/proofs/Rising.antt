@@ -12,7 +12,7 @@ use Rattle.std.specs.Ordering.{is_lt, is_eq, eq_by_cmp, ordering_reverse}
 use Rattle.std.specs.Str.{bytes_eq}
 use Rattle.tk_io.specs.Order.{text_cmp}
 use Rattle.edit_script.specs.Delta.{ChangeData, change_of}
-use Rattle.edit_script.specs.inner.Merge.{Entries, AreChanges, IsStep, shown, shown_entry}
+use Rattle.edit_script.specs.inner.Merge.{Entries, AreChanges, IsStep, outputs_view, lent_view}
 
 pub same_key : IsAntisymmetric text_cmp
 same_key = slice_cmp-IsAntisymmetric nat_cmp-IsAntisymmetric
@@ -239,7 +239,7 @@ leads_all old new ds i j p q leads =
     subst (λ x. AreChanges old new x) (append-nil ds) (leads [] (subst (λ x. AreChanges x (drop j new) []) (sym a) (subst (λ x. AreChanges [] x []) (sym b) no_changes)))
 
 -- the first of what is left, as a look-up at the index shows it
-pub at_head : (es : Entries) (i : ℕ) (head : Option (Bor (List ℕ) × Bor (List ℕ))) → option_map shown_entry head ≡ slice_get es i → slice_get (drop i es) 0 ≡ option_map shown_entry head
+pub at_head : (es : Entries) (i : ℕ) (head : Option (Bor (List ℕ) × Bor (List ℕ))) → option_map lent_view head ≡ slice_get es i → slice_get (drop i es) 0 ≡ option_map lent_view head
 at_head es i head e = head_drop i es ∙ sym e
 
 pub step_bound : (es : Entries) (i m : ℕ) → i ≤ length es → m ≤ length (drop i es) → i + m ≤ length es

@@ -1,7 +1,7 @@
 -- The segments of a path, cut off one after another.
 use Rattle.std.proofs.Common.{◌≡◌, ℕ, Bool, true, false, cond, not, ◌&&◌, eqb, List, [], ◌∷◌, ◌++◌, refl, ap, ◌∙◌}
 use Rattle.std.specs.List.{list_all, slice_split, onto_first}
-use Rattle.edit_script.specs.inner.Cut.{lacks, IsCut}
+use Rattle.edit_script.specs.inner.Cut.{lacks, IsFirstCut}
 use Rattle.edit_script.specs.Script.{is_segment}
 use Rattle.edit_script.proofs.Cuts.{both}
 
@@ -35,5 +35,5 @@ pub one_segment : (bs : List ℕ) → lacks 47 bs ≡ true → list_all is_segme
 one_segment bs h = ap (list_all is_segment) (split_none bs h) ∙ last (is_segment bs)
 
 -- what stands before the first slash is the first segment
-pub first_segment : (bs front back : List ℕ) → IsCut 47 bs front back → list_all is_segment (segments bs) ≡ (is_segment front && list_all is_segment (segments back))
+pub first_segment : (bs front back : List ℕ) → IsFirstCut 47 bs front back → list_all is_segment (segments bs) ≡ (is_segment front && list_all is_segment (segments back))
 first_segment bs front back h = ap (λ l. list_all is_segment (segments l)) h.1 ∙ ap (list_all is_segment) (split_cut front back h.0)

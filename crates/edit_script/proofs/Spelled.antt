@@ -1,4 +1,4 @@
--- Events and their spellings: the line of each, and that no spelling is the front of another's.
+-- Events and their spellings: the line of each, and that no spelling is a prefix of another's.
 use Rattle.std.proofs.Common.{◌≡◌, ◌<◌, ◌≤◌, ◌^◌, ℕ, zero, suc, Bool, true, false, cond, not, ◌&&◌, ◌||◌, eqb, nat_lt, List, [], ◌∷◌, ◌++◌, length, get_or, ◌≢◌, Option, Some, None, codes, refl, sym, ap, ap₂, subst, ◌∙◌, arith, append_assoc, eqb-true}
 use Rattle.std.proofs.lemmas.Bool.Decides.{nat_tests}
 use Rattle.std.proofs.lemmas.Fmt.{decimal_is_IsNumeral, decimal_injective, IsAscii-decimal}
@@ -11,7 +11,7 @@ use Rattle.std.specs.List.{AllByRecursion, flat_map, list_all, slice_split, onto
 use Rattle.std.specs.Str.Parse.{AllDigits}
 use Rattle.std.specs.Borrow.{Bor}
 use Rattle.std.specs.Option.{MatchOption}
-use Rattle.edit_script.specs.inner.Cut.{lacks, IsCut}
+use Rattle.edit_script.specs.inner.Cut.{lacks, IsFirstCut}
 use Rattle.edit_script.specs.View.{event_view}
 use Rattle.edit_script.specs.declared.event.Event.{Event}
 use Rattle.edit_script.specs.inner.Line.{first_line, behind_line}
@@ -84,7 +84,7 @@ line_lacks (put p t) h =
 line_lacks (del p) h = lacks-append 10 (codes "del ") p refl (path_lacks 10 refl p h)
 line_lacks commit h = refl
 
--- the line at a spelling's front
+-- the line at a spelling's start
 pub same_line : (e : EventData) (line behind s : List ℕ) → EventFits e → lacks 10 line ≡ true → line ++ 10 ∷ behind ≡ event_text e ++ s → (line ≡ first_line e) × (behind ≡ behind_line e ++ s)
 same_line e line behind s fits absent is = cut_once 10 line (first_line e) behind (behind_line e ++ s) absent (line_lacks e fits) (is ∙ spelled e s)
 
@@ -119,7 +119,7 @@ not_empty (put p t) s is = let h = ap (λ l. get_or l 0 0) is ∙ begins (put p 
 not_empty (del p) s is = let h = ap (λ l. get_or l 0 0) is ∙ begins (del p) s in absurd (omega arith)
 not_empty commit s is = let h = ap (λ l. get_or l 0 0) is ∙ begins commit s in absurd (omega arith)
 
--- no spelling is the front of another's
+-- no spelling is a prefix of another's
 pub same_front_event : (e f : EventData) (a b : List ℕ) → EventFits e → EventFits f → event_text e ++ a ≡ event_text f ++ b → (e ≡ f) × (a ≡ b)
 same_front_event (put p t) (put q u) a b g h is =
     let (line, behind) = same_line (put q u) (first_line (put p t)) (behind_line (put p t) ++ a) b h (line_lacks (put p t) g) (sym (spelled (put p t) a) ∙ is) in
@@ -174,11 +174,11 @@ pub script_utf8 : (bytes : List ℕ) (es : List EventData) → IsScript bytes es
 script_utf8 bytes es h = subst IsUtf8 (sym h.0) (IsUtf8-append header (flat_map event_text es) (IsUtf8-from_ascii header (low-ascii header refl)) (events_utf8 es h.1))
 
 -- the words of a put's line, cut at the first space
-pub put_cut : (words path digits p t : List ℕ) → IsCut 32 words path digits → is_path p ≡ true → words ≡ p ++ 32 ∷ decimal (length t) → (path ≡ p) × (digits ≡ decimal (length t))
+pub put_cut : (words path digits p t : List ℕ) → IsFirstCut 32 words path digits → is_path p ≡ true → words ≡ p ++ 32 ∷ decimal (length t) → (path ≡ p) × (digits ≡ decimal (length t))
 put_cut words path digits p t cut fits is = cut_once 32 path p digits (decimal (length t)) cut.0 (path_lacks 32 refl p fits) (sym cut.1 ∙ is)
 
--- what stands at a text's front, by its first line
-pub event_found : (text line behind : List ℕ) (r : Option (Event × Bor (List ℕ))) → IsCut 10 text line behind
+-- what stands at a text's start, by its first line
+pub event_found : (text line behind : List ℕ) (r : Option (Event × Bor (List ℕ))) → IsFirstCut 10 text line behind
     → MatchOption r ((e : EventData) → (rest : List ℕ) → EventFits e → line ≡ first_line e → behind ≡ behind_line e ++ rest → ⊥) (λ p. (line ≡ first_line (event_view p.0)) × (behind ≡ behind_line (event_view p.0) ++ p.1.now) × EventFits (event_view p.0))
     → MatchOption r ((e : EventData) → (rest : List ℕ) → EventFits e → text ≡ event_text e ++ rest → ⊥) (λ p. (text ≡ event_text (event_view p.0) ++ p.1.now) × EventFits (event_view p.0))
 event_found text line behind None cut h = λ e rest fits is. let (a, b) = same_line e line behind rest fits cut.0 (sym cut.1 ∙ is) in h e rest fits a b

@@ -8,7 +8,7 @@ use Rattle.std.specs.Ordering.{is_eq, eq_by_cmp}
 use Rattle.std.specs.Str.{bytes_eq}
 use Rattle.tk_io.specs.Order.{text_cmp}
 use Rattle.tk_io.specs.FilesData.{FilesData}
-use Rattle.edit_script.specs.Files.{AreFilesAfter, said_by, later_or, last_word, said_text, text_after, up_to, commit_count, without_commits, whole, AreFilesAt}
+use Rattle.edit_script.specs.Files.{AreFilesAfter, said_by, later_or, last_word, said_text, text_after, up_to, commit_count, without_commits, as_one_commit, AreFilesAt}
 use Rattle.edit_script.specs.Script.{EventData, put, del, commit}
 use Rattle.edit_script.proofs.Rising.{same_key, tied, equal}
 
@@ -74,14 +74,14 @@ without_last (put p text ∷ es) path = ap (λ o. later_or o (said_by (put p tex
 without_last (del p ∷ es) path = ap (λ o. later_or o (said_by (del p) path)) (without_last es path)
 without_last (commit ∷ es) path = without_last es path ∙ sym (no_later (last_word es path))
 
-one_commit : (es : List EventData) → up_to 1 (whole es) ≡ whole es
+one_commit : (es : List EventData) → up_to 1 (as_one_commit es) ≡ as_one_commit es
 one_commit [] = refl
 one_commit (put p text ∷ es) = ap (λ l. put p text ∷ l) (one_commit es)
 one_commit (del p ∷ es) = ap (λ l. del p ∷ l) (one_commit es)
 one_commit (commit ∷ es) = one_commit es
 
 -- what stands at the one commit of the whole is what stands after all events
-pub whole_files : (es : List EventData) (files : FilesData) → AreFilesAfter es files → AreFilesAt (whole es) 1 files
+pub whole_files : (es : List EventData) (files : FilesData) → AreFilesAfter es files → AreFilesAt (as_one_commit es) 1 files
 whole_files es files h path =
     h path ∙ (ap said_text (sym (without_last es path)) ∙ (ap said_text (sym (last_push (without_commits es) commit path)) ∙ ap (λ l. text_after l path) (sym (one_commit es))))
 
@@ -91,7 +91,7 @@ count_parts (put p text ∷ xs) ys = count_parts xs ys
 count_parts (del p ∷ xs) ys = count_parts xs ys
 count_parts (commit ∷ xs) ys = let ih = count_parts xs ys in omega arith
 
-pub whole_count : (es : List EventData) → commit_count (whole es) ≡ 1
+pub whole_count : (es : List EventData) → commit_count (as_one_commit es) ≡ 1
 whole_count [] = refl
 whole_count (put p text ∷ es) = whole_count es
 whole_count (del p ∷ es) = whole_count es

@@ -5,7 +5,7 @@ use Rattle.std.proofs.lemmas.List.{get_or-map, drop_all, length-map}
 use Rattle.std.specs.FinMap as map
 use Rattle.edit_script.specs.Delta.{ChangeData, Delta}
 use Rattle.edit_script.specs.View.{Lined}
-use Rattle.edit_script.specs.Stats.{bare, gone_count, written_count, short_line, short_lines, short_stats}
+use Rattle.edit_script.specs.Stats.{without_lines, gone_count, written_count, short_line, short_lines, short_stats}
 use Rattle.edit_script.specs.Stream.{line_text}
 use Rattle.edit_script.specs.declared.line.Line.TheVariants.{StatsHead, Done}
 use Rattle.edit_script.proofs.Deltas.{same_count, next_count}
@@ -32,7 +32,7 @@ counts_whole [] = refl
 counts_whole ((path, None) ∷ cs) = omega (arith, counts_whole cs)
 counts_whole ((path, Some bytes) ∷ cs) = omega (arith, counts_whole cs)
 
-pub bare_length : (cs : List Lined) → length (bare cs) ≡ length cs
+pub bare_length : (cs : List Lined) → length (without_lines cs) ≡ length cs
 bare_length [] = refl
 bare_length (c ∷ cs) = ap suc (bare_length cs)
 
@@ -41,8 +41,8 @@ gone_apart (path, None) cs = omega arith
 gone_apart (path, Some bytes) cs = omega arith
 
 -- what goes is what goes first and behind it
-pub gone_left : (left rest : List Lined) (c : Lined) → left ≡ c ∷ rest → gone_count (bare left) ≡ gone_count (c.0 ∷ []) + gone_count (bare rest)
-gone_left left rest c e = ap (λ cs. gone_count (bare cs)) e ∙ gone_apart c.0 (bare rest)
+pub gone_left : (left rest : List Lined) (c : Lined) → left ≡ c ∷ rest → gone_count (without_lines left) ≡ gone_count (c.0 ∷ []) + gone_count (without_lines rest)
+gone_left left rest c e = ap (λ cs. gone_count (without_lines cs)) e ∙ gone_apart c.0 (without_lines rest)
 
 -- the change of a turn is the first of those left, and at the end none is left
 pub first_left : {A B : Type 0} (v : A → B) (xs : List A) (i : ℕ) (x : A) → i < length xs → x ≡ get_or xs i x → drop i (map_list v xs) ≡ v x ∷ drop (i + 1) (map_list v xs)

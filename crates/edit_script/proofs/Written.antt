@@ -16,7 +16,7 @@ pub on_err_then : {T E P Q : Type 0} (r : Result T E) → (P → Q) → OnErr r 
 on_err_then (Ok x) f p = tt
 on_err_then (Err e) f p = f p
 
--- a part of a piece is a front of it
+-- a part of a piece is a prefix of it
 pub front_of_part : (a b : Option (List ℕ)) (piece : List ℕ) → AppendsPart a b piece → AppendsFront a b piece
 front_of_part a b piece q = let (front, back, split, some, appended) = q in (front, back, split, appended)
 

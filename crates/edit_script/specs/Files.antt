@@ -59,5 +59,5 @@ without_commits (del p ∷ es) = del p ∷ without_commits es
 without_commits (commit ∷ es) = without_commits es
 
 -- the events with their commits taken out and one at the end
-abbrev pub whole : List EventData → List EventData
-whole es = without_commits es ++ commit ∷ []
+abbrev pub as_one_commit : List EventData → List EventData
+as_one_commit es = without_commits es ++ commit ∷ []

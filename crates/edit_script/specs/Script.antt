@@ -50,7 +50,7 @@ IsScript bytes es = (bytes ≡ header ++ flat_map event_text es) × AllByRecursi
 abbrev pub IsScriptFront : List ℕ → ℕ → Type 0
 IsScriptFront bytes n = (n ≤ length bytes) × ((es : List EventData) × IsScript (take n bytes) es)
 
--- the end of the longest front that is a script, or 0 where none is
+-- the end of the longest prefix that is a script, or 0 where none is
 pub record IsScriptEnd (bytes : List ℕ) (n : ℕ) : Type 0 where
   pub front : (n ≡ 0) ⊎ IsScriptFront bytes n
   pub longest : (m : ℕ) → n < m → IsScriptFront bytes m → ⊥

@@ -24,8 +24,8 @@ abbrev pub short_line : ℕ → List ChangeData → Line
 short_line k cs = Short k (written_count cs) (gone_count cs)
 
 -- changes without the lines that they carry
-abbrev pub bare : List Lined → List ChangeData
-bare changes = map_list (λ change. change.0) changes
+abbrev pub without_lines : List Lined → List ChangeData
+without_lines changes = map_list (λ change. change.0) changes
 
 -- the lines of commits, the first of them with this number
 unfoldable pub short_lines : ℕ → List Delta → List ℕ

@@ -31,7 +31,9 @@ impl<'a> Model for Changes<'a> {
 
     ghost Value = { List Lined };
 
-    ghost coded = { coded_list (coded× (coded× (coded_list coded_ℕ) (coded_option (coded_list coded_ℕ))) (coded_list coded_ℕ)) };
+    ghost coded = { coded_list
+        (coded× (coded× (coded_list coded_ℕ) (coded_option (coded_list coded_ℕ)))
+        (coded_list coded_ℕ)) };
 
     ghost view = { λ c. map change_view c.items.items };
 }

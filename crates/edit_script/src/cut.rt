@@ -1,12 +1,12 @@
 // Cutting texts at a byte.
 ghost use Rattle.std.specs.Prelude.{◌≡◌, ◌<◌, ℕ, true, List, ◌∷◌, ◌++◌, length, MatchOption};
-ghost use Rattle.edit_script.specs.inner.Cut.{lacks, IsCut};
+ghost use Rattle.edit_script.specs.inner.Cut.{lacks, IsFirstCut};
 
 /// What stands before the first such character, which is ASCII, and what stands behind it; none where the text has none.
 pub(crate) fn cut_at_first(text: &str, mark: char) -> Option<(&str, &str)>
     requires { mark < 128 }
     ensures { MatchOption result (lacks mark text.now ≡ true)
-        (λ p. IsCut mark text.now p.0.now p.1.now) }
+        (λ p. IsFirstCut mark text.now p.0.now p.1.now) }
 {
     text.split_once(mark)
 }

@@ -1,16 +1,21 @@
 // Laws of the definitions, for the crates above: functions that do nothing and are called for what they ensure.
-ghost use Rattle.std.specs.Prelude.{◌≡◌, ℕ, suc, ◌+◌, ◌≤◌, List, [], ◌∷◌, ◌++◌, length, take, Some, map as map_list};
+ghost use Rattle.std.specs.Prelude.{◌≡◌, ℕ, suc, ◌+◌, ◌≤◌, List, [], ◌∷◌, ◌++◌, length, take, Some};
+ghost use Rattle.std.specs.Prelude.{map as map_list};
 ghost use Rattle.std.specs.FinMap as map;
 ghost use Rattle.std.specs.List.{concat, flat_map, slice_get};
 ghost use Rattle.std.specs.Str.{IsUtf8};
 ghost use Rattle.tk_io.specs.FilesData.{FilesData};
-ghost use Rattle.edit_script.specs.Delta.{ChangeData, Delta, IsDelta, AreDeltas, applied, replayed, held_at};
-ghost use Rattle.edit_script.specs.Files.{AreFilesAfter, AreFilesAt, up_to, commit_count, whole};
+ghost use Rattle.edit_script.specs.Delta.{ChangeData, Delta, IsDelta, AreDeltas, applied, replayed};
+ghost use Rattle.edit_script.specs.Delta.{held_at};
+ghost use Rattle.edit_script.specs.Files.{AreFilesAfter, AreFilesAt, up_to, commit_count};
+ghost use Rattle.edit_script.specs.Files.{as_one_commit};
 ghost use Rattle.edit_script.specs.Script.{EventData, put, del, commit, IsScript, IsScriptStop};
-ghost use Rattle.edit_script.specs.declared.line.Line.TheVariants.{StreamHead, StatsHead, Commit as CommitLine, Done};
+ghost use Rattle.edit_script.specs.declared.line.Line.TheVariants.{StreamHead, StatsHead};
+ghost use Rattle.edit_script.specs.declared.line.Line.TheVariants.{Commit as CommitLine, Done};
 ghost use Rattle.edit_script.specs.View.{Lined, with_line};
 ghost use Rattle.edit_script.specs.Stats.{short_line, short_lines, short_stats};
-ghost use Rattle.edit_script.specs.Stream.{commits_text, line_text, pieces_of, record_of, stream_of, stream_pieces};
+ghost use Rattle.edit_script.specs.Stream.{commits_text, line_text, pieces_of, record_of};
+ghost use Rattle.edit_script.specs.Stream.{stream_of, stream_pieces};
 
 /// A script has at most one reading.
 pub fn one_reading()
@@ -56,8 +61,8 @@ pub fn up_to_commit()
 /// The events with their commits taken out and one at the end: what stands there, and that it is the only commit.
 pub fn whole_events()
     ensures files { (es : List EventData) → (files : FilesData) → AreFilesAfter es files
-        → AreFilesAt (whole es) 1 files }
-    ensures count { (es : List EventData) → commit_count (whole es) ≡ 1 }
+        → AreFilesAt (as_one_commit es) 1 files }
+    ensures count { (es : List EventData) → commit_count (as_one_commit es) ≡ 1 }
 {}
 
 /// The commits of two lists of events are counted apart.

@@ -1,12 +1,14 @@
 // The changes from some outputs to others.
-ghost use Rattle.std.specs.Prelude.{◌≡◌, ◌<◌, ◌^◌, T, List, map, ◌++◌, length, None, IfOk, OnOk, MatchOption};
+ghost use Rattle.std.specs.Prelude.{◌≡◌, ◌<◌, ◌^◌, T, List, map, ◌++◌, length, None, IfOk, OnOk};
+ghost use Rattle.std.specs.Prelude.{MatchOption};
 ghost use Rattle.std.specs.List.{slice_get};
 ghost use Rattle.std.specs.Option.{option_copied, option_map};
 ghost use Rattle.std.specs.FinMap.{is_sorted};
 ghost use Rattle.std.specs.FinMap as finite;
 ghost use Rattle.tk_io.specs.Order.{text_cmp};
 ghost use Rattle.edit_script.specs.Delta.{Delta, ChangeData, IsDelta};
-ghost use Rattle.edit_script.specs.inner.Merge.{Entries, AreChanges, IsStep, found_changes, shown, shown_entry};
+ghost use Rattle.edit_script.specs.inner.Merge.{Entries, AreChanges, IsStep, found_changes};
+ghost use Rattle.edit_script.specs.inner.Merge.{outputs_view, lent_view};
 ghost use Rattle.edit_script.specs.View.{with_line};
 
 use crate::record_line::{file_line, gone_line};
@@ -31,10 +33,13 @@ type Entry = (String, Bytes);
 
 // The changes from one list of entries in path order to another.
 fn merge<'a>(alloc: Global, old: &'a [Entry], new: &'a [Entry]) -> Result<Changes<'a>, NoMemory>
-    requires old { T (is_sorted text_cmp (shown old.now)) × (length (shown old.now) < 2 ^ 64) }
-    requires new { T (is_sorted text_cmp (shown new.now)) × (length (shown new.now) < 2 ^ 64) }
+    requires old { T (is_sorted text_cmp (outputs_view old.now))
+        × (length (outputs_view old.now) < 2 ^ 64) }
+    requires new { T (is_sorted text_cmp (outputs_view new.now))
+        × (length (outputs_view new.now) < 2 ^ 64) }
     ensures { IfOk result
-        (λ cs. (ds : List ChangeData) × AreChanges (shown old.entry.now) (shown new.entry.now) ds
+        (λ cs. (ds : List ChangeData)
+        × AreChanges (outputs_view old.entry.now) (outputs_view new.entry.now) ds
         × (cs ≡ map with_line ds)) }
 {
     let mut changes = Changes::new(alloc);
@@ -57,7 +62,7 @@ fn entry_at(entries: &[Entry], i: usize) -> Option<&Entry>
 
 // Its path and its bytes.
 fn output_at(entries: &[Entry], i: usize) -> Option<(&str, &[u8])>
-    ensures { option_map shown_entry result ≡ slice_get (shown entries.now) i }
+    ensures { option_map lent_view result ≡ slice_get (outputs_view entries.now) i }
 {
     match entry_at(entries, i) {
         Some((path, body)) => Some((path.as_str(), body.as_slice())),
@@ -79,7 +84,10 @@ fn first_found<'a>(
     new: Option<(&'a str, &'a [u8])>,
 ) -> Option<(Found<'a>, usize, usize)>
     ensures { MatchOption result ((old.entry ≡ None) × (new.entry ≡ None))
-        (λ s. (os : Entries) → (ns : Entries) → slice_get os 0 ≡ option_map shown_entry old.entry → slice_get ns 0 ≡ option_map shown_entry new.entry → IsStep os ns (found_changes s.0) s.1 s.2) }
+        (λ s. (os : Entries) → (ns : Entries)
+        → slice_get os 0 ≡ option_map lent_view old.entry
+        → slice_get ns 0 ≡ option_map lent_view new.entry
+        → IsStep os ns (found_changes s.0) s.1 s.2) }
 {
     let Some((old_path, old_bytes)) = old else {
         let (path, bytes) = new?;

@@ -1,7 +1,8 @@
 // Reading a script.
 ghost use Rattle.std.specs.Prelude.{◌≡◌, ℕ, List, ◌++◌, ◌∷◌, Err, IfOk, MatchOption, length};
 ghost use Rattle.std.specs.Fmt.{decimal};
-ghost use Rattle.edit_script.specs.Script.{EventData, EventFits, IsScript, IsScriptEnd, event_text, put};
+ghost use Rattle.edit_script.specs.Script.{EventData, EventFits, IsScript, IsScriptEnd, event_text};
+ghost use Rattle.edit_script.specs.Script.{put};
 ghost use Rattle.edit_script.specs.View.{event_view};
 ghost use Rattle.edit_script.specs.inner.Line.{first_line, behind_line};
 ghost use Rattle.edit_script.specs.declared.script.ScriptStop.TheVariants.{NoMemory as OutOfMemory};
@@ -17,7 +18,7 @@ use tk_io::NoMemory;
 /// Why a text gives no events.
 #[derive(Debug, Drop, Error)]
 pub enum ScriptStop {
-    /// The text has no reading. It is refused at this byte, counted from 0: the end of its longest front that is a
+    /// The text has no reading. It is refused at this byte, counted from 0: the end of its longest prefix that is a
     /// header with whole events, or 0 where the header is not there.
     #[error("bad script at byte {0}")]
     BadScript(usize),
@@ -64,7 +65,7 @@ pub fn read_script<'s>(alloc: Global, text: &'s str) -> Result<Events<'s>, Scrip
     Ok(events)
 }
 
-/// The event at the front of the text, and what is left behind it; none where no event stands there.
+/// The event at the start of the text, and what is left behind it; none where no event stands there.
 fn next_event(text: &str) -> Option<(Event<'_>, &str)>
     ensures { MatchOption result ((e : EventData) → (rest : List ℕ) → EventFits e
         → text.now ≡ event_text e ++ rest → ⊥)
@@ -74,11 +75,13 @@ fn next_event(text: &str) -> Option<(Event<'_>, &str)>
     event_of_line(line, behind)
 }
 
-/// The event with this line, whose text stands at the front of what is behind the line.
+/// The event with this line, whose text stands at the start of what is behind the line.
 fn event_of_line<'s>(line: &'s str, behind: &'s str) -> Option<(Event<'s>, &'s str)>
     ensures { MatchOption result ((e : EventData) → (rest : List ℕ) → EventFits e
         → line.entry.now ≡ first_line e → behind.entry.now ≡ behind_line e ++ rest → ⊥)
-        (λ p. (line.entry.now ≡ first_line (event_view p.0)) × (behind.entry.now ≡ behind_line (event_view p.0) ++ p.1.now) × EventFits (event_view p.0)) }
+        (λ p. (line.entry.now ≡ first_line (event_view p.0))
+        × (behind.entry.now ≡ behind_line (event_view p.0) ++ p.1.now)
+        × EventFits (event_view p.0)) }
 {
     if line == "commit" {
         return Some((Event::Commit, behind));
@@ -98,7 +101,9 @@ fn put_text<'s>(words: &'s str, behind: &'s str) -> Option<(&'s str, &'s str, &'
     ensures { MatchOption result ((path : List ℕ) → (text : List ℕ) → (rest : List ℕ)
         → EventFits (put path text) → words.entry.now ≡ path ++ 32 ∷ decimal (length text)
         → behind.entry.now ≡ text ++ 10 ∷ rest → ⊥)
-        (λ p. (words.entry.now ≡ p.0.now ++ 32 ∷ decimal (length p.1.now)) × (behind.entry.now ≡ p.1.now ++ 10 ∷ p.2.now) × EventFits (put p.0.now p.1.now)) }
+        (λ p. (words.entry.now ≡ p.0.now ++ 32 ∷ decimal (length p.1.now))
+        × (behind.entry.now ≡ p.1.now ++ 10 ∷ p.2.now)
+        × EventFits (put p.0.now p.1.now)) }
 {
     let (path, digits) = cut_at_first(words, ' ')?;
     if !is_path(path) {

@@ -1,7 +1,7 @@
 // The line of a commit in the short statistics, and its numbers.
 ghost use Rattle.std.specs.Prelude.{◌≡◌, ◌≤◌, [], ◌∷◌};
 ghost use Rattle.edit_script.specs.View.{change_view};
-ghost use Rattle.edit_script.specs.Stats.{bare, gone_count, short_line};
+ghost use Rattle.edit_script.specs.Stats.{without_lines, gone_count, short_line};
 
 use crate::{Change, Changes, Line};
 
@@ -18,7 +18,7 @@ fn gone_by(change: &Change<'_>) -> usize
 
 // How many of the changes are of outputs that are held no more.
 fn gone_count(changes: &Changes<'_>) -> usize
-    ensures { result ≡ gone_count (bare changes.now) }
+    ensures { result ≡ gone_count (without_lines changes.now) }
 {
     let mut count = 0;
     for change in changes.as_slice() {
@@ -29,7 +29,7 @@ fn gone_count(changes: &Changes<'_>) -> usize
 
 /// The line of the commit with this number and these changes in the short statistics.
 pub fn short_line(commit: u64, changes: &Changes<'_>) -> Line
-    ensures { result ≡ short_line commit (bare changes.now) }
+    ensures { result ≡ short_line commit (without_lines changes.now) }
 {
     let gone = gone_count(changes);
     Line::Short {

@@ -4,7 +4,8 @@
 //! and each law below is a function with an empty body that holds for every such type.
 #![tactic(auto)]
 
-ghost use Rattle.grammar.specs.Laws.{FrontsArePrefixes, FrontsGoOnBy, SteeredReadsOnce, StopsAreExact, ReadingsEnd};
+ghost use Rattle.grammar.specs.Laws.{FrontsArePrefixes, FrontsGoOnBy, SteeredReadsOnce};
+ghost use Rattle.grammar.specs.Laws.{StopsAreExact, ReadingsEnd};
 
 /// A text is a front of what a rule derives exactly where some text goes on from it to a derived one.
 pub fn fronts_are_prefixes<Name>()

@@ -1,2 +1,2 @@
-pub mod MarkLaws
-pub mod RunLaws
+mod MarkLaws
+mod RunLaws

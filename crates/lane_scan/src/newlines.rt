@@ -1,6 +1,7 @@
 //! The newlines of a text: how many, and the last.
 
-ghost use Rattle.std.specs.Prelude.{◌≡◌, ◌≢◌, ◌+◌, ◌<◌, ◌≤◌, length, drop, count_by, slice_get, All, IfSome, IfNone};
+ghost use Rattle.std.specs.Prelude.{◌≡◌, ◌≢◌, ◌+◌, ◌<◌, ◌≤◌, length, drop, count_by, slice_get};
+ghost use Rattle.std.specs.Prelude.{All, IfSome, IfNone};
 ghost use Rattle.lane_scan.specs.Bytes.{is_newline};
 
 use crate::blocks::{BLOCK, newline_bits};

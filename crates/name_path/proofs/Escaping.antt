@@ -3,7 +3,7 @@ use Rattle.std.proofs.Common.{◌≡◌, ◌≢◌, ℕ, Bool, true, false, List
 use Rattle.std.proofs.lemmas.Bool.{cases_eq, eq-eqb}
 use Rattle.std.proofs.lemmas.Bool.Decides.{nat_tests}
 use Rattle.std.proofs.lemmas.List.Elements.{All-append, All-cons, All-nil, All-head, All-tail}
-use Rattle.name_path.specs.Reference.{escaped}
+use Rattle.name_path.specs.Reference.{escaped_step}
 use Rattle.name_path.specs.inner.Pieces.{EachLacks}
 
 -- a byte of a step
@@ -67,29 +67,29 @@ esc_some x u (plain p o e) h = (let k : x ∷ u ≡ [] = ap (λ (z : List ℕ). 
 -- What follows the spelling of the first bytes is the spelling of the others.
 pub record Left (r : List ℕ) : Type 0 where
   pub rest : List ℕ
-  pub spelled : r ≡ escaped rest
+  pub spelled : r ≡ escaped_step rest
 
-pub spelled_left : (xs other r : List ℕ) → escaped xs ++ r ≡ escaped other → Left r
+pub spelled_left : (xs other r : List ℕ) → escaped_step xs ++ r ≡ escaped_step other → Left r
 spelled_left [] other r e = record { rest = other; spelled = e }
-spelled_left (x ∷ xs) [] r e = absurd (esc_some x (escaped xs ++ r) (esc_of x) (sym (append_assoc (esc x) (escaped xs) r) ∙ e))
+spelled_left (x ∷ xs) [] r e = absurd (esc_some x (escaped_step xs ++ r) (esc_of x) (sym (append_assoc (esc x) (escaped_step xs) r) ∙ e))
 spelled_left (x ∷ xs) (y ∷ ys) r e =
-    spelled_left xs ys r (esc_head x y (escaped xs ++ r) (escaped ys) (esc_of x) (esc_of y) (sym (append_assoc (esc x) (escaped xs) r) ∙ e)).1
+    spelled_left xs ys r (esc_head x y (escaped_step xs ++ r) (escaped_step ys) (esc_of x) (esc_of y) (sym (append_assoc (esc x) (escaped_step xs) r) ∙ e)).1
 
-pub one_step : (xs ys : List ℕ) → escaped xs ≡ escaped ys → xs ≡ ys
+pub one_step : (xs ys : List ℕ) → escaped_step xs ≡ escaped_step ys → xs ≡ ys
 one_step [] [] e = refl
-one_step [] (y ∷ ys) e = absurd (esc_some y (escaped ys) (esc_of y) (sym e))
-one_step (x ∷ xs) [] e = absurd (esc_some x (escaped xs) (esc_of x) e)
+one_step [] (y ∷ ys) e = absurd (esc_some y (escaped_step ys) (esc_of y) (sym e))
+one_step (x ∷ xs) [] e = absurd (esc_some x (escaped_step xs) (esc_of x) e)
 one_step (x ∷ xs) (y ∷ ys) e =
-    let h = esc_head x y (escaped xs) (escaped ys) (esc_of x) (esc_of y) e in
+    let h = esc_head x y (escaped_step xs) (escaped_step ys) (esc_of x) (esc_of y) e in
     ap (λ (z : ℕ). z ∷ xs) h.0 ∙ ap (λ (zs : List ℕ). y ∷ zs) (one_step xs ys h.1)
 
-pub one_steps : (xs ys : List (List ℕ)) → map escaped xs ≡ map escaped ys → xs ≡ ys
+pub one_steps : (xs ys : List (List ℕ)) → map escaped_step xs ≡ map escaped_step ys → xs ≡ ys
 one_steps [] [] e = refl
 one_steps [] (y ∷ ys) e = absurd (cc)
 one_steps (x ∷ xs) [] e = absurd (cc)
 one_steps (x ∷ xs) (y ∷ ys) e =
-    let h : escaped x ≡ escaped y = cc in
-    let t : map escaped xs ≡ map escaped ys = cc in
+    let h : escaped_step x ≡ escaped_step y = cc in
+    let t : map escaped_step xs ≡ map escaped_step ys = cc in
     ap (λ (z : List ℕ). z ∷ xs) (one_step x y h) ∙ ap (λ (zs : List (List ℕ)). y ∷ zs) (one_steps xs ys t)
 
 esc_lacks : (x : ℕ) → Esc x → All (λ b. b ≢ 47) (esc x)
@@ -98,34 +98,34 @@ esc_lacks x (slash p e) = subst (All (λ b. b ≢ 47)) (sym e) (All-cons (λ b. 
 esc_lacks x (plain p o e) = subst (All (λ b. b ≢ 47)) (sym e) (All-cons (λ b. b ≢ 47) x [] o (All-nil (λ b. b ≢ 47)))
 
 -- no spelling of a step has a '/'
-escaped_lacks : (xs : List ℕ) → All (λ b. b ≢ 47) (escaped xs)
+escaped_lacks : (xs : List ℕ) → All (λ b. b ≢ 47) (escaped_step xs)
 escaped_lacks [] = All-nil (λ b. b ≢ 47)
-escaped_lacks (x ∷ xs) = All-append (λ b. b ≢ 47) (esc x) (escaped xs) (esc_lacks x (esc_of x)) (escaped_lacks xs)
+escaped_lacks (x ∷ xs) = All-append (λ b. b ≢ 47) (esc x) (escaped_step xs) (esc_lacks x (esc_of x)) (escaped_lacks xs)
 
-pub all_escaped_lack : (xs : List (List ℕ)) → EachLacks 47 (map escaped xs)
+pub all_escaped_lack : (xs : List (List ℕ)) → EachLacks 47 (map escaped_step xs)
 all_escaped_lack [] = All-nil (λ text. All (λ b. b ≢ 47) text)
-all_escaped_lack (x ∷ xs) = All-cons (λ text. All (λ b. b ≢ 47) text) (escaped x) (map escaped xs) (escaped_lacks x) (all_escaped_lack xs)
+all_escaped_lack (x ∷ xs) = All-cons (λ text. All (λ b. b ≢ 47) text) (escaped_step x) (map escaped_step xs) (escaped_lacks x) (all_escaped_lack xs)
 
 -- what has neither '~' nor '/' spells itself
-pub spells_itself : (xs : List ℕ) → All (λ b. b ≢ 47) xs → All (λ b. b ≢ 126) xs → escaped xs ≡ xs
+pub spells_itself : (xs : List ℕ) → All (λ b. b ≢ 47) xs → All (λ b. b ≢ 126) xs → escaped_step xs ≡ xs
 spells_itself [] h k = refl
 spells_itself (x ∷ xs) h k = self (esc_of x) ∙ ap (λ (zs : List ℕ). x ∷ zs) (spells_itself xs (All-tail (λ b. b ≢ 47) x xs h) (All-tail (λ b. b ≢ 126) x xs k))
   where
-    self : Esc x → escaped (x ∷ xs) ≡ x ∷ escaped xs
+    self : Esc x → escaped_step (x ∷ xs) ≡ x ∷ escaped_step xs
     self (tilde p e) = absurd (All-head (λ b. b ≢ 126) x xs k p)
     self (slash p e) = absurd (All-head (λ b. b ≢ 47) x xs h p)
-    self (plain p o e) = ap (λ (z : List ℕ). z ++ escaped xs) e
+    self (plain p o e) = ap (λ (z : List ℕ). z ++ escaped_step xs) e
 
-pub escaped_append : (xs ys : List ℕ) → escaped (xs ++ ys) ≡ escaped xs ++ escaped ys
+pub escaped_append : (xs ys : List ℕ) → escaped_step (xs ++ ys) ≡ escaped_step xs ++ escaped_step ys
 escaped_append [] ys = refl
-escaped_append (x ∷ xs) ys = ap (λ (z : List ℕ). esc x ++ z) (escaped_append xs ys) ∙ sym (append_assoc (esc x) (escaped xs) (escaped ys))
+escaped_append (x ∷ xs) ys = ap (λ (z : List ℕ). esc x ++ z) (escaped_append xs ys) ∙ sym (append_assoc (esc x) (escaped_step xs) (escaped_step ys))
 
 -- No step spells a '~' that begins no escape.
-pub no_spelling : (behind other : List ℕ) → 126 ∷ behind ≡ escaped other → ((rest : List ℕ) → (behind ≢ 48 ∷ rest) × (behind ≢ 49 ∷ rest)) → ⊥
+pub no_spelling : (behind other : List ℕ) → 126 ∷ behind ≡ escaped_step other → ((rest : List ℕ) → (behind ≢ 48 ∷ rest) × (behind ≢ 49 ∷ rest)) → ⊥
 no_spelling behind [] e none = (cc)
 no_spelling behind (y ∷ ys) e none = from (esc_of y)
   where
     from : Esc y → ⊥
-    from (tilde p f) = (let k : 126 ∷ behind ≡ 126 ∷ 48 ∷ escaped ys = e ∙ ap (λ (z : List ℕ). z ++ escaped ys) f in let t : behind ≡ 48 ∷ escaped ys = cc in (none (escaped ys)).0 t)
-    from (slash p f) = (let k : 126 ∷ behind ≡ 126 ∷ 49 ∷ escaped ys = e ∙ ap (λ (z : List ℕ). z ++ escaped ys) f in let t : behind ≡ 49 ∷ escaped ys = cc in (none (escaped ys)).1 t)
-    from (plain p o f) = (let k : 126 ∷ behind ≡ y ∷ escaped ys = e ∙ ap (λ (z : List ℕ). z ++ escaped ys) f in let n : y ≡ 126 = cc in p n)
+    from (tilde p f) = (let k : 126 ∷ behind ≡ 126 ∷ 48 ∷ escaped_step ys = e ∙ ap (λ (z : List ℕ). z ++ escaped_step ys) f in let t : behind ≡ 48 ∷ escaped_step ys = cc in (none (escaped_step ys)).0 t)
+    from (slash p f) = (let k : 126 ∷ behind ≡ 126 ∷ 49 ∷ escaped_step ys = e ∙ ap (λ (z : List ℕ). z ++ escaped_step ys) f in let t : behind ≡ 49 ∷ escaped_step ys = cc in (none (escaped_step ys)).1 t)
+    from (plain p o f) = (let k : 126 ∷ behind ≡ y ∷ escaped_step ys = e ∙ ap (λ (z : List ℕ). z ++ escaped_step ys) f in let n : y ≡ 126 = cc in p n)

@@ -5,7 +5,7 @@ use Rattle.std.proofs.lemmas.Bool.{cases_eq, eq-eqb}
 use Rattle.std.proofs.lemmas.Bool.Decides.{nat_tests}
 use Rattle.std.proofs.lemmas.List.Elements.{All-cons, All-nil, All-head, All-tail}
 use Rattle.std.proofs.lemmas.List.Splits.{slice_split_none, slice_split_at, slice_split-cons_yes, slice_split-cons_no}
-use Rattle.name_path.specs.Reference.{escaped, pointer_text, path_text, curly_text}
+use Rattle.name_path.specs.Reference.{escaped_step, pointer_text, path_text, curly_text}
 use Rattle.name_path.specs.inner.Pieces.{EachLacks, ArePlain}
 use Rattle.name_path.proofs.Escaping.{distinct, one_steps, all_escaped_lack}
 
@@ -53,9 +53,9 @@ append_nil [] = refl
 append_nil (x ∷ xs) = ap (λ (zs : List ℕ). x ∷ zs) (append_nil xs)
 
 -- the steps of a pointer are joined by '/'
-pub steps_join : (s : List ℕ) (ss : List (List ℕ)) → flat_map (λ step. 47 ∷ escaped step) (s ∷ ss) ≡ 47 ∷ join_with_byte 47 (map escaped (s ∷ ss))
-steps_join s [] = append_nil (47 ∷ escaped s)
-steps_join s (t ∷ ts) = ap (λ (zs : List ℕ). (47 ∷ escaped s) ++ zs) (steps_join t ts)
+pub steps_join : (s : List ℕ) (ss : List (List ℕ)) → flat_map (λ step. 47 ∷ escaped_step step) (s ∷ ss) ≡ 47 ∷ join_with_byte 47 (map escaped_step (s ∷ ss))
+steps_join s [] = append_nil (47 ∷ escaped_step s)
+steps_join s (t ∷ ts) = ap (λ (zs : List ℕ). (47 ∷ escaped_step s) ++ zs) (steps_join t ts)
 
 -- names joined by '.'
 pub names_join : (x : List ℕ) (xs : List (List ℕ)) → x ++ flat_map (λ name. 46 ∷ name) xs ≡ path_text (x ∷ xs)
@@ -67,12 +67,12 @@ one_pointer [] [] e = refl
 one_pointer [] (y ∷ ys) e = absurd (cc)
 one_pointer (x ∷ xs) [] e = absurd (cc)
 one_pointer (x ∷ xs) (y ∷ ys) e =
-    let flat : flat_map (λ step. 47 ∷ escaped step) (x ∷ xs) ≡ flat_map (λ step. 47 ∷ escaped step) (y ∷ ys) = cc in
-    let joined : 47 ∷ join_with_byte 47 (map escaped (x ∷ xs)) ≡ 47 ∷ join_with_byte 47 (map escaped (y ∷ ys)) = sym (steps_join x xs) ∙ (flat ∙ steps_join y ys) in
-    let rest : join_with_byte 47 (map escaped (x ∷ xs)) ≡ join_with_byte 47 (map escaped (y ∷ ys)) = cc in
+    let flat : flat_map (λ step. 47 ∷ escaped_step step) (x ∷ xs) ≡ flat_map (λ step. 47 ∷ escaped_step step) (y ∷ ys) = cc in
+    let joined : 47 ∷ join_with_byte 47 (map escaped_step (x ∷ xs)) ≡ 47 ∷ join_with_byte 47 (map escaped_step (y ∷ ys)) = sym (steps_join x xs) ∙ (flat ∙ steps_join y ys) in
+    let rest : join_with_byte 47 (map escaped_step (x ∷ xs)) ≡ join_with_byte 47 (map escaped_step (y ∷ ys)) = cc in
     one_steps (x ∷ xs) (y ∷ ys)
-    (sym (split_join 47 (escaped x) (map escaped xs) (all_escaped_lack (x ∷ xs)))
-    ∙ (ap (slice_split (λ b. b == 47)) rest ∙ split_join 47 (escaped y) (map escaped ys) (all_escaped_lack (y ∷ ys))))
+    (sym (split_join 47 (escaped_step x) (map escaped_step xs) (all_escaped_lack (x ∷ xs)))
+    ∙ (ap (slice_split (λ b. b == 47)) rest ∙ split_join 47 (escaped_step y) (map escaped_step ys) (all_escaped_lack (y ∷ ys))))
 
 pub one_front : (xs ys : List ℕ) (c : ℕ) → xs ++ c ∷ [] ≡ ys ++ c ∷ [] → xs ≡ ys
 one_front [] [] c e = refl

@@ -3,7 +3,7 @@ use Rattle.std.proofs.Common.{◌≡◌, ◌≢◌, ℕ, List, [], ◌∷◌, �
 use Rattle.std.proofs.lemmas.List.Elements.{All-append, All-cons, All-nil, All-head, All-tail}
 use Rattle.name_path.specs.Names.{IsName, root_name, AreNames, IsTokenPath}
 use Rattle.name_path.specs.Reference.{pointer_text, curly_text, place_text, value_step, SpellsPath, SpellsPlace, SpellsGroup}
-use Rattle.name_path.specs.inner.Pieces.{EachLacks, ArePlain, LacksStep, IsCut}
+use Rattle.name_path.specs.inner.Pieces.{EachLacks, ArePlain, LacksStep, IsValueCut}
 use Rattle.name_path.specs.declared.place.Place.{Place}
 use Rattle.name_path.proofs.Escaping.{distinct}
 use Rattle.name_path.proofs.Joins.{one_pointer, one_curly, apart_texts}
@@ -102,10 +102,10 @@ one_group text path other s t = both s.1 t.1
     both (inr e) (inr f) = one_curly path other (e.0, names_plain path s.0) (f.0, names_plain other t.0) (sym e.1 ∙ f.1)
 
 module _ (text : List ℕ) (steps names rest : List (List ℕ)) where
-  pub place_found : text ≡ pointer_text steps → IsCut steps names rest → IsTokenPath names → SpellsPlace text (record { token = names; trail = rest })
+  pub place_found : text ≡ pointer_text steps → IsValueCut steps names rest → IsTokenPath names → SpellsPlace text (record { token = names; trail = rest })
   place_found e c t = (t, elim c.1 [ inl f ↦ inl (e ∙ ap pointer_text f) | inr f ↦ inr (f.1, e ∙ ap pointer_text f.0) ])
 
-  pub no_place : text ≡ pointer_text steps → IsCut steps names rest → (IsTokenPath names → ⊥) → (place : Place) → SpellsPlace text place → ⊥
+  pub no_place : text ≡ pointer_text steps → IsValueCut steps names rest → (IsTokenPath names → ⊥) → (place : Place) → SpellsPlace text place → ⊥
   no_place e c not place s = from c.1 s.1
     where
       from : (steps ≡ names ++ value_step ∷ rest) ⊎ ((steps ≡ names) × (rest ≡ [])) → (text ≡ place_text place) ⊎ ((place.trail ≡ []) × (text ≡ pointer_text place.token)) → ⊥

@@ -6,12 +6,12 @@ use Rattle.name_path.specs.Names.{AreNames, IsTokenPath}
 use Rattle.name_path.specs.declared.place.Place.{Place}
 
 -- a step of a pointer, with '~' as "~0" and '/' as "~1" (RFC 6901 section 3)
-abbrev pub escaped : List ℕ → List ℕ
-escaped step = flat_map (λ b. if b == tilde then codes "~0" else if b == solidus then codes "~1" else b ∷ []) step
+abbrev pub escaped_step : List ℕ → List ℕ
+escaped_step step = flat_map (λ b. if b == tilde then codes "~0" else if b == solidus then codes "~1" else b ∷ []) step
 
 -- '#' and each step after a '/'
 abbrev pub pointer_text : List (List ℕ) → List ℕ
-pointer_text steps = number_sign ∷ flat_map (λ step. solidus ∷ escaped step) steps
+pointer_text steps = number_sign ∷ flat_map (λ step. solidus ∷ escaped_step step) steps
 
 -- names joined by '.'
 abbrev pub path_text : List (List ℕ) → List ℕ

@@ -1,8 +1,9 @@
 // Escapes in the steps of a pointer (RFC 6901 section 3).
-ghost use Rattle.std.specs.Prelude.{◌≡◌, ◌≢◌, ◌↔◌, ◌++◌, ◌∷◌, ℕ, List, All, IsTrue, OnOk, OnErr, IfOk, IfSome, IfNone, IsErrOf, [], length, ◌<◌};
+ghost use Rattle.std.specs.Prelude.{◌≡◌, ◌≢◌, ◌↔◌, ◌++◌, ◌∷◌, ℕ, List, All, IsTrue, OnOk, OnErr};
+ghost use Rattle.std.specs.Prelude.{IfOk, IfSome, IfNone, IsErrOf, [], length, ◌<◌};
 ghost use Rattle.std.specs.String.{string_bytes};
 ghost use Rattle.tk_io.specs.Writing.{Extends};
-ghost use Rattle.name_path.specs.Reference.{escaped};
+ghost use Rattle.name_path.specs.Reference.{escaped_step};
 
 use crate::RefStop;
 use crate::pieces::around;
@@ -11,7 +12,7 @@ use tk_io::{Bytes, NoMemory, behind};
 
 /// What the escape behind a `~` stands for and what follows it, or none where there is no escape.
 fn behind_tilde<'a>(text: &'a str) -> Option<(&'static str, &'a str)>
-    ensures some { IfSome result (λ p. 126 ∷ text.entry.now ≡ escaped p.0.now ++ p.1.now) }
+    ensures some { IfSome result (λ p. 126 ∷ text.entry.now ≡ escaped_step p.0.now ++ p.1.now) }
     ensures shorter { IfSome result (λ p. length p.1.now < length text.entry.now) }
     ensures none { IfNone result ((rest : List ℕ)
         → (text.entry.now ≢ 48 ∷ rest) × (text.entry.now ≢ 49 ∷ rest)) }
@@ -35,8 +36,9 @@ fn add(step: &mut String, piece: &str) -> Result<(), NoMemory>
 /// The step that a segment without `/` spells, or `BadRef` where a `~` is no escape.
 pub fn unescaped(alloc: Global, segment: &str) -> Result<String, RefStop>
     requires { All (λ b. b ≢ 47) segment.now }
-    ensures step { IfOk result (λ step. segment.now ≡ escaped (string_bytes step)) }
-    ensures bad { IsErrOf result RefStop.BadRef → (step : List ℕ) → segment.now ≢ escaped step }
+    ensures step { IfOk result (λ step. segment.now ≡ escaped_step (string_bytes step)) }
+    ensures bad { IsErrOf result RefStop.BadRef
+        → (step : List ℕ) → segment.now ≢ escaped_step step }
 {
     let mut step = String::new(alloc);
     let mut left = segment;
@@ -53,7 +55,7 @@ pub fn unescaped(alloc: Global, segment: &str) -> Result<String, RefStop>
 }
 
 fn append_byte(byte: u8, out: &mut Bytes) -> Result<(), NoMemory>
-    ensures ok { OnOk result (out.new ≡ out.old ++ escaped (byte ∷ [])) }
+    ensures ok { OnOk result (out.new ≡ out.old ++ escaped_step (byte ∷ [])) }
     ensures err { OnErr result (out.new ≡ out.old) }
 {
     match byte {
@@ -64,7 +66,7 @@ fn append_byte(byte: u8, out: &mut Bytes) -> Result<(), NoMemory>
 }
 
 fn append_bytes(step: &[u8], out: &mut Bytes) -> Result<(), NoMemory>
-    ensures ok { OnOk result (out.new ≡ out.old ++ escaped step.now) }
+    ensures ok { OnOk result (out.new ≡ out.old ++ escaped_step step.now) }
     ensures err { OnErr result (Extends out.old out.new) }
 {
     for byte in step {
@@ -81,7 +83,7 @@ fn is_plain(step: &[u8]) -> bool
 
 /// Appends a step with `~` as `~0` and `/` as `~1`; of a refusal a part may stay.
 pub fn append_escaped(step: &str, out: &mut Bytes) -> Result<(), NoMemory>
-    ensures ok { OnOk result (out.new ≡ out.old ++ escaped step.now) }
+    ensures ok { OnOk result (out.new ≡ out.old ++ escaped_step step.now) }
     ensures err { OnErr result (Extends out.old out.new) }
 {
     let bytes = step.as_bytes();

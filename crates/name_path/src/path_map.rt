@@ -7,7 +7,7 @@ ghost use Rattle.std.specs.Option.{option_copied, option_map};
 ghost use Rattle.tk_io.specs.Entries.{PutsEntry};
 ghost use Rattle.tk_io.specs.Order.{names_cmp};
 ghost use Rattle.tk_io.specs.Search.{IsKeyPlace};
-ghost use Rattle.tk_io.specs.Shown.{shown_by};
+ghost use Rattle.tk_io.specs.View.{entries_view};
 
 use crate::Path;
 use std::alloc::Global;
@@ -28,20 +28,21 @@ impl<'s, V> Model for PathMap<'s, V> {
     ghost use Rattle.std.specs.FinMap.{is_sorted};
     ghost use Rattle.std.specs.Coded.{coded_list, coded_ℕ};
     ghost use Rattle.tk_io.specs.Order.{names_cmp};
-    ghost use Rattle.tk_io.specs.Shown.{shown_by};
+    ghost use Rattle.tk_io.specs.View.{entries_view};
 
     ghost Value = { map.FinMap names_cmp V };
 
     ghost coded = { map.code (coded_list (coded_list coded_ℕ)) V.code };
 
-    ghost view = { λ m. map.from_sorted (shown_by (λ k. k) (λ v. v) m.entries.items) };
+    ghost view = { λ m. map.from_sorted (entries_view (λ k. k) (λ v. v) m.entries.items) };
 
-    ghost invariant = { λ m. T (is_sorted names_cmp (shown_by (λ k. k) (λ v. v) m.entries.items)) };
+    ghost invariant = { λ m.
+        T (is_sorted names_cmp (entries_view (λ k. k) (λ v. v) m.entries.items)) };
 }
 
 // Where the path stands among entries whose paths rise, or where it belongs.
 fn place_of<'s, V>(entries: &[(Path<'s>, V)], path: &Path<'s>) -> Result<usize, usize>
-    requires { T (is_sorted names_cmp (shown_by (λ k. k) (λ v. v) entries.now)) }
+    requires { T (is_sorted names_cmp (entries_view (λ k. k) (λ v. v) entries.now)) }
     ensures { IsKeyPlace (λ e. names_cmp e.0 path.now) entries.now result }
 {
     let Some(last) = entries.last() else {
@@ -54,7 +55,7 @@ fn place_of<'s, V>(entries: &[(Path<'s>, V)], path: &Path<'s>) -> Result<usize, 
 }
 
 fn place_by_halves<'s, V>(entries: &[(Path<'s>, V)], path: &Path<'s>) -> Result<usize, usize>
-    requires { T (is_sorted names_cmp (shown_by (λ k. k) (λ v. v) entries.now)) }
+    requires { T (is_sorted names_cmp (entries_view (λ k. k) (λ v. v) entries.now)) }
     ensures { IsKeyPlace (λ e. names_cmp e.0 path.now) entries.now result }
 {
     let mut low = 0;
@@ -114,7 +115,7 @@ impl<'s, V> PathMap<'s, V> {
 
     /// The entries, in path order.
     pub fn as_slice(&self) -> &[(Path<'s>, V)]
-        ensures { shown_by (λ k. k) (λ v. v) result.now ≡ map.entries self.now }
+        ensures { entries_view (λ k. k) (λ v. v) result.now ≡ map.entries self.now }
     {
         self.entries.as_slice()
     }

@@ -2,7 +2,7 @@
 ghost use Rattle.std.specs.Prelude.{◌≡◌, ◌++◌, ◌∷◌, OnOk, OnErr};
 ghost use Rattle.std.specs.List.{flat_map};
 ghost use Rattle.tk_io.specs.Writing.{Extends};
-ghost use Rattle.name_path.specs.Reference.{escaped, path_text, pointer_text, place_text};
+ghost use Rattle.name_path.specs.Reference.{escaped_step, path_text, pointer_text, place_text};
 
 use crate::escapes::append_escaped;
 use crate::{Path, Place};
@@ -31,7 +31,8 @@ fn append_path(names: &[Text<'_>], out: &mut Bytes) -> Result<(), NoMemory>
 }
 
 fn append_steps(steps: &[Text<'_>], out: &mut Bytes) -> Result<(), NoMemory>
-    ensures ok { OnOk result (out.new ≡ out.old ++ flat_map (λ step. 47 ∷ escaped step) steps.now) }
+    ensures ok { OnOk result
+        (out.new ≡ out.old ++ flat_map (λ step. 47 ∷ escaped_step step) steps.now) }
     ensures err { OnErr result (Extends out.old out.new) }
 {
     for step in steps {

@@ -1,8 +1,10 @@
 // Readers of references.
-ghost use Rattle.std.specs.Prelude.{◌≡◌, ◌≢◌, ◌++◌, ◌∷◌, [], ℕ, ◌==◌, ◌<◌, List, All, IfOk, IfSome, IfNone, IsErrOf, MatchOption, map};
+ghost use Rattle.std.specs.Prelude.{◌≡◌, ◌≢◌, ◌++◌, ◌∷◌, [], ℕ, ◌==◌, ◌<◌, List, All, IfOk, IfSome};
+ghost use Rattle.std.specs.Prelude.{IfNone, IsErrOf, MatchOption, map};
 ghost use Rattle.name_path.specs.Names.{AreNames};
-ghost use Rattle.name_path.specs.Reference.{escaped, pointer_text, curly_text, SpellsPath, SpellsPlace, SpellsGroup};
-ghost use Rattle.name_path.specs.inner.Pieces.{ArePlain, EachLacks, IsCut};
+ghost use Rattle.name_path.specs.Reference.{escaped_step, pointer_text, curly_text, SpellsPath};
+ghost use Rattle.name_path.specs.Reference.{SpellsPlace, SpellsGroup};
+ghost use Rattle.name_path.specs.inner.Pieces.{ArePlain, EachLacks, IsValueCut};
 ghost use Rattle.name_path.specs.declared.place.Place.{Place};
 ghost use Rattle.name_path.specs.declared.reading.RefStop.TheVariants.{NoMemory as OutOfMemory};
 
@@ -68,8 +70,9 @@ pub fn read_curly<'s>(alloc: Global, text: &Text<'s>) -> Result<Path<'s>, RefSto
 /// The step that a segment without `/` spells. One without `~` spells itself.
 fn step_of<'s>(alloc: Global, segment: &Text<'s>) -> Result<Text<'s>, RefStop>
     requires { All (λ b. b ≢ 47) segment.now }
-    ensures step { IfOk result (λ step. segment.now ≡ escaped step) }
-    ensures bad { IsErrOf result RefStop.BadRef → (step : List ℕ) → segment.now ≢ escaped step }
+    ensures step { IfOk result (λ step. segment.now ≡ escaped_step step) }
+    ensures bad { IsErrOf result RefStop.BadRef
+        → (step : List ℕ) → segment.now ≢ escaped_step step }
 {
     match around(segment.as_str(), '~') {
         None => Ok(segment.copy()?),
@@ -83,9 +86,9 @@ fn step_of<'s>(alloc: Global, segment: &Text<'s>) -> Result<Text<'s>, RefStop>
 /// The steps that the segments spell.
 fn decoded<'s>(alloc: Global, segments: &[Text<'s>]) -> Result<Trail<'s>, RefStop>
     requires { EachLacks 47 segments.now }
-    ensures steps { IfOk result (λ steps. segments.now ≡ map escaped steps) }
+    ensures steps { IfOk result (λ steps. segments.now ≡ map escaped_step steps) }
     ensures bad { IsErrOf result RefStop.BadRef → (steps : List (List ℕ))
-        → segments.now ≢ map escaped steps }
+        → segments.now ≢ map escaped_step steps }
 {
     let mut steps = Trail::new(alloc);
     for segment in segments {
@@ -112,7 +115,7 @@ fn steps_of<'s>(alloc: Global, text: &Text<'s>) -> Result<Trail<'s>, RefStop>
 
 /// The steps before the first `$value` and those behind it, of which there are none where there is no `$value`.
 fn cut<'a, 's>(steps: &'a [Text<'s>]) -> (&'a [Text<'s>], &'a [Text<'s>])
-    ensures { IsCut steps.entry.now result.0.now result.1.now }
+    ensures { IsValueCut steps.entry.now result.0.now result.1.now }
 {
     for (at, step) in steps.iter().enumerate() {
         if step.as_str() == "$value" {

@@ -1,7 +1,10 @@
 // Trails of steps.
-ghost use Rattle.std.specs.Prelude.{◌≡◌, ◌==◌, ◌++◌, ◌∷◌, [], length, Some, IfOk, OnOk, OnErr, slice_get, option_map, refl};
+ghost use Rattle.std.specs.Prelude.{◌≡◌, ◌==◌, ◌++◌, ◌∷◌, [], length, Some, IfOk, OnOk, OnErr};
+ghost use Rattle.std.specs.Prelude.{slice_get, option_map, refl};
 ghost use Rattle.std.specs.Cmp as Cmp;
-ghost use Rattle.std.specs.Cmp.Lexicographic.{pointwise, nat_list_eq_equiv, nat_list_cmp_total, texts_ties, lists_equiv, lists_total, lists_ties, lists_per};
+ghost use Rattle.std.specs.Cmp.Lexicographic.{pointwise, nat_list_eq_equiv, nat_list_cmp_total};
+ghost use Rattle.std.specs.Cmp.Lexicographic.{texts_ties, lists_equiv, lists_total, lists_ties};
+ghost use Rattle.std.specs.Cmp.Lexicographic.{lists_per};
 ghost use Rattle.std.specs.Str.{bytes_eq};
 ghost use Rattle.tk_io.specs.Order.{text_cmp, names_cmp};
 
@@ -110,7 +113,8 @@ impl<'s> PartialOrd for Trail<'s> {
     ghost partial_cmp = { λ x y. Some (names_cmp x y) };
 
     ghost laws = { Cmp.partial_order_from_agreeing_total names_cmp
-        (lists_total nat_list_cmp_total) (λ x y. refl) (λ x y. lists_ties text_cmp texts_ties x y) };
+        (lists_total nat_list_cmp_total) (λ x y. refl)
+        (λ x y. lists_ties text_cmp texts_ties x y) };
 
     fn partial_cmp(&self, other: &Self) -> Option<Ordering> {
         Some(self.cmp(other))

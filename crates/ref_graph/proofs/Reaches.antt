@@ -7,7 +7,7 @@ use Rattle.std.proofs.lemmas.List.Folds.{list_any-append, list_any_at}
 use Rattle.std.proofs.lemmas.Map.Views.{list_any-from_Contains, Contains-from_any}
 use Rattle.ref_graph.specs.Edges.{is_in}
 use Rattle.ref_graph.specs.inner.Marking.{is_marked, Marking}
-use Rattle.ref_graph.specs.Walk.{targets_of, Walk, stays, goes, LeadsTo}
+use Rattle.ref_graph.specs.Walk.{targets_of, Walk, stays, goes, WalksTo}
 use Rattle.ref_graph.proofs.Sets.{neq, eq_self}
 
 either : (a b : Bool) → (a || b) ≡ true → (a ≡ true) ⊎ (b ≡ true)
@@ -75,7 +75,7 @@ module _ (edges : List (List ℕ)) (changed : List ℕ) where
   pub record Reaching (marks : List Bool) (waiting : List ℕ) : Type 0 where
     pub long : length marks ≡ length edges
     pub base : (v : ℕ) → is_in changed v ≡ true → is_marked marks v ≡ true
-    pub sound : (v : ℕ) → is_marked marks v ≡ true → LeadsTo edges changed v
+    pub sound : (v : ℕ) → is_marked marks v ≡ true → WalksTo edges changed v
     pub waits : (v : ℕ) → is_in waiting v ≡ true → is_marked marks v ≡ true
     pub closed : (w v : ℕ) → is_marked marks w ≡ true → is_in waiting w ≡ false → is_in (targets_of edges v) w ≡ true → is_marked marks v ≡ true
 
@@ -100,7 +100,7 @@ module _ (edges : List (List ℕ)) (changed : List ℕ) where
     advance r source m =
         let kept : (v : ℕ) → is_marked marks v ≡ true → is_marked marks' v ≡ true = λ v e. m.marked v ∙ true_or (is_marked marks v) (is_in keys v) e in
         let added : (v : ℕ) → is_in (targets_of edges v) node ≡ true → is_marked marks' v ≡ true = λ v e. m.marked v ∙ or_true (is_marked marks v) (is_in keys v) (source v ∙ e) in
-        let at_node : LeadsTo edges changed node = r.sound node (r.waits node (last_in rest node)) in
+        let at_node : WalksTo edges changed node = r.sound node (r.waits node (last_in rest node)) in
         record {
           long = m.long ∙ r.long;
           base = λ v i. kept v (r.base v i);
@@ -125,10 +125,10 @@ module _ (edges : List (List ℕ)) (changed : List ℕ) where
   walked marks r v u c stays = r.base v (is_in_from changed v c)
   walked marks r v u c (goes {w = w} i walk) = r.closed w v (walked marks r w u c walk) refl (is_in_from (targets_of edges v) w i)
 
-  pub found : (marks : List Bool) (nodes : List ℕ) → Reaching marks [] → ((v : ℕ) → is_in nodes v ≡ is_marked marks v) → (v : ℕ) → LeadsTo edges changed v → Contains nodes v
+  pub found : (marks : List Bool) (nodes : List ℕ) → Reaching marks [] → ((v : ℕ) → is_in nodes v ≡ is_marked marks v) → (v : ℕ) → WalksTo edges changed v → Contains nodes v
   found marks nodes r same v l = contains_from nodes v (same v ∙ walked marks r v l.0 l.1 l.2)
 
-  pub only : (marks : List Bool) (nodes : List ℕ) → Reaching marks [] → ((v : ℕ) → is_in nodes v ≡ is_marked marks v) → (v : ℕ) → Contains nodes v → LeadsTo edges changed v
+  pub only : (marks : List Bool) (nodes : List ℕ) → Reaching marks [] → ((v : ℕ) → is_in nodes v ≡ is_marked marks v) → (v : ℕ) → Contains nodes v → WalksTo edges changed v
   only marks nodes r same v c = r.sound v (sym (same v) ∙ is_in_from nodes v c)
 
   pub all_within : (marks : List Bool) (nodes : List ℕ) → Reaching marks [] → ((v : ℕ) → is_in nodes v ≡ is_marked marks v) → All (λ v. v < length edges) nodes

@@ -11,5 +11,5 @@ pub data Walk (edges : List (List ℕ)) : ℕ → ℕ → Type 0 where
   goes : {v w u : ℕ} → Contains (targets_of edges v) w → Walk edges w u → Walk edges v u
 
 -- a walk leads from the node to one of the ends
-abbrev pub LeadsTo : List (List ℕ) → List ℕ → ℕ → Type 0
-LeadsTo edges ends v = (u : ℕ) × Contains ends u × Walk edges v u
+abbrev pub WalksTo : List (List ℕ) → List ℕ → ℕ → Type 0
+WalksTo edges ends v = (u : ℕ) × Contains ends u × Walk edges v u

@@ -1,8 +1,9 @@
 // The graph and its calls.
-ghost use Rattle.std.specs.Prelude.{◌≡◌, ℕ, ◌<◌, ◌≤◌, [], length, replicate, slice_set, All, Contains, IfOk, OnOk, OnErr};
+ghost use Rattle.std.specs.Prelude.{◌≡◌, ℕ, ◌<◌, ◌≤◌, [], length, replicate, slice_set, All};
+ghost use Rattle.std.specs.Prelude.{Contains, IfOk, OnOk, OnErr};
 ghost use Rattle.std.specs.List.Sorted.{IsStrictlyIncreasing};
 ghost use Rattle.ref_graph.specs.Edges.{rows_of, IsReversed};
-ghost use Rattle.ref_graph.specs.Walk.{LeadsTo};
+ghost use Rattle.ref_graph.specs.Walk.{WalksTo};
 
 use crate::marks::{listed, mark_all, mark_sources};
 use crate::sources::{no_sources, no_targets, replace_source};
@@ -73,9 +74,9 @@ impl Graph {
     pub fn reach(&self, changed: &[usize]) -> Result<Marks, NoMemory>
         requires { All (λ c. c < length self.now) changed.now }
         ensures found { IfOk result
-            (λ marks. (v : ℕ) → LeadsTo self.now changed.now v → Contains marks v) }
+            (λ marks. (v : ℕ) → WalksTo self.now changed.now v → Contains marks v) }
         ensures only { IfOk result
-            (λ marks. (v : ℕ) → Contains marks v → LeadsTo self.now changed.now v) }
+            (λ marks. (v : ℕ) → Contains marks v → WalksTo self.now changed.now v) }
         ensures within { IfOk result (λ marks. All (λ v. v < length self.now) marks) }
         ensures ascending { IfOk result (λ marks. IsStrictlyIncreasing marks) }
     {

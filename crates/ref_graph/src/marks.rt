@@ -1,5 +1,6 @@
 // Nodes that are marked once each, and those that wait for their turn.
-ghost use Rattle.std.specs.Prelude.{◌≡◌, ℕ, ◌<◌, ◌++◌, [], ◌∷◌, length, slice_set, slice_index_or, All, IfOk, OnOk, if◌then◌else◌, false, true};
+ghost use Rattle.std.specs.Prelude.{◌≡◌, ℕ, ◌<◌, ◌++◌, [], ◌∷◌, length, slice_set, slice_index_or};
+ghost use Rattle.std.specs.Prelude.{All, IfOk, OnOk, if◌then◌else◌, false, true};
 ghost use Rattle.std.specs.List.Sorted.{IsStrictlyIncreasing};
 ghost use Rattle.ref_graph.specs.Edges.{is_in};
 ghost use Rattle.ref_graph.specs.inner.Marking.{is_marked, Marking};
@@ -12,7 +13,8 @@ use tk_io::NoMemory;
 /// Marks the node, and has it wait where it was not marked before.
 fn mark(node: usize, marks: &mut Vec<bool>, waiting: &mut Vec<usize>) -> Result<(), NoMemory>
     requires { node < length marks.old.items }
-    ensures { OnOk result (Marking (node ∷ []) marks.old.items waiting.old.items marks.new.items waiting.new.items) }
+    ensures { OnOk result (Marking (node ∷ [])
+        marks.old.items waiting.old.items marks.new.items waiting.new.items) }
 {
     if !marks[node] {
         marks[node] = true;
@@ -28,7 +30,8 @@ pub fn mark_all(
     waiting: &mut Vec<usize>,
 ) -> Result<(), NoMemory>
     requires { All (λ v. v < length marks.old.items) nodes.now }
-    ensures { OnOk result (Marking nodes.now marks.old.items waiting.old.items marks.new.items waiting.new.items) }
+    ensures { OnOk result (Marking nodes.now
+        marks.old.items waiting.old.items marks.new.items waiting.new.items) }
 {
     for node in nodes {
         mark(*node, marks, waiting)?;
@@ -43,7 +46,8 @@ pub fn mark_sources(
     waiting: &mut Vec<usize>,
 ) -> Result<(), NoMemory>
     requires { All (λ v. v < length marks.old.items) nodes.now.keys }
-    ensures { OnOk result (Marking nodes.now.keys marks.old.items waiting.old.items marks.new.items waiting.new.items) }
+    ensures { OnOk result (Marking nodes.now.keys
+        marks.old.items waiting.old.items marks.new.items waiting.new.items) }
 {
     for node in nodes {
         mark(*node, marks, waiting)?;

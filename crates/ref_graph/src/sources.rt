@@ -1,5 +1,6 @@
 // The nodes with an edge to each node, as sets.
-ghost use Rattle.std.specs.Prelude.{◌≡◌, ℕ, ◌<◌, false, ◌&&◌, ◌||◌, not, [], ◌∷◌, length, replicate, take, All, IfOk, OnOk, OnErr, nat_eq};
+ghost use Rattle.std.specs.Prelude.{◌≡◌, ℕ, ◌<◌, false, ◌&&◌, ◌||◌, not, [], ◌∷◌, length};
+ghost use Rattle.std.specs.Prelude.{replicate, take, All, IfOk, OnOk, OnErr, nat_eq};
 ghost use Rattle.std.specs.Ordering.{nat_cmp};
 ghost use Rattle.std.specs.BTreeSet.{contains};
 ghost use Rattle.ref_graph.specs.Edges.{rows_of, is_in, has_source, IsAdded, IsRemoved, IsReplaced};
@@ -51,7 +52,8 @@ fn add_source(
     requires { All (λ w. w < length sources.old.items) targets.now }
     ensures long { length sources.new.items ≡ length sources.old.items }
     ensures ok { OnOk result (IsAdded sources.old.items sources.new.items node targets.now) }
-    ensures err { OnErr result ((k : ℕ) × IsAdded sources.old.items sources.new.items node (take k targets.now)) }
+    ensures err { OnErr result ((k : ℕ)
+        × IsAdded sources.old.items sources.new.items node (take k targets.now)) }
 {
     for target in targets {
         sources[*target].insert(node)?;
@@ -63,7 +65,8 @@ fn add_source(
 fn remove_unless_kept(sources: &mut Vec<BTreeSet<usize>>, node: usize, target: usize, is_kept: bool)
     requires { target < length sources.old.items }
     ensures long { length sources.new.items ≡ length sources.old.items }
-    ensures removed { IsRemoved sources.old.items sources.new.items node (target ∷ []) (λ _. is_kept) }
+    ensures removed { IsRemoved sources.old.items sources.new.items node
+        (target ∷ []) (λ _. is_kept) }
 {
     if is_kept {
         return;
@@ -80,7 +83,8 @@ fn remove_source(
 )
     requires { All (λ w. w < length sources.old.items) targets.now }
     ensures long { length sources.new.items ≡ length sources.old.items }
-    ensures removed { IsRemoved sources.old.items sources.new.items node targets.now (contains nat_cmp kept.now) }
+    ensures removed { IsRemoved sources.old.items sources.new.items node
+        targets.now (contains nat_cmp kept.now) }
 {
     for target in targets {
         remove_unless_kept(sources, node, *target, kept.contains(target));
@@ -96,7 +100,8 @@ fn take_back_source(
 )
     requires { All (λ w. w < length sources.old.items) targets.now }
     ensures long { length sources.new.items ≡ length sources.old.items }
-    ensures removed { IsRemoved sources.old.items sources.new.items node targets.now (is_in kept.now) }
+    ensures removed { IsRemoved sources.old.items sources.new.items node
+        targets.now (is_in kept.now) }
 {
     for target in targets {
         remove_unless_kept(sources, node, *target, kept.contains(target));
@@ -117,7 +122,8 @@ pub fn replace_source(
     requires is_source { (w : ℕ) → has_source sources.old.items w node ≡ is_in old.now w }
     ensures long { length sources.new.items ≡ length sources.old.items }
     ensures ok { OnOk result (IsReplaced sources.old.items sources.new.items node new.now) }
-    ensures err { OnErr result ((w v : ℕ) → has_source sources.new.items w v ≡ has_source sources.old.items w v) }
+    ensures err { OnErr result ((w v : ℕ)
+        → has_source sources.new.items w v ≡ has_source sources.old.items w v) }
 {
     let after = set_of(alloc, new)?;
     match add_source(sources, node, new) {

@@ -1,6 +1,6 @@
 use Rattle.std.proofs.Common.{◌≡◌, List, [], ◌∷◌, ◌++◌, ◌⊎◌, inl, inr, refl, sym, ap, subst, append_assoc}
 use Rattle.ring.specs.Lists.{In}
-use Rattle.ring.specs.Routes.{Leads, IsRoute, IsClosedRoute, HasNoRing}
+use Rattle.ring.specs.Routes.{IsChain, IsRoute, IsClosedRoute, HasNoRing}
 use Rattle.ring.specs.Order.{Follows}
 pub use Rattle.ring.specs.Existence.{IsGrounded as Ends, grounded as ends}
 
@@ -43,29 +43,29 @@ split (y ∷ ys) x (inr i) =
 
 module _ {N : Type 0} (needs : N → List N) where
   -- what follows a node that ends, ends
-  pub ends_along : (at : N) (xs : List N) → Ends needs at → Leads needs at xs → (v : N) → In v xs → Ends needs v
+  pub ends_along : (at : N) (xs : List N) → Ends needs at → IsChain needs at xs → (v : N) → In v xs → Ends needs v
   ends_along at [] e l v i = absurd i
   ends_along at (x ∷ xs) e l v (inl p) = subst (Ends needs) (sym p) (ends_next needs at x e l.0)
   ends_along at (x ∷ xs) e l v (inr i) = ends_along x xs (ends_next needs at x e l.0) l.1 v i
 
   -- the way from a node behind another on a route
-  pub leads_tail : (at : N) (xs : List N) (x : N) (ys : List N) → Leads needs at (xs ++ x ∷ ys) → Leads needs x ys
+  pub leads_tail : (at : N) (xs : List N) (x : N) (ys : List N) → IsChain needs at (xs ++ x ∷ ys) → IsChain needs x ys
   leads_tail at [] x ys l = l.1
   leads_tail at (z ∷ xs) x ys l = leads_tail z xs x ys l.1
 
   -- up to a node, and one step on from there
-  leads_cut : (at : N) (xs : List N) (v : N) (ys : List N) (y : N) → Leads needs at (xs ++ v ∷ ys) → In y (needs v) → Leads needs at (xs ++ v ∷ (y ∷ []))
+  leads_cut : (at : N) (xs : List N) (v : N) (ys : List N) (y : N) → IsChain needs at (xs ++ v ∷ ys) → In y (needs v) → IsChain needs at (xs ++ v ∷ (y ∷ []))
   leads_cut at [] v ys y l i = (l.0, (i, tt))
   leads_cut at (z ∷ xs) v ys y l i = (l.0, leads_cut z xs v ys y l.1 i)
 
   -- No way from a node that ends comes back to it.
-  pub no_return : (v : N) → Ends needs v → (before after : List N) → Leads needs v (before ++ v ∷ after) → ⊥
+  pub no_return : (v : N) → Ends needs v → (before after : List N) → IsChain needs v (before ++ v ∷ after) → ⊥
   no_return v (ends f) [] after l = no_return v (f v l.0) [] after l
   no_return v (ends f) (x ∷ xs) after l =
-      no_return x (f x l.0) (xs ++ v ∷ []) [] (subst (Leads needs x) (sym (append_assoc xs (v ∷ []) (x ∷ []))) (leads_cut x xs v after x l.1 l.0))
+      no_return x (f x l.0) (xs ++ v ∷ []) [] (subst (IsChain needs x) (sym (append_assoc xs (v ∷ []) (x ∷ []))) (leads_cut x xs v after x l.1 l.0))
 
   -- the last of a route ends where any of it does
-  last_ends : (at : N) (xs : List N) (x : N) → Leads needs at (xs ++ x ∷ []) → (v : N) → In v (at ∷ (xs ++ x ∷ [])) → Ends needs v → Ends needs x
+  last_ends : (at : N) (xs : List N) (x : N) → IsChain needs at (xs ++ x ∷ []) → (v : N) → In v (at ∷ (xs ++ x ∷ [])) → Ends needs v → Ends needs x
   last_ends at xs x l v (inl p) e = ends_along at (xs ++ x ∷ []) (subst (Ends needs) p e) l x (in_last xs x)
   last_ends at [] x l v (inr (inl p)) e = subst (Ends needs) p e
   last_ends at [] x l v (inr (inr i)) e = absurd i
@@ -79,8 +79,8 @@ module _ {N : Type 0} (needs : N → List N) where
       alive [] last r again j = absurd again
       alive (x ∷ xs) last r again j = back x xs last r.1 again (last_ends x xs last r.1 v j e)
         where
-          back : (x : N) (xs : List N) (last : N) → Leads needs x (xs ++ last ∷ []) → In last (x ∷ xs) → Ends needs last → ⊥
-          back x xs last l (inl p) f = no_return x (subst (Ends needs) p f) xs [] (subst (λ (z : N). Leads needs x (xs ++ z ∷ [])) p l)
+          back : (x : N) (xs : List N) (last : N) → IsChain needs x (xs ++ last ∷ []) → In last (x ∷ xs) → Ends needs last → ⊥
+          back x xs last l (inl p) f = no_return x (subst (Ends needs) p f) xs [] (subst (λ (z : N). IsChain needs x (xs ++ z ∷ [])) p l)
           back x [] last l (inr i) f = absurd i
           back x (y ∷ ys) last l (inr i) f = back y ys last l.1 i f
 

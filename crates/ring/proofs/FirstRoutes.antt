@@ -2,9 +2,9 @@
 use Rattle.std.proofs.Common.{◌≡◌, ◌≢◌, ◌⊎◌, ℕ, zero, suc, ◌+◌, ◌≤◌, List, [], ◌∷◌, ◌++◌, length, length-append, arith}
 use Rattle.std.proofs.Common.{inl, inr, refl, sym, ap, ◌∙◌, subst, append_assoc}
 use Rattle.ring.specs.Lists.{In, Each, AreApart}
-use Rattle.ring.specs.Routes.{Precedes, Leads, IsRoute, Closes, NotAfter, IsNotAfter}
+use Rattle.ring.specs.Routes.{Precedes, IsChain, IsRoute, Closes, NotAfter, IsNotAfter}
 use Rattle.ring.specs.Routes.{IsFirstClosedRoute, IsRing, HasNoRing}
-use Rattle.ring.specs.Existence.{IsDecided, IsWithin, IsGrounded, grounded}
+use Rattle.ring.specs.Existence.{IsDecided, ReachesOnly, IsGrounded, grounded}
 use Rattle.ring.proofs.ApartLists.{apart_not_closed, apart_push, apart_fit}
 use Rattle.ring.proofs.Ends.{in_right, split, closed_alive, no_ring}
 use Rattle.ring.proofs.Renamings.{on_route}
@@ -46,13 +46,13 @@ hit_precedes P (b ∷ bs) x after y each alive n = (
 
 module _ {N : Type 0} (needs : N → List N) (root : N) where
   leads_along : (from : N) (xs : List N) (at : N) (ys : List N) →
-      Leads needs from (xs ++ at ∷ []) → Leads needs at ys → Leads needs from (xs ++ at ∷ ys)
+      IsChain needs from (xs ++ at ∷ []) → IsChain needs at ys → IsChain needs from (xs ++ at ∷ ys)
   leads_along from [] at ys l m = (l.0, m)
   leads_along from (x ∷ xs) at ys l m = (l.0, leads_along x xs at ys l.1 m)
 
   -- a route goes on along a way from its last node
   route_along : (xs : List N) (at : N) (ys : List N) →
-      IsRoute needs root (xs ++ at ∷ []) → Leads needs at ys → IsRoute needs root (xs ++ at ∷ ys)
+      IsRoute needs root (xs ++ at ∷ []) → IsChain needs at ys → IsRoute needs root (xs ++ at ∷ ys)
   route_along [] at ys r m = (r.0, m)
   route_along (x ∷ xs) at ys r m = (r.0, leads_along x xs at ys r.1 m)
 
@@ -72,15 +72,15 @@ module _ {N : Type 0} (needs : N → List N) (root : N) where
   -- the way on from the end of a trail by which a route closes first
   record Closing (before : List N) (at : N) : Type 0 where
     way : List N
-    leads : Leads needs at way
+    leads : IsChain needs at way
     closes : Closes (before ++ at ∷ way)
-    first : (other : List N) → Leads needs at other → Closes (before ++ at ∷ other) → NotAfter needs at way other
+    first : (other : List N) → IsChain needs at other → Closes (before ++ at ∷ other) → NotAfter needs at way other
 
   -- the trail comes back at the node, or a route closes beyond it
   abbrev ClosesAt : List N → N → Type 0
   ClosesAt trail w = In w trail ⊎ Closing trail w
 
-  on_closed : (before : List N) (at y : N) (ys : List N) → Trail before at → Leads needs at (y ∷ ys) →
+  on_closed : (before : List N) (at y : N) (ys : List N) → Trail before at → IsChain needs at (y ∷ ys) →
       Closes (before ++ at ∷ (y ∷ ys)) → IsGrounded needs y → ⊥
   on_closed before at y ys t l c g =
       closed_alive needs root (before ++ at ∷ (y ∷ ys))
@@ -91,14 +91,14 @@ module _ {N : Type 0} (needs : N → List N) (root : N) where
     -- A way that begins with the first need at which a route closes is after no other, if what follows that need isn't.
     first_way : (before : List N) (at : N) → Trail before at →
         (h : FirstHit (IsGrounded needs) (ClosesAt (before ++ at ∷ [])) (needs at)) (way : List N) →
-        ((ys : List N) → Leads needs h.at ys → Closes (before ++ at ∷ (h.at ∷ ys)) → NotAfter needs h.at way ys) →
-        (other : List N) → Leads needs at other → Closes (before ++ at ∷ other) → NotAfter needs at (h.at ∷ way) other
+        ((ys : List N) → IsChain needs h.at ys → Closes (before ++ at ∷ (h.at ∷ ys)) → NotAfter needs h.at way ys) →
+        (other : List N) → IsChain needs at other → Closes (before ++ at ∷ other) → NotAfter needs at (h.at ∷ way) other
     first_way before at t h way then [] l c = absurd (apart_not_closed (before ++ at ∷ []) t.apart c)
     first_way before at t h way then (y ∷ ys) l c = elim (decided h.at y) [
       | inl e ↦ inr (
         e,
         subst (λ (z : N). NotAfter needs z way ys) e
-            (then ys (subst (λ (z : N). Leads needs z ys) (sym e) l.1)
+            (then ys (subst (λ (z : N). IsChain needs z ys) (sym e) l.1)
             (subst (λ (z : N). Closes (before ++ at ∷ (z ∷ ys))) (sym e) c)),
       )
       | inr n ↦ inl (subst (Precedes h.at y) (sym h.whole)
@@ -158,7 +158,7 @@ module _ {N : Type 0} (needs : N → List N) (root : N) where
           | inr off ↦ elim (deeper w i off) [ inl c ↦ inl (inr c) | inr g ↦ inr g ]
         ]
 
-    module _ (nodes : List N) (within : IsWithin needs root nodes) where
+    module _ (nodes : List N) (within : ReachesOnly needs root nodes) where
       trail_fits : (before : List N) (at : N) → Trail before at → length (before ++ at ∷ []) ≤ length nodes
       trail_fits before at t =
           apart_fit (before ++ at ∷ []) nodes t.apart
@@ -184,7 +184,7 @@ module _ {N : Type 0} (needs : N → List N) (root : N) where
       earliest : (other : List N) → IsRoute needs root other → Closes other → IsNotAfter needs (root ∷ c.way) other
       earliest [] r k = absurd r
       earliest (y ∷ ys) r k = subst (λ (z : N). NotAfter needs z c.way ys) (sym r.0)
-          (c.first ys (subst (λ (z : N). Leads needs z ys) r.0 r.1) (subst (λ (z : N). Closes (z ∷ ys)) r.0 k))
+          (c.first ys (subst (λ (z : N). IsChain needs z ys) r.0 r.1) (subst (λ (z : N). Closes (z ∷ ys)) r.0 k))
 
   closing_ring : Closing [] root → (ring : List N) × IsRing needs root ring
   closing_ring c =
@@ -205,14 +205,14 @@ module _ {N : Type 0} (needs : N → List N) (root : N) where
         },
       )
 
-  pub ring_or_none : IsDecided N → (nodes : List N) → IsWithin needs root nodes →
+  pub ring_or_none : IsDecided N → (nodes : List N) → ReachesOnly needs root nodes →
       ((ring : List N) × IsRing needs root ring) ⊎ HasNoRing needs root
   ring_or_none decided nodes within = elim (from_root decided nodes within) [
     | inl c ↦ inl (closing_ring c)
     | inr g ↦ inr (no_ring needs root g)
   ]
 
-  pub is_grounded : IsDecided N → (nodes : List N) → IsWithin needs root nodes → HasNoRing needs root →
+  pub is_grounded : IsDecided N → (nodes : List N) → ReachesOnly needs root nodes → HasNoRing needs root →
       IsGrounded needs root
   is_grounded decided nodes within none = elim (from_root decided nodes within) [
     | inl c ↦ absurd (none (root ∷ c.way) (first_route c).closed)

@@ -3,7 +3,7 @@ use Rattle.std.proofs.lemmas.List.{take-append-drop, drop_all}
 use Rattle.std.proofs.Common.{inl, inr}
 use Rattle.std.proofs.lemmas.Bool.{cases_lt}
 use Rattle.ring.specs.Lists.{In}
-use Rattle.ring.specs.Stack.{nodes, IsFrom}
+use Rattle.ring.specs.inner.Stack.{nodes, IsEndFrom}
 use Rattle.ring.specs.declared.search.Frame.{Frame}
 
 nodes_append : (xs ys : List Frame) → nodes (xs ++ ys) ≡ nodes xs ++ nodes ys
@@ -29,7 +29,7 @@ one_more fs i d old new all h inv made =
     let v = (get_or fs i d).node in
     ap (λ (vs : List ℕ). vs ++ nodes (drop (i + 1) fs)) made ∙ (append_assoc old (v ∷ []) (nodes (drop (i + 1) fs)) ∙ (ap (λ (vs : List ℕ). old ++ vs) (sym (nodes_drop fs i d h)) ∙ inv))
 
-pub is_from : (fs : List Frame) (at i v : ℕ) (d : Frame) (ring : List ℕ) → In v (nodes (drop at fs)) → (get_or fs at d).node ≡ v → ring ++ nodes (drop i fs) ≡ nodes (drop at fs) → length fs ≤ i → IsFrom v (nodes fs) ring
+pub is_from : (fs : List Frame) (at i v : ℕ) (d : Frame) (ring : List ℕ) → In v (nodes (drop at fs)) → (get_or fs at d).node ≡ v → ring ++ nodes (drop i fs) ≡ nodes (drop at fs) → length fs ≤ i → IsEndFrom v (nodes fs) ring
 is_from fs at i v d ring h n inv over =
     let whole : ring ≡ nodes (drop at fs) = sym (append_nil ring) ∙ (ap (λ (vs : List ℕ). ring ++ vs) (sym (nodes_past fs i over)) ∙ inv) in
     record {

@@ -1,4 +1,4 @@
-pub mod ApartLists
+mod ApartLists
 pub mod Ends
 mod Frames
 pub mod FirstRoutes

@@ -1,7 +1,7 @@
 -- What holds of a graph holds of it with its nodes renamed.
 use Rattle.std.proofs.Common.{◌≡◌, List, [], ◌∷◌, ◌++◌, inl, inr, refl, sym, ap, ◌∙◌, subst, map}
 use Rattle.ring.specs.Lists.{In, AreApart}
-use Rattle.ring.specs.Routes.{Precedes, Leads, IsRoute, Closes, IsClosedRoute, NotAfter, IsNotAfter, IsFirstClosedRoute, IsPartOf, IsRing, HasNoRing, IsReached}
+use Rattle.ring.specs.Routes.{Precedes, IsChain, IsRoute, Closes, IsClosedRoute, NotAfter, IsNotAfter, IsFirstClosedRoute, IsPartOf, IsRing, HasNoRing, IsReached}
 use Rattle.ring.specs.Order.{Follows, IsOrder}
 use Rattle.ring.specs.Values.{Comes, comes, AllCome, none, more}
 use Rattle.ring.specs.Renaming.{IsRenaming, SameSteps}
@@ -65,7 +65,7 @@ module _ {N : Type 0} (needs : N → List N) (root : N) where
   pub root_reached : IsReached needs root root
   root_reached = record { before = []; steps = (refl, tt) }
 
-  leads_on : (at : N) (xs : List N) (v w : N) → Leads needs at (xs ++ v ∷ []) → In w (needs v) → Leads needs at ((xs ++ v ∷ []) ++ w ∷ [])
+  leads_on : (at : N) (xs : List N) (v w : N) → IsChain needs at (xs ++ v ∷ []) → In w (needs v) → IsChain needs at ((xs ++ v ∷ []) ++ w ∷ [])
   leads_on at [] v w l i = (l.0, (i, tt))
   leads_on at (x ∷ xs) v w l i = (l.0, leads_on x xs v w l.1 i)
 
@@ -78,7 +78,7 @@ module _ {N : Type 0} (needs : N → List N) (root : N) where
   reached_next v w r i = record { before = r.before ++ v ∷ []; steps = goes_on r.before v w r.steps i }
 
   -- what follows a node that is reached
-  pub reached_along : (at : N) (xs : List N) → IsReached needs root at → Leads needs at xs → (v : N) → In v xs → IsReached needs root v
+  pub reached_along : (at : N) (xs : List N) → IsReached needs root at → IsChain needs at xs → (v : N) → In v xs → IsReached needs root v
   reached_along at [] r l v i = absurd i
   reached_along at (x ∷ xs) r l v (inl e) = subst (IsReached needs root) (sym e) (reached_next at x r l.0)
   reached_along at (x ∷ xs) r l v (inr i) = reached_along x xs (reached_next at x r l.0) l.1 v i
@@ -103,7 +103,7 @@ module _ {N M : Type 0} (f : N → M) (needs : N → List N) (root : N) (needs' 
   need_behind : (v : N) (y : M) → Reached v → In y (needs' (f v)) → Named f y (needs v)
   need_behind v y h i = in_names f (needs v) y (subst (λ (ys : List M). In y ys) (r.keeps v h) i)
 
-  leads_named : (at : N) (xs : List N) → Reached at → Leads needs at xs → Leads needs' (f at) (map f xs)
+  leads_named : (at : N) (xs : List N) → Reached at → IsChain needs at xs → IsChain needs' (f at) (map f xs)
   leads_named at [] h l = tt
   leads_named at (x ∷ xs) h l = (need_named at x h l.0, leads_named x xs (reached_next needs root at x h l.0) l.1)
 
@@ -114,14 +114,14 @@ module _ {N M : Type 0} (f : N → M) (needs : N → List N) (root : N) (needs' 
   -- the way behind a way of names
   record Way (at : N) (ys : List M) : Type 0 where
     nodes : List N
-    leads : Leads needs at nodes
+    leads : IsChain needs at nodes
     are : ys ≡ map f nodes
 
-  way_behind : (at : N) (ys : List M) → Reached at → Leads needs' (f at) ys → Way at ys
+  way_behind : (at : N) (ys : List M) → Reached at → IsChain needs' (f at) ys → Way at ys
   way_behind at [] h l = record { nodes = []; leads = tt; are = refl }
   way_behind at (y ∷ ys) h l =
       let n = need_behind at y h l.0 in
-      let w = way_behind n.node ys (reached_next needs root at n.node h n.there) (subst (λ (z : M). Leads needs' z ys) n.is l.1) in
+      let w = way_behind n.node ys (reached_next needs root at n.node h n.there) (subst (λ (z : M). IsChain needs' z ys) n.is l.1) in
       record {
         nodes = n.node ∷ w.nodes;
         leads = (n.there, w.leads);
@@ -137,7 +137,7 @@ module _ {N M : Type 0} (f : N → M) (needs : N → List N) (root : N) (needs' 
   route_behind : (ys : List M) → IsRoute needs' (f root) ys → Behind ys
   route_behind [] s = absurd s
   route_behind (y ∷ ys) s =
-      let w = way_behind root ys (root_reached needs root) (subst (λ (z : M). Leads needs' z ys) s.0 s.1) in
+      let w = way_behind root ys (root_reached needs root) (subst (λ (z : M). IsChain needs' z ys) s.0 s.1) in
       record {
         nodes = root ∷ w.nodes;
         steps = (refl, w.leads);

@@ -3,9 +3,9 @@ use Rattle.std.proofs.lemmas.Bool.{cases_eq, cases_lt}
 use Rattle.std.proofs.lemmas.List.{get_or_past}
 use Rattle.std.proofs.lemmas.List.Elements.{All-nil, All-cons}
 use Rattle.ring.specs.Lists.{In, AreApart}
-use Rattle.ring.specs.Routes.{Precedes, Leads, IsRoute, Closes, NotAfter, IsNotAfter, IsFirstClosedRoute, IsRing, HasNoRing, IsReached}
+use Rattle.ring.specs.Routes.{Precedes, IsChain, IsRoute, Closes, NotAfter, IsNotAfter, IsFirstClosedRoute, IsRing, HasNoRing, IsReached}
 use Rattle.ring.specs.Order.{Follows, IsOrder}
-use Rattle.ring.specs.Stack.{nodes, IsFrom}
+use Rattle.ring.specs.inner.Stack.{nodes, IsEndFrom}
 use Rattle.ring.specs.declared.search.Frame.{Frame}
 use Rattle.ring.specs.declared.search.Mark.{Mark}
 use Rattle.ring.specs.declared.search.Mark.TheVariants.{New, Open, Done}
@@ -117,19 +117,19 @@ module _ (needs : ℕ → List ℕ) (P : ℕ → Type 0) where
   trail_retop (f ∷ g ∷ fs) top new t e b = (t.0, t.1, trail_retop (g ∷ fs) top new t.2 e b)
 
   -- The route that the frames make
-  trail_leads : (f : Frame) (fs : List Frame) (w : ℕ) → TrailTo (f ∷ fs) w → Leads needs f.node (nodes fs ++ w ∷ [])
+  trail_leads : (f : Frame) (fs : List Frame) (w : ℕ) → TrailTo (f ∷ fs) w → IsChain needs f.node (nodes fs ++ w ∷ [])
   trail_leads f [] w t = (at_is_in f.next (needs f.node) w t.1, tt)
   trail_leads f (g ∷ fs) w t = (at_is_in f.next (needs f.node) g.node t.1, trail_leads g fs w t.2)
 
   -- The route that the frames are
-  trail_route : (f : Frame) (fs : List Frame) → Trail (f ∷ fs) → Leads needs f.node (nodes fs)
+  trail_route : (f : Frame) (fs : List Frame) → Trail (f ∷ fs) → IsChain needs f.node (nodes fs)
   trail_route f [] t = tt
   trail_route f (g ∷ fs) t = (at_is_in f.next (needs f.node) g.node t.1, trail_route g fs t.2)
 
   -- Where another closed route parts from the trail, it comes later.
   not_after : (f : Frame) (fs : List Frame) (w : ℕ) → TrailTo (f ∷ fs) w →
       (seen : List ℕ) → AreApart (seen ++ f.node ∷ nodes fs) →
-      (ys : List ℕ) → Closes (seen ++ f.node ∷ ys) → Leads needs f.node ys → ((y : ℕ) → In y ys → P y → ⊥) →
+      (ys : List ℕ) → Closes (seen ++ f.node ∷ ys) → IsChain needs f.node ys → ((y : ℕ) → In y ys → P y → ⊥) →
       NotAfter needs f.node (nodes fs ++ w ∷ []) ys
   not_after f fs w t seen a [] c l alive =
       absurd (not_closed (seen ++ f.node ∷ []) (nodes fs) (subst AreApart (sym (append_assoc seen (f.node ∷ []) (nodes fs))) a) c)
@@ -146,7 +146,7 @@ module _ (needs : ℕ → List ℕ) (P : ℕ → Type 0) where
               (not_after g fs w t.2 (seen ++ f.node ∷ [])
               (subst AreApart (sym (append_assoc seen (f.node ∷ []) (g.node ∷ nodes fs))) a) ys
               (subst Closes (ap (λ (z : ℕ). seen ++ f.node ∷ (z ∷ ys)) (sym p) ∙ sym (append_assoc seen (f.node ∷ []) (g.node ∷ ys))) c)
-              (subst (λ (z : ℕ). Leads needs z ys) (sym p) l.1)
+              (subst (λ (z : ℕ). IsChain needs z ys) (sym p) l.1)
               (λ z i. alive z (inr i))),
         )
         | inr n ↦ inl (precedes P f.next (needs f.node) g.node y t.0 t.1 l.0 (alive y (inl refl)) (λ p. n (sym p)))
@@ -169,7 +169,7 @@ module _ (needs : ℕ → List ℕ) (P : ℕ → Type 0) where
   top_reached root [] top t b = record { before = []; steps = (b, tt) }
   top_reached root (f ∷ fs) top t b = record {
     before = f.node ∷ nodes fs;
-    steps = (b, subst (Leads needs f.node) (nodes_append fs (top ∷ [])) (trail_route f (fs ++ top ∷ []) t));
+    steps = (b, subst (IsChain needs f.node) (nodes_append fs (top ∷ [])) (trail_route f (fs ++ top ∷ []) t));
   }
 
 -- what is finished stays so
@@ -304,10 +304,10 @@ module _ (needs : ℕ → List ℕ) where
       later (y ∷ ys) r c alive =
           let e : y ≡ f.node = r.0 ∙ sym b in
           subst (λ (z : ℕ). NotAfter needs z (nodes fs ++ w ∷ []) ys) (sym e)
-          (not_after needs (λ v. In v order) f fs w t [] a ys (subst (λ (z : ℕ). Closes (z ∷ ys)) e c) (subst (λ (z : ℕ). Leads needs z ys) e r.1) (λ v i. alive v (inr i)))
+          (not_after needs (λ v. In v order) f fs w t [] a ys (subst (λ (z : ℕ). Closes (z ∷ ys)) e c) (subst (λ (z : ℕ). IsChain needs z ys) e r.1) (λ v i. alive v (inr i)))
 
   -- What is looked at is open: the frames from it on are the ring.
-  pub found : (root : ℕ) (marks : List Mark) (rest : List Frame) (top : Frame) (order : List ℕ) (w : ℕ) (ring : List ℕ) → Searching root marks (rest ++ top ∷ []) order → At top.next (needs top.node) w → mark marks w ≡ Open → IsFrom w (nodes (rest ++ top ∷ [])) ring → IsRing needs root ring
+  pub found : (root : ℕ) (marks : List Mark) (rest : List Frame) (top : Frame) (order : List ℕ) (w : ℕ) (ring : List ℕ) → Searching root marks (rest ++ top ∷ []) order → At top.next (needs top.node) w → mark marks w ≡ Open → IsEndFrom w (nodes (rest ++ top ∷ [])) ring → IsRing needs root ring
   found root marks rest top order w ring s at o from =
       let frames = rest ++ top ∷ [] in
       record {
@@ -335,7 +335,7 @@ module _ (needs : ℕ → List ℕ) where
   needs_in_order seen (x ∷ xs) f v (inr i) w j = subst (λ (ys : List ℕ). In w ys) (append_assoc seen (x ∷ []) xs) (needs_in_order (seen ++ x ∷ []) xs f.1 v i w j)
 
   -- All that is led to from an order stands there.
-  led_in_order : (order : List ℕ) → Follows needs [] order → (at : ℕ) (xs : List ℕ) → In at order → Leads needs at xs → (v : ℕ) → In v xs → In v order
+  led_in_order : (order : List ℕ) → Follows needs [] order → (at : ℕ) (xs : List ℕ) → In at order → IsChain needs at xs → (v : ℕ) → In v xs → In v order
   led_in_order order f at [] i l v j = absurd j
   led_in_order order f at (x ∷ xs) i l v (inl p) = subst (λ (y : ℕ). In y order) (sym p) (needs_in_order [] order f at i x l.0)
   led_in_order order f at (x ∷ xs) i l v (inr j) = led_in_order order f x xs (needs_in_order [] order f at i x l.0) l.1 v j
@@ -391,7 +391,7 @@ module _ (needs : ℕ → List ℕ) (root : ℕ) (marks : List Mark) (n : ℕ) w
   pub order_within : (order : List ℕ) → length marks ≡ n → Searching needs root marks [] order → All (λ v. v < n) order
   order_within order e s = all_in (λ v. v < n) order (λ v i. omega (arith, e, marked_in marks v (λ f. (let g : Mark.Done ≡ Mark.New = sym (s.finished v i) ∙ f in cc))))
 
-  pub ring_within : (frames : List Frame) (order : List ℕ) (node : ℕ) (ring : List ℕ) → length marks ≡ n → Searching needs root marks frames order → IsFrom node (nodes frames) ring → All (λ v. v < n) ring
+  pub ring_within : (frames : List Frame) (order : List ℕ) (node : ℕ) (ring : List ℕ) → length marks ≡ n → Searching needs root marks frames order → IsEndFrom node (nodes frames) ring → All (λ v. v < n) ring
   ring_within frames order node ring e s from = all_in (λ v. v < n) ring (λ v i.
       (let on : In v (nodes frames) = subst (λ (vs : List ℕ). In v vs) (sym from.whole) (in_right from.before ring v i) in
       omega (arith, e, marked_in marks v (λ f. (let g : Mark.Open ≡ Mark.New = sym (s.standing v on) ∙ f in cc)))))

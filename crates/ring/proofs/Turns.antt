@@ -9,7 +9,7 @@ use Rattle.ring.specs.declared.search.Mark.TheVariants.{New, Open, Done}
 use Rattle.std.proofs.lemmas.List.{get_or_read}
 use Rattle.ring.specs.Lists.{In}
 use Rattle.ring.specs.Routes.{IsRing}
-use Rattle.ring.specs.Stack.{nodes, IsFrom}
+use Rattle.ring.specs.inner.Stack.{nodes, IsEndFrom}
 use Rattle.ring.proofs.Searches.{At, at_get_or, Searching, advance, enter, leave, found, top_open, top_within}
 use Rattle.ring.proofs.Work.{weight, new_work, left_work, left_append, work_set}
 
@@ -113,7 +113,7 @@ module _ (graph : List (Vec ℕ Global)) (root : ℕ) (marks : List Mark) (stack
       let a = ap (left_work graph) made in let b = ap (left_work graph) (l.before).popped in
       let h = enter_less graph marks rest top w (l.before).size (in_marks l) (marked l New e d) in omega arith
 
-  pub is_ring : (ring : List ℕ) → Looked graph root marks stack rest top order row w m → m ≡ get_or marks w m → m ≡ Open → IsFrom w (nodes (rest ++ top ∷ [])) ring → IsRing (needs_in graph) root ring
+  pub is_ring : (ring : List ℕ) → Looked graph root marks stack rest top order row w m → m ≡ get_or marks w m → m ≡ Open → IsEndFrom w (nodes (rest ++ top ∷ [])) ring → IsRing (needs_in graph) root ring
   is_ring ring l e d from = found (needs_in graph) root marks rest top order w ring (searching graph root marks stack rest top order l.before) (at l) (marked l Open e d) from
 
   pub on_stack : Looked graph root marks stack rest top order row w m → m ≡ get_or marks w m → m ≡ Open → In w (nodes (rest ++ top ∷ []))

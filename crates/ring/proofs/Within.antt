@@ -3,7 +3,7 @@ use Rattle.std.proofs.Common.{ℕ, zero, suc, ◌<◌, List, [], ◌∷◌, ◌+
 use Rattle.std.proofs.lemmas.List.Elements.{All-head, All-tail}
 use Rattle.std.specs.declared.alloc.Global.{Global}
 use Rattle.ring.specs.Lists.{In}
-use Rattle.ring.specs.Routes.{Leads, IsRoute, IsReached}
+use Rattle.ring.specs.Routes.{IsChain, IsRoute, IsReached}
 use Rattle.ring.specs.Graph.{needs_in, IsGraph}
 
 in_all : (P : ℕ → Type 0) (xs : List ℕ) (w : ℕ) → All P xs → In w xs → P w
@@ -16,7 +16,7 @@ needs_within n [] v w a i = absurd i
 needs_within n (row ∷ rows) zero w a i = in_all (λ x. x < n) row.items w (All-head (λ r. All (λ x. x < n) r.items) row rows a) i
 needs_within n (row ∷ rows) (suc v) w a i = needs_within n rows v w (All-tail (λ r. All (λ x. x < n) r.items) row rows a) i
 
-along : (graph : List (Vec ℕ Global)) (g : IsGraph graph) (at : ℕ) (xs : List ℕ) (v : ℕ) → Leads (needs_in graph) at (xs ++ v ∷ []) → v < length graph
+along : (graph : List (Vec ℕ Global)) (g : IsGraph graph) (at : ℕ) (xs : List ℕ) (v : ℕ) → IsChain (needs_in graph) at (xs ++ v ∷ []) → v < length graph
 along graph g at [] v l = needs_within (length graph) graph at v g l.0
 along graph g at (x ∷ xs) v l = along graph g x xs v l.1
 

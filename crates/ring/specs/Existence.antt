@@ -9,13 +9,13 @@ abbrev pub IsDecided : Type 0 → Type 0
 IsDecided N = (v w : N) → (v ≡ w) ⊎ (v ≢ w)
 
 -- whatever routes from the root come to is one of these nodes
-abbrev pub IsWithin : {N : Type 0} → (N → List N) → N → List N → Type 0
-IsWithin {N} needs root nodes = (v : N) → IsReached needs root v → In v nodes
+abbrev pub ReachesOnly : {N : Type 0} → (N → List N) → N → List N → Type 0
+ReachesOnly {N} needs root nodes = (v : N) → IsReached needs root v → In v nodes
 
 -- some route closes first, or none closes
 abbrev pub EachGraphAnswers : Type 0 → Type 0
 EachGraphAnswers N = IsDecided N → (needs : N → List N) (root : N) (nodes : List N)
-    → IsWithin needs root nodes → ((ring : List N) × IsRing needs root ring) ⊎ HasNoRing needs root
+    → ReachesOnly needs root nodes → ((ring : List N) × IsRing needs root ring) ⊎ HasNoRing needs root
 
 -- no chain of needs from the node goes on for ever
 pub data IsGrounded {N : Type 0} (needs : N → List N) : N → Type 0 where
@@ -24,7 +24,7 @@ pub data IsGrounded {N : Type 0} (needs : N → List N) : N → Type 0 where
 -- where no route closes, no chain of needs from the root goes on for ever
 abbrev pub EachIsGrounded : Type 0 → Type 0
 EachIsGrounded N = IsDecided N → (needs : N → List N) (root : N) (nodes : List N)
-    → IsWithin needs root nodes → HasNoRing needs root → IsGrounded needs root
+    → ReachesOnly needs root nodes → HasNoRing needs root → IsGrounded needs root
 
 -- a grounded node has a value
 abbrev pub GroundedHaveValues : Type 0 → Type 0 → Type 0

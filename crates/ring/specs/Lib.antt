@@ -7,4 +7,4 @@ pub mod Renaming
 pub mod Graph
 pub mod Answer
 pub mod Laws
-pub mod Stack
+pub mod inner

@@ -1,6 +1,6 @@
 -- Routes of a graph in which each node needs others, in an order of its own, and the ring of the first that closes.
 use Rattle.std.specs.Prelude.{◌≡◌, ◌≢◌, List, [], ◌∷◌, ◌++◌, ◌⊎◌}
-pub use Rattle.ring.specs.Lists.{In, AreApart}
+use Rattle.ring.specs.Lists.{In, AreApart}
 
 -- x stands in the list before the first place of y
 abbrev pub Precedes : {N : Type 0} → N → N → List N → Type 0
@@ -8,14 +8,14 @@ Precedes x y [] = ⊥
 Precedes x y (z ∷ zs) = (y ≢ z) × ((x ≡ z) ⊎ Precedes x y zs)
 
 -- from a node on, each needs the next
-abbrev pub Leads : {N : Type 0} → (N → List N) → N → List N → Type 0
-Leads needs at [] = Unit {0}
-Leads needs at (x ∷ xs) = In x (needs at) × Leads needs x xs
+abbrev pub IsChain : {N : Type 0} → (N → List N) → N → List N → Type 0
+IsChain needs at [] = Unit {0}
+IsChain needs at (x ∷ xs) = In x (needs at) × IsChain needs x xs
 
 -- A route is a list of nodes that begins with the root, and of which each needs the next.
 abbrev pub IsRoute : {N : Type 0} → (N → List N) → N → List N → Type 0
 IsRoute needs root [] = ⊥
-IsRoute needs root (x ∷ xs) = (x ≡ root) × Leads needs x xs
+IsRoute needs root (x ∷ xs) = (x ≡ root) × IsChain needs x xs
 
 -- the last stands once before, and no other stands twice
 pub record Closes {N : Type 0} (route : List N) : Type 0 where

@@ -3,7 +3,8 @@ ghost use Rattle.std.specs.Prelude.{◌≢◌, ◌↔◌, List, Contains, AllPai
 ghost use Rattle.ring.specs.Existence.{EachGraphAnswers, EachIsGrounded, GroundedHaveValues};
 ghost use Rattle.ring.specs.Laws.{OneRing, OneValue, OneTotal, ReachedAreRows};
 ghost use Rattle.ring.specs.Lists.{In, AreApart};
-ghost use Rattle.ring.specs.Renaming.{RingsAreRenamed, NoRingIsRenamed, OrdersAreRenamed, ValuesAreRenamed};
+ghost use Rattle.ring.specs.Renaming.{RingsAreRenamed, NoRingIsRenamed, OrdersAreRenamed};
+ghost use Rattle.ring.specs.Renaming.{ValuesAreRenamed};
 
 /// The words on elements of lists are those of the standard library.
 pub fn list_words<N>()

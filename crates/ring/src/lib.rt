@@ -2,7 +2,7 @@
 //!
 //! The nodes of a graph are numbered from 0. Its i-th row lists what node i needs, in order. Where a route from a root
 //! comes back to one of its own nodes, the first such route has a ring. Where none does, all nodes that are reached can
-//! be put into an order in which each comes after what it needs, and totals are taken along this order.
+//! be put into a topological order, in which each comes after what it needs, and totals are taken along it.
 //!
 //! Nothing here recurses, and each call takes time linear in the nodes and their needs.
 #![tactic(auto)]

@@ -4,7 +4,7 @@ ghost use Rattle.ring.specs.Lists.{In};
 ghost use Rattle.ring.specs.Routes.{IsRing, HasNoRing};
 ghost use Rattle.ring.specs.Order.{IsOrder};
 ghost use Rattle.ring.specs.Graph.{needs_in, IsGraph};
-ghost use Rattle.ring.specs.Stack.{nodes, IsFrom};
+ghost use Rattle.ring.specs.inner.Stack.{nodes, IsEndFrom};
 ghost use Rattle.ring.specs.Answer.{IfRing, IfOrder};
 
 use std::alloc::{AllocError, Global};
@@ -14,7 +14,7 @@ use std::alloc::{AllocError, Global};
 pub enum Found {
     /// The ring of the first closed route, from the node to which the route comes back.
     Ring(Vec<usize>),
-    /// There is no closed route: each node that is reached, once, after all that it needs.
+    /// There is no closed route: a topological order, each node that is reached once and after all that it needs.
     Order(Vec<usize>),
 }
 
@@ -36,7 +36,7 @@ struct Frame {
 // The nodes of the frames from that of `node` on.
 fn nodes_from(alloc: Global, frames: &[Frame], node: usize) -> Result<Vec<usize>, AllocError>
     requires { In node (nodes frames.now) }
-    ensures { IfOk result (λ ring. IsFrom node (nodes frames.now) ring.items) }
+    ensures { IfOk result (λ ring. IsEndFrom node (nodes frames.now) ring.items) }
 {
     let mut ring = Vec::new(alloc);
     let mut at = 0;
@@ -68,7 +68,7 @@ pub fn is_graph(graph: &[Vec<usize>]) -> bool
 }
 
 /// The ring of the first closed route from `root`, or, exactly where there is no closed route, an order of all nodes
-/// that routes from the root come to. `graph[v]` lists what node v needs. Only want of memory is an error.
+/// that routes from the root come to. `graph[v]` lists what node v needs. The only error is out of memory.
 pub fn ring_or_order(alloc: Global, graph: &[Vec<usize>], root: usize) -> Result<Found, AllocError>
     requires root { root < length graph.now }
     requires graph { IsGraph graph.now }

@@ -1,5 +1,6 @@
 // Totals of nodes, each of its own and of what it needs.
-ghost use Rattle.std.specs.Prelude.{◌≡◌, ℕ, ◌+◌, ◌<◌, List, length, [], All, IfOk, min, slice_index};
+ghost use Rattle.std.specs.Prelude.{◌≡◌, ℕ, ◌+◌, ◌<◌, List, length, [], All, IfOk, min};
+ghost use Rattle.std.specs.Prelude.{slice_index};
 ghost use Rattle.std.specs.List.{sum_by};
 ghost use Rattle.ring.specs.Order.{Follows};
 ghost use Rattle.ring.specs.Values.{AreTotals};
@@ -24,7 +25,7 @@ fn total_at(own: u64, needs: &[usize], table: &[u64]) -> u64
 /// The total of each node of an order: what it has of its own and the totals of all that it needs, a need that is
 /// listed twice counted twice. A total above 1,000,000 is given as 1,000,000. `own[v]` is what node v has of its own,
 /// and the answer has a place for each node of the graph. `order` is one that `ring_or_order` gives, or any other in
-/// which each node follows what it needs. Only want of memory is an error.
+/// which each node follows what it needs. The only error is out of memory.
 pub fn capped_totals(
     alloc: Global,
     graph: &[Vec<usize>],

@@ -13,7 +13,7 @@ use Rattle.std.proofs.lemmas.Option.{none-some, same_Some}
 use Rattle.std.proofs.lemmas.List.{get_or_default, length-map}
 use Rattle.std.proofs.lemmas.List.Sorted.{searchable_from_sorted}
 use Rattle.tk_io.specs.Search.{IsKeyPlace}
-use Rattle.tk_io.specs.Shown.{entries_by, shown_by}
+use Rattle.tk_io.specs.View.{keyed_view, entries_view}
 
 first : (a b : Bool) → T (a && b) → T a
 first true b p = tt
@@ -47,7 +47,7 @@ swapped_cond false x y = refl
 
 module _ {E L Y : Type 0} {R : L → L → Ordering} (o : IsTotalOrder R) (key : E → L) (value : E → Y) where
   -- the key of an entry is below the keys of those behind it
-  later : (x : E) (xs : List E) → T (below_all R (key x) (entries_by key value xs)) → (i : ℕ) (d : E) → i < length xs → R (key x) (key (slice_index_or xs i d)) ≡ Less
+  later : (x : E) (xs : List E) → T (below_all R (key x) (keyed_view key value xs)) → (i : ℕ) (d : E) → i < length xs → R (key x) (key (slice_index_or xs i d)) ≡ Less
   later x [] h i d within = absurd (omega (arith, within))
   later x (y ∷ ys) h zero d within = less _ (first _ _ h)
   later x (y ∷ ys) h (suc i) d within = later x ys (second _ _ h) i d (omega (arith, within))
@@ -56,17 +56,17 @@ module _ {E L Y : Type 0} {R : L → L → Ordering} (o : IsTotalOrder R) (key :
   turned a b r e = o.antisymm b a ∙ ap ordering_reverse e
 
   -- an entry before one that ties with a key is below that key
-  before : (x : E) (xs : List E) (q : L) → T (below_all R (key x) (entries_by key value xs)) → (i : ℕ) (d : E) → i < length xs → R (key (slice_index_or xs i d)) q ≡ Equal → R q (key x) ≡ Greater
+  before : (x : E) (xs : List E) (q : L) → T (below_all R (key x) (keyed_view key value xs)) → (i : ℕ) (d : E) → i < length xs → R (key (slice_index_or xs i d)) q ≡ Equal → R q (key x) ≡ Greater
   before x xs q h i d within tie =
       turned (key x) q Less (sym (alike_right o (key (slice_index_or xs i d)) q (key x) tie) ∙ later x xs h i d within)
 
   -- the entry that ties with a key is found
-  pub found_at : (q : L) (es : List E) (i : ℕ) (d : E) → T (is_sorted R (entries_by key value es)) → i < length es → R (key (slice_index_or es i d)) q ≡ Equal → find R q (entries_by key value es) ≡ Some (value (slice_index_or es i d))
+  pub found_at : (q : L) (es : List E) (i : ℕ) (d : E) → T (is_sorted R (keyed_view key value es)) → i < length es → R (key (slice_index_or es i d)) q ≡ Equal → find R q (keyed_view key value es) ≡ Some (value (slice_index_or es i d))
   found_at q [] i d h within tie = absurd (omega (arith, within))
-  found_at q (x ∷ xs) zero d h within tie = ap (λ r. cond (is_eq r) (Some (value x)) (find R q (entries_by key value xs))) (turned (key x) q Equal tie)
+  found_at q (x ∷ xs) zero d h within tie = ap (λ r. cond (is_eq r) (Some (value x)) (find R q (keyed_view key value xs))) (turned (key x) q Equal tie)
   found_at q (x ∷ xs) (suc i) d h within tie =
       let below : i < length xs = omega (arith, within) in
-      ap (λ r. cond (is_eq r) (Some (value x)) (find R q (entries_by key value xs))) (before x xs q (first _ _ h) i d below tie)
+      ap (λ r. cond (is_eq r) (Some (value x)) (find R q (keyed_view key value xs))) (before x xs q (first _ _ h) i d below tie)
       ∙ found_at q xs i d (second _ _ h) below tie
 
   -- a key's place: the entries before it are below the key, and those behind are above
@@ -80,21 +80,21 @@ module _ {E L Y : Type 0} {R : L → L → Ordering} (o : IsTotalOrder R) (key :
   place_above q x xs h = (λ k d low high. absurd (omega (arith, high)), λ k d low high. h.1 (suc k) d (omega arith) (omega (arith, high)))
 
   -- a key that has a place is not found
-  pub missed_at : (q : L) (es : List E) (i : ℕ) → IsPlace q es i → find R q (entries_by key value es) ≡ None
+  pub missed_at : (q : L) (es : List E) (i : ℕ) → IsPlace q es i → find R q (keyed_view key value es) ≡ None
   missed_at q [] i h = refl
   missed_at q (x ∷ xs) zero h =
-      ap (λ r. cond (is_eq r) (Some (value x)) (find R q (entries_by key value xs))) (turned (key x) q Greater (h.1 0 x (omega arith) (omega arith)))
+      ap (λ r. cond (is_eq r) (Some (value x)) (find R q (keyed_view key value xs))) (turned (key x) q Greater (h.1 0 x (omega arith) (omega arith)))
       ∙ missed_at q xs 0 (place_above q x xs h)
   missed_at q (x ∷ xs) (suc i) h =
-      ap (λ r. cond (is_eq r) (Some (value x)) (find R q (entries_by key value xs))) (turned (key x) q Less (h.0 0 x (omega arith) (omega arith)))
+      ap (λ r. cond (is_eq r) (Some (value x)) (find R q (keyed_view key value xs))) (turned (key x) q Less (h.0 0 x (omega arith) (omega arith)))
       ∙ missed_at q xs i (place_behind q x xs i h)
 
   -- the step of `put` at an entry, by how the key compares with it
-  put_step : (e x : E) (xs : List E) (r : Ordering) → R (key e) (key x) ≡ r → put R (key e) (value e) (entries_by key value (x ∷ xs)) ≡ by_order r ((key e, value e) ∷ entries_by key value (x ∷ xs)) ((key x, value e) ∷ entries_by key value xs) ((key x, value x) ∷ put R (key e) (value e) (entries_by key value xs))
-  put_step e x xs r c = ap (λ s. by_order s ((key e, value e) ∷ entries_by key value (x ∷ xs)) ((key x, value e) ∷ entries_by key value xs) ((key x, value x) ∷ put R (key e) (value e) (entries_by key value xs))) c
+  put_step : (e x : E) (xs : List E) (r : Ordering) → R (key e) (key x) ≡ r → put R (key e) (value e) (keyed_view key value (x ∷ xs)) ≡ by_order r ((key e, value e) ∷ keyed_view key value (x ∷ xs)) ((key x, value e) ∷ keyed_view key value xs) ((key x, value x) ∷ put R (key e) (value e) (keyed_view key value xs))
+  put_step e x xs r c = ap (λ s. by_order s ((key e, value e) ∷ keyed_view key value (x ∷ xs)) ((key x, value e) ∷ keyed_view key value xs) ((key x, value x) ∷ put R (key e) (value e) (keyed_view key value xs))) c
 
   -- an entry put in at its key's place
-  pub put_at : (e : E) (es : List E) (i : ℕ) → i ≤ length es → IsPlace (key e) es i → entries_by key value (insert es i e) ≡ put R (key e) (value e) (entries_by key value es)
+  pub put_at : (e : E) (es : List E) (i : ℕ) → i ≤ length es → IsPlace (key e) es i → keyed_view key value (insert es i e) ≡ put R (key e) (value e) (keyed_view key value es)
   put_at e [] zero within h = refl
   put_at e [] (suc i) within h = absurd (omega (arith, within))
   put_at e (x ∷ xs) zero within h = sym (put_step e x xs Less (turned (key x) (key e) Greater (h.1 0 x (omega arith) (omega arith))))
@@ -103,69 +103,69 @@ module _ {E L Y : Type 0} {R : L → L → Ordering} (o : IsTotalOrder R) (key :
       ∙ sym (put_step e x xs Greater (turned (key x) (key e) Less (h.0 0 x (omega arith) (omega arith))))
 
   -- an entry written over one of its key
-  pub put_over : (e : E) (es : List E) (i : ℕ) (d : E) → T (is_sorted R (entries_by key value es)) → i < length es → key (slice_index_or es i d) ≡ key e → entries_by key value (set es i e) ≡ put R (key e) (value e) (entries_by key value es)
+  pub put_over : (e : E) (es : List E) (i : ℕ) (d : E) → T (is_sorted R (keyed_view key value es)) → i < length es → key (slice_index_or es i d) ≡ key e → keyed_view key value (set es i e) ≡ put R (key e) (value e) (keyed_view key value es)
   put_over e [] i d h within same = absurd (omega (arith, within))
   put_over e (x ∷ xs) zero d h within same =
-      sym (put_step e x xs Equal (ap (λ k. R (key e) k) same ∙ tied_itself o (key e)) ∙ ap (λ k. (k, value e) ∷ entries_by key value xs) same)
+      sym (put_step e x xs Equal (ap (λ k. R (key e) k) same ∙ tied_itself o (key e)) ∙ ap (λ k. (k, value e) ∷ keyed_view key value xs) same)
   put_over e (x ∷ xs) (suc i) d h within same =
       let below : i < length xs = omega (arith, within) in
       ap (λ l. (key x, value x) ∷ l) (put_over e xs i d (second _ _ h) below same)
       ∙ sym (put_step e x xs Greater (before x xs (key e) (first _ _ h) i d below (ap (λ k. R k (key e)) same ∙ tied_itself o (key e))))
 
   -- entries that are all above a key are all kept without it
-  kept : (q : L) (es : List E) → IsPlace q es 0 → where_key R (λ k. not (eq_by_cmp R q k)) (entries_by key value es) ≡ entries_by key value es
+  kept : (q : L) (es : List E) → IsPlace q es 0 → where_key R (λ k. not (eq_by_cmp R q k)) (keyed_view key value es) ≡ keyed_view key value es
   kept q [] h = refl
   kept q (x ∷ xs) h =
-      ap (λ r. cond (not (is_eq r)) ((key x, value x) ∷ where_key R (λ k. not (eq_by_cmp R q k)) (entries_by key value xs)) (where_key R (λ k. not (eq_by_cmp R q k)) (entries_by key value xs))) (turned (key x) q Greater (h.1 0 x (omega arith) (omega arith)))
+      ap (λ r. cond (not (is_eq r)) ((key x, value x) ∷ where_key R (λ k. not (eq_by_cmp R q k)) (keyed_view key value xs)) (where_key R (λ k. not (eq_by_cmp R q k)) (keyed_view key value xs))) (turned (key x) q Greater (h.1 0 x (omega arith) (omega arith)))
       ∙ ap (λ l. (key x, value x) ∷ l) (kept q xs (place_above q x xs h))
 
   -- the entries behind one that ties with a key are above that key
-  above : (x : E) (xs : List E) (q : L) → R (key x) q ≡ Equal → T (below_all R (key x) (entries_by key value xs)) → IsPlace q xs 0
+  above : (x : E) (xs : List E) (q : L) → R (key x) q ≡ Equal → T (below_all R (key x) (keyed_view key value xs)) → IsPlace q xs 0
   above x xs q tie h = (λ k d low high. absurd (omega (arith, high)), λ k d low high. turned q (key (slice_index_or xs k d)) Less (sym (o.congr (key x) q (key (slice_index_or xs k d)) tie) ∙ later x xs h k d high))
 
   -- an entry taken out
-  pub taken_at : (q : L) (es : List E) (i : ℕ) (d : E) → T (is_sorted R (entries_by key value es)) → i < length es → R (key (slice_index_or es i d)) q ≡ Equal → entries_by key value (remove es i) ≡ where_key R (λ k. not (eq_by_cmp R q k)) (entries_by key value es)
+  pub taken_at : (q : L) (es : List E) (i : ℕ) (d : E) → T (is_sorted R (keyed_view key value es)) → i < length es → R (key (slice_index_or es i d)) q ≡ Equal → keyed_view key value (remove es i) ≡ where_key R (λ k. not (eq_by_cmp R q k)) (keyed_view key value es)
   taken_at q [] i d h within tie = absurd (omega (arith, within))
   taken_at q (x ∷ xs) zero d h within tie =
-      sym (ap (λ r. cond (not (is_eq r)) ((key x, value x) ∷ where_key R (λ k. not (eq_by_cmp R q k)) (entries_by key value xs)) (where_key R (λ k. not (eq_by_cmp R q k)) (entries_by key value xs))) (turned (key x) q Equal tie)
+      sym (ap (λ r. cond (not (is_eq r)) ((key x, value x) ∷ where_key R (λ k. not (eq_by_cmp R q k)) (keyed_view key value xs)) (where_key R (λ k. not (eq_by_cmp R q k)) (keyed_view key value xs))) (turned (key x) q Equal tie)
       ∙ kept q xs (above x xs q tie (first _ _ h)))
   taken_at q (x ∷ xs) (suc i) d h within tie =
       let below : i < length xs = omega (arith, within) in
       ap (λ l. (key x, value x) ∷ l) (taken_at q xs i d (second _ _ h) below tie)
-      ∙ sym (ap (λ r. cond (not (is_eq r)) ((key x, value x) ∷ where_key R (λ k. not (eq_by_cmp R q k)) (entries_by key value xs)) (where_key R (λ k. not (eq_by_cmp R q k)) (entries_by key value xs))) (before x xs q (first _ _ h) i d below tie))
+      ∙ sym (ap (λ r. cond (not (is_eq r)) ((key x, value x) ∷ where_key R (λ k. not (eq_by_cmp R q k)) (keyed_view key value xs)) (where_key R (λ k. not (eq_by_cmp R q k)) (keyed_view key value xs))) (before x xs q (first _ _ h) i d below tie))
 
-  neighbours : (es : List E) → T (is_sorted R (entries_by key value es)) → (k : ℕ) (d : E) → suc k < length es → is_lt (R (key (slice_index_or es (suc k) d)) (key (slice_index_or es k d))) ≡ false
+  neighbours : (es : List E) → T (is_sorted R (keyed_view key value es)) → (k : ℕ) (d : E) → suc k < length es → is_lt (R (key (slice_index_or es (suc k) d)) (key (slice_index_or es k d))) ≡ false
   neighbours [] h k d within = absurd (omega (arith, within))
   neighbours (x ∷ xs) h zero d within = ap is_lt (turned (key x) (key (slice_index_or xs 0 d)) Less (later x xs (first _ _ h) 0 d (omega (arith, within))))
   neighbours (x ∷ xs) h (suc k) d within = neighbours xs (second _ _ h) k d (omega (arith, within))
 
-  rises : (es : List E) → T (is_sorted R (entries_by key value es)) → IsSortedBy (λ a b. is_lt (R (key a) (key b))) es
+  rises : (es : List E) → T (is_sorted R (keyed_view key value es)) → IsSortedBy (λ a b. is_lt (R (key a) (key b))) es
   rises es h k d low high =
       let next : k + 1 ≡ suc k = omega arith in
       subst (λ n. is_lt (R (key (slice_index_or es n d)) (key (slice_index_or es k d))) ≡ false) (sym next) (neighbours es h k d (omega (arith, high)))
 
   -- how the keys compare with one rises along the list, as a search by halves asks
-  pub compared : (es : List E) (q : L) → T (is_sorted R (entries_by key value es)) → IsNonDecreasingBy (λ y. ordering_index (R (key y) q)) es
+  pub compared : (es : List E) (q : L) → T (is_sorted R (keyed_view key value es)) → IsNonDecreasingBy (λ y. ordering_index (R (key y) q)) es
   compared es q h = searchable_from_sorted o key es q (rises es h)
 
   -- the entries before one that is below a key are below it too
-  pub below_too : (q : L) (es : List E) (m : ℕ) (d : E) → T (is_sorted R (entries_by key value es)) → m < length es → R (key (slice_index_or es m d)) q ≡ Less → (k : ℕ) (e : E) → k ≤ m → R (key (slice_index_or es k e)) q ≡ Less
+  pub below_too : (q : L) (es : List E) (m : ℕ) (d : E) → T (is_sorted R (keyed_view key value es)) → m < length es → R (key (slice_index_or es m d)) q ≡ Less → (k : ℕ) (e : E) → k ≤ m → R (key (slice_index_or es k e)) q ≡ Less
   below_too q es m d h within less_here k e before =
       let here : R (key (slice_index_or es m e)) q ≡ Less = ap (λ x. R (key x) q) (get_or_default es m e d within) ∙ less_here in
       index_less (R (key (slice_index_or es k e)) q) (omega (arith, compared es q h k m e before within, ap ordering_index here))
 
   -- .. and those behind one that is above a key are above it too
-  pub above_too : (q : L) (es : List E) (m : ℕ) (d : E) → T (is_sorted R (entries_by key value es)) → m < length es → R (key (slice_index_or es m d)) q ≡ Greater → (k : ℕ) (e : E) → m ≤ k → k < length es → R (key (slice_index_or es k e)) q ≡ Greater
+  pub above_too : (q : L) (es : List E) (m : ℕ) (d : E) → T (is_sorted R (keyed_view key value es)) → m < length es → R (key (slice_index_or es m d)) q ≡ Greater → (k : ℕ) (e : E) → m ≤ k → k < length es → R (key (slice_index_or es k e)) q ≡ Greater
   above_too q es m d h within above_here k e behind inside =
       let here : R (key (slice_index_or es m e)) q ≡ Greater = ap (λ x. R (key x) q) (get_or_default es m e d within) ∙ above_here in
       index_greater (R (key (slice_index_or es k e)) q) (omega (arith, compared es q h m k e behind inside, ap ordering_index here))
 
-  later_at : (x : E) (xs : List E) → T (below_all R (key x) (entries_by key value xs)) → (i : ℕ) (l : E) → slice_get xs i ≡ Some l → R (key x) (key l) ≡ Less
+  later_at : (x : E) (xs : List E) → T (below_all R (key x) (keyed_view key value xs)) → (i : ℕ) (l : E) → slice_get xs i ≡ Some l → R (key x) (key l) ≡ Less
   later_at x [] h i l at = absurd (none-some l at)
   later_at x (y ∷ ys) h zero l at = ap (λ z. R (key x) (key z)) (sym (same_Some y l at)) ∙ less _ (first _ _ h)
   later_at x (y ∷ ys) h (suc i) l at = later_at x ys (second _ _ h) i l at
 
-  below_last : (q : L) (es : List E) → T (is_sorted R (entries_by key value es)) → (n : ℕ) (l : E) → length es ≡ suc n → slice_get es n ≡ Some l → R (key l) q ≡ Less → (k : ℕ) (e : E) → k < length es → R (key (slice_index_or es k e)) q ≡ Less
+  below_last : (q : L) (es : List E) → T (is_sorted R (keyed_view key value es)) → (n : ℕ) (l : E) → length es ≡ suc n → slice_get es n ≡ Some l → R (key l) q ≡ Less → (k : ℕ) (e : E) → k < length es → R (key (slice_index_or es k e)) q ≡ Less
   below_last q [] h n l size at last k e within = absurd (omega (arith, within))
   below_last q (x ∷ xs) h zero l size at last zero e within = ap (λ z. R (key z) q) (same_Some x l at) ∙ last
   below_last q (x ∷ xs) h zero l size at last (suc k) e within = absurd (omega (arith, size, within))
@@ -173,23 +173,23 @@ module _ {E L Y : Type 0} {R : L → L → Ordering} (o : IsTotalOrder R) (key :
   below_last q (x ∷ xs) h (suc n) l size at last (suc k) e within = below_last q xs (second _ _ h) n l (omega (arith, size)) at last k e (omega (arith, within))
 
   -- a key above the last belongs at the end
-  pub above_last : (q : L) (es : List E) (l : E) → T (is_sorted R (entries_by key value es)) → Some l ≡ slice_get es (length es - 1) → R (key l) q ≡ Less → IsPlace q es (length es)
+  pub above_last : (q : L) (es : List E) (l : E) → T (is_sorted R (keyed_view key value es)) → Some l ≡ slice_get es (length es - 1) → R (key l) q ≡ Less → IsPlace q es (length es)
   above_last q [] l h at last = absurd (none-some l (sym at))
   above_last q (x ∷ xs) l h at last =
       let here : suc (length xs) - 1 ≡ length xs = omega arith in
       (λ k e low high. below_last q (x ∷ xs) h (length xs) l refl (sym (at ∙ ap (slice_get (x ∷ xs)) here)) last k e high, λ k e low high. absurd (omega (arith, low, high)))
 
   -- where a search by halves ends
-  pub searched : (q : L) (es : List E) (r : Result ℕ ℕ) → T (is_sorted R (entries_by key value es)) → IsSearchInRange r (length es) → IsBinarySearchResult (λ y. R (key y) q) es r → IsKeyPlace (λ y. R (key y) q) es r
+  pub searched : (q : L) (es : List E) (r : Result ℕ ℕ) → T (is_sorted R (keyed_view key value es)) → IsSearchInRange r (length es) → IsBinarySearchResult (λ y. R (key y) q) es r → IsKeyPlace (λ y. R (key y) q) es r
   searched q es (Ok i) h within found = (within, found)
   searched q es (Err i) h within parted = (within, parted (compared es q h))
 
   -- what stands at a key, by where its search ended
-  pub get_found : (q : L) (es : List E) (i : ℕ) (d : E) → T (is_sorted R (entries_by key value es)) → i < length es → R (key (slice_index_or es i d)) q ≡ Equal → map.get (map.from_sorted {R = R} (entries_by key value es)) q ≡ Some (value (slice_index_or es i d))
-  get_found q es i d h within tie = map.get-from_sorted R (entries_by key value es) q h ∙ found_at q es i d h within tie
+  pub get_found : (q : L) (es : List E) (i : ℕ) (d : E) → T (is_sorted R (keyed_view key value es)) → i < length es → R (key (slice_index_or es i d)) q ≡ Equal → map.get (map.from_sorted {R = R} (keyed_view key value es)) q ≡ Some (value (slice_index_or es i d))
+  get_found q es i d h within tie = map.get-from_sorted R (keyed_view key value es) q h ∙ found_at q es i d h within tie
 
-  pub get_missed : (q : L) (es : List E) (i : ℕ) → T (is_sorted R (entries_by key value es)) → IsPlace q es i → map.get (map.from_sorted {R = R} (entries_by key value es)) q ≡ None
-  get_missed q es i h place = map.get-from_sorted R (entries_by key value es) q h ∙ missed_at q es i place
+  pub get_missed : (q : L) (es : List E) (i : ℕ) → T (is_sorted R (keyed_view key value es)) → IsPlace q es i → map.get (map.from_sorted {R = R} (keyed_view key value es)) q ≡ None
+  get_missed q es i h place = map.get-from_sorted R (keyed_view key value es) q h ∙ missed_at q es i place
 
 -- a list with one entry put, as a map
 module _ {L Y : Type 0} {R : L → L → Ordering} (o : IsTotalOrder R) where
@@ -239,7 +239,7 @@ module _ {L Y : Type 0} (R : L → L → Ordering) where
 -- a list of pairs of a key, shown by g, and a value
 module _ {K L X : Type 0} {R : L → L → Ordering} (o : IsTotalOrder R) (same : IsAntisymmetric R) (g : K → L) where
   abbrev pub shown : List (K × X) → List (L × X)
-  shown es = shown_by g (λ v. v) es
+  shown es = entries_view g (λ v. v) es
 
   abbrev pub Rises : List (K × X) → Type 0
   Rises es = T (is_sorted R (shown es))

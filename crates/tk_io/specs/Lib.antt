@@ -6,6 +6,6 @@ pub mod Memory
 pub mod Order
 pub mod Entries
 pub mod FilesData
-pub mod Shown
+pub mod View
 pub mod Text
 pub mod Search

@@ -1,5 +1,6 @@
 // A source and a sink in memory whose calls fail where they are told to.
-ghost use Rattle.std.specs.Prelude.{◌≡◌, [], ◌-◌, ◌≤◌, ◌<◌, ◌↔◌, Some, Contains, min, length, IsErr, IfOk, OnErr};
+ghost use Rattle.std.specs.Prelude.{◌≡◌, [], ◌-◌, ◌≤◌, ◌<◌, ◌↔◌, Some, Contains, min, length};
+ghost use Rattle.std.specs.Prelude.{IsErr, IfOk, OnErr};
 ghost use Rattle.std.specs.Io.KnownBytes.{ReadConsumes, WriteAppends};
 ghost use Rattle.tk_io.specs.Causes.{HasCause, following};
 ghost use Rattle.tk_io.specs.Memory.{MustFail};

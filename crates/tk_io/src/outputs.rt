@@ -5,7 +5,7 @@ ghost use Rattle.std.specs.List.{slice_get};
 ghost use Rattle.std.specs.Option.{option_map};
 ghost use Rattle.std.specs.String.{string_bytes};
 ghost use Rattle.tk_io.specs.Entries.{PutsEntry};
-ghost use Rattle.tk_io.specs.Shown.{shown_by};
+ghost use Rattle.tk_io.specs.View.{entries_view};
 
 use crate::{Bytes, NoMemory, TextMap};
 use std::alloc::Global;
@@ -76,7 +76,7 @@ impl Outputs {
 
     /// All outputs in byte order of paths.
     pub fn entries(&self) -> &[(String, Bytes)]
-        ensures { shown_by string_bytes (λ body. body) result.now ≡ map.entries self.now }
+        ensures { entries_view string_bytes (λ body. body) result.now ≡ map.entries self.now }
     {
         self.bodies.entries()
     }

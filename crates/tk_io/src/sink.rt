@@ -1,5 +1,6 @@
 // Where bytes go, and writing a piece whole.
-ghost use Rattle.std.specs.Prelude.{◌≡◌, [], List, ℕ, ◌<◌, ◌≤◌, Option, length, Ok, IfOk, OnOk, OnErr};
+ghost use Rattle.std.specs.Prelude.{◌≡◌, [], List, ℕ, ◌<◌, ◌≤◌, Option, length, Ok, IfOk, OnOk};
+ghost use Rattle.std.specs.Prelude.{OnErr};
 ghost use Rattle.std.specs.Io.KnownBytes.{Appends, WriteAppends};
 ghost use Rattle.tk_io.specs.Causes.{HasCause};
 ghost use Rattle.tk_io.specs.Writing.{AppendsPart};
@@ -13,7 +14,7 @@ pub trait Sink {
 
     ghost faults: { Self → ℕ };
 
-    /// Appends a front of the piece and answers its length: at least one byte of a piece that is not empty. `Failed`
+    /// Appends a prefix of the piece and answers its length: at least one byte of a piece that is not empty. `Failed`
     /// comes only where the faults rose, and appends nothing.
     fn write(&mut self, piece: &[u8]) -> Result<usize, Failed>
         ensures bound { IfOk result (λ n. n ≤ length piece.now) }

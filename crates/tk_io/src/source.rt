@@ -1,5 +1,6 @@
 // Where bytes come from, and reading a source to its end.
-ghost use Rattle.std.specs.Prelude.{◌≡◌, List, ℕ, ◌+◌, ◌<◌, ◌≤◌, ◌^◌, Option, length, IfOk, OnOk, IsErrOf, IfSome};
+ghost use Rattle.std.specs.Prelude.{◌≡◌, List, ℕ, ◌+◌, ◌<◌, ◌≤◌, ◌^◌, Option, length, IfOk, OnOk};
+ghost use Rattle.std.specs.Prelude.{IsErrOf, IfSome};
 ghost use Rattle.std.specs.Io.KnownBytes.{Consumes, IsAtEnd, ReadConsumes};
 ghost use Rattle.tk_io.specs.Causes.{HasCause, Rose};
 ghost use Rattle.tk_io.specs.Reading.{TakesAtMost, TakesExactly};
@@ -15,7 +16,7 @@ pub trait Source {
 
     ghost faults: { Self → ℕ };
 
-    /// Takes bytes to the front of the buffer and answers how many. 0 for a buffer that is not empty is the end, and
+    /// Takes bytes to the start of the buffer and answers how many. 0 for a buffer that is not empty is the end, and
     /// comes exactly there where the bytes left are told. `Failed` comes only where the faults rose, and takes nothing.
     fn read(&mut self, buf: &mut [u8]) -> Result<usize, Failed>
         ensures bound { IfOk result (λ n. n ≤ length buf.new) }

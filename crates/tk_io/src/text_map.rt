@@ -8,7 +8,7 @@ ghost use Rattle.std.specs.String.{string_bytes};
 ghost use Rattle.tk_io.specs.Entries.{PutsEntry, RemovesEntry};
 ghost use Rattle.tk_io.specs.Order.{text_cmp};
 ghost use Rattle.tk_io.specs.Search.{IsKeyPlace};
-ghost use Rattle.tk_io.specs.Shown.{shown_by};
+ghost use Rattle.tk_io.specs.View.{entries_view};
 
 use crate::NoMemory;
 use std::alloc::Global;
@@ -29,21 +29,21 @@ impl<V> Model for TextMap<V> {
     ghost use Rattle.std.specs.Coded.{coded_list, coded_ℕ};
     ghost use Rattle.std.specs.String.{string_bytes};
     ghost use Rattle.tk_io.specs.Order.{text_cmp};
-    ghost use Rattle.tk_io.specs.Shown.{shown_by};
+    ghost use Rattle.tk_io.specs.View.{entries_view};
 
     ghost Value = { map.FinMap text_cmp V };
 
     ghost coded = { map.code (coded_list coded_ℕ) V.code };
 
-    ghost view = { λ m. map.from_sorted (shown_by string_bytes (λ v. v) m.entries.items) };
+    ghost view = { λ m. map.from_sorted (entries_view string_bytes (λ v. v) m.entries.items) };
 
     ghost invariant = { λ m. T
-        (is_sorted text_cmp (shown_by string_bytes (λ v. v) m.entries.items)) };
+        (is_sorted text_cmp (entries_view string_bytes (λ v. v) m.entries.items)) };
 }
 
 // Where the key stands among entries whose keys rise, or where it belongs.
 fn place_of<V>(entries: &[(String, V)], key: &str) -> Result<usize, usize>
-    requires { T (is_sorted text_cmp (shown_by string_bytes (λ v. v) entries.now)) }
+    requires { T (is_sorted text_cmp (entries_view string_bytes (λ v. v) entries.now)) }
     ensures { IsKeyPlace (λ e. text_cmp (string_bytes e.0) key.now) entries.now result }
 {
     let Some(last) = entries.last() else {
@@ -114,7 +114,7 @@ impl<V> TextMap<V> {
 
     /// All entries in byte order of keys.
     pub fn entries(&self) -> &[(String, V)]
-        ensures { shown_by string_bytes (λ v. v) result.now ≡ map.entries self.now }
+        ensures { entries_view string_bytes (λ v. v) result.now ≡ map.entries self.now }
     {
         self.entries.as_slice()
     }

@@ -6,7 +6,7 @@ abbrev pub IsLast : ℕ → Type 0
 IsLast n = (n ≡ 0) ⊎ (0 < n % 10)
 
 -- n is size * 10^zeros, and m is this size, or 10^30 where it is greater
-pub record Holds (m zeros n : ℕ) : Type 0 where
+pub record IsSignificand (m zeros n : ℕ) : Type 0 where
   pub size : ℕ
   pub value : n ≡ size * 10 ^ zeros
   pub last : IsLast size

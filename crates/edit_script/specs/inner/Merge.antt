@@ -5,7 +5,7 @@ use Rattle.std.specs.FinMap.{find, is_sorted}
 use Rattle.std.specs.String.{string_bytes}
 use Rattle.std.specs.declared.string.String.{String}
 use Rattle.tk_io.specs.Order.{text_cmp}
-use Rattle.tk_io.specs.Shown.{shown_by}
+use Rattle.tk_io.specs.View.{entries_view}
 use Rattle.edit_script.specs.Delta.{ChangeData, change_of}
 use Rattle.edit_script.specs.declared.merging.Found.{Found}
 use Rattle.edit_script.specs.declared.merging.Found.TheVariants as found
@@ -15,11 +15,11 @@ abbrev pub Entries : Type 0
 Entries = List (List ℕ × List ℕ)
 
 -- a path and bytes that are lent
-abbrev pub shown_entry : Bor (List ℕ) × Bor (List ℕ) → List ℕ × List ℕ
-shown_entry e = (e.0.now, e.1.now)
+abbrev pub lent_view : Bor (List ℕ) × Bor (List ℕ) → List ℕ × List ℕ
+lent_view e = (e.0.now, e.1.now)
 
-abbrev pub shown : {Z : Type 0} → List (String Z × List ℕ) → Entries
-shown entries = shown_by string_bytes (λ body. body) entries
+abbrev pub outputs_view : {Z : Type 0} → List (String Z × List ℕ) → Entries
+outputs_view entries = entries_view string_bytes (λ body. body) entries
 
 -- the changes rise, and say of each path how it changed
 pub record AreChanges (old new : Entries) (cs : List ChangeData) : Type 0 where

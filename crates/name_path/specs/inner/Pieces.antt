@@ -16,5 +16,5 @@ abbrev pub LacksStep : List ℕ → List (List ℕ) → Type 0
 LacksStep step texts = All (λ text. text ≢ step) texts
 
 -- the steps before the first `$value` and those behind it
-abbrev pub IsCut : List (List ℕ) → List (List ℕ) → List (List ℕ) → Type 0
-IsCut steps before behind = LacksStep value_step before × ((steps ≡ before ++ value_step ∷ behind) ⊎ ((steps ≡ before) × (behind ≡ [])))
+abbrev pub IsValueCut : List (List ℕ) → List (List ℕ) → List (List ℕ) → Type 0
+IsValueCut steps before behind = LacksStep value_step before × ((steps ≡ before ++ value_step ∷ behind) ⊎ ((steps ≡ before) × (behind ≡ [])))

@@ -1,5 +1,5 @@
 use Rattle.std.proofs.Common.{◌≡◌, ◌<◌, ◌%◌, ◌-◌, ◌*◌, ◌^◌, arith, sym, ◌∙◌, ap, inl, inr}
-use Rattle.dec_fix.specs.Reading.{within}
+use Rattle.dec_fix.specs.Reading.{within_bounds}
 use Rattle.dec_fix.proofs.Placed.{placed_far, placed_zero, placed_up, placed_down, within_min}
 use Rattle.dec_fix.proofs.reading.placed.Goals as goal
 
@@ -13,7 +13,7 @@ returns-then-kept-eq0 c = λ size e last. let z : size ≡ 0 = omega arith in
 pub returns-then-down-up : goal.returns-then-down-up
 returns-then-down-up c = λ size e last. let same : size ≡ c.args.kept = omega arith in
     rw (same, placed_up c.args.kept c.args.up c.args.down (omega arith))
-    (c.within-then-down-up.ensures ∙ ap (λ n. within c.args.negative (n, 0)) c.scaled-size.ensures ∙ within_min c.args.negative (c.args.kept * 10 ^ (c.args.up - c.args.down)) 0)
+    (c.within-then-down-up.ensures ∙ ap (λ n. within_bounds c.args.negative (n, 0)) c.scaled-size.ensures ∙ within_min c.args.negative (c.args.kept * 10 ^ (c.args.up - c.args.down)) 0)
 
 pub returns-else-down-up : goal.returns-else-down-up
 returns-else-down-up c = λ size e last. let same : size ≡ c.args.kept = omega arith in

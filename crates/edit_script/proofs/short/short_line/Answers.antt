@@ -1,7 +1,7 @@
 use Rattle.std.proofs.Common.{◌≡◌, ◌∙◌, ◌+◌, ◌-◌, ℕ, List, length, map, ap, arith, sym, refl}
 use Rattle.edit_script.specs.Delta.{ChangeData}
 use Rattle.edit_script.specs.View.{Lined}
-use Rattle.edit_script.specs.Stats.{bare, gone_count, written_count, short_line}
+use Rattle.edit_script.specs.Stats.{without_lines, gone_count, written_count, short_line}
 use Rattle.edit_script.specs.declared.line.Line.TheVariants.{Short}
 use Rattle.edit_script.proofs.Stats.{counts_whole, bare_length}
 use Rattle.edit_script.proofs.short.short_line.Goals as goal
@@ -9,14 +9,14 @@ use Rattle.edit_script.proofs.short.short_line.Goals as goal
 pub overflow_sub-result : goal.overflow_sub-result
 overflow_sub-result c =
     let cs = c.args.changes.now in
-    omega (arith, c.gone_count-gone.ensures, c.len.ensures, counts_whole (bare cs), bare_length cs)
+    omega (arith, c.gone_count-gone.ensures, c.len.ensures, counts_whole (without_lines cs), bare_length cs)
 
 -- what is left of all
-written : (cs : List Lined) (n g : ℕ) → n ≡ length cs → g ≡ gone_count (bare cs) → n - g ≡ written_count (bare cs)
-written cs n g e f = omega (arith, e, f, counts_whole (bare cs), bare_length cs)
+written : (cs : List Lined) (n g : ℕ) → n ≡ length cs → g ≡ gone_count (without_lines cs) → n - g ≡ written_count (without_lines cs)
+written cs n g e f = omega (arith, e, f, counts_whole (without_lines cs), bare_length cs)
 
-same_line : (k : ℕ) (cs : List Lined) (w g : ℕ) → w ≡ written_count (bare cs) → g ≡ gone_count (bare cs) → Short k w g ≡ short_line k (bare cs)
-same_line k cs w g e f = ap (λ x. Short k x g) e ∙ ap (λ x. Short k (written_count (bare cs)) x) f
+same_line : (k : ℕ) (cs : List Lined) (w g : ℕ) → w ≡ written_count (without_lines cs) → g ≡ gone_count (without_lines cs) → Short k w g ≡ short_line k (without_lines cs)
+same_line k cs w g e f = ap (λ x. Short k x g) e ∙ ap (λ x. Short k (written_count (without_lines cs)) x) f
 
 pub returns : goal.returns
 returns c =

@@ -1,6 +1,6 @@
 use Rattle.std.proofs.Common.{◌≡◌, ◌≢◌, ℕ, List, ◌++◌, ◌∷◌, ◌+◌, ◌<◌, length, sym, ap, ◌∙◌, arith, rules, length-append}
 use Rattle.std.specs.String.{string_bytes}
-use Rattle.name_path.specs.Reference.{escaped}
+use Rattle.name_path.specs.Reference.{escaped_step}
 use Rattle.name_path.proofs.Escaping.{spells_itself, escaped_append}
 use Rattle.name_path.proofs.Steps.{no_step, escape_read, all_front, all_back}
 use Rattle.name_path.proofs.escapes.unescaped.Goals as goal
@@ -25,13 +25,13 @@ loop-plain-preserved c =
       whole = escape_read c.args.segment.now (string_bytes c.loop-plain.step) c.loop-plain.left.now c.in-Some.plain.now c.in-Some.behind.now
           (string_bytes c.add.new.step) (string_bytes c.add-in-Some.new.step) c.in-Some-behind_tilde.meant.now c.in-Some-behind_tilde.rest.now
           c.loop-plain.invariant.whole c.in-Some.ensures.0 no_slash c.in-Some.ensures.1 c.in-Some-behind_tilde.ensures.some c.in_ok-add.ensures c.in_ok-add-2.ensures;
-      plain = all_back (λ b. b ≢ 47) (escaped c.in-Some-behind_tilde.meant.now) c.in-Some-behind_tilde.rest.now (126 ∷ c.in-Some.behind.now) c.in-Some-behind_tilde.ensures.some
+      plain = all_back (λ b. b ≢ 47) (escaped_step c.in-Some-behind_tilde.meant.now) c.in-Some-behind_tilde.rest.now (126 ∷ c.in-Some.behind.now) c.in-Some-behind_tilde.ensures.some
           (all_back (λ b. b ≢ 47) c.in-Some.plain.now (126 ∷ c.in-Some.behind.now) c.loop-plain.left.now c.in-Some.ensures.0 c.loop-plain.invariant.plain);
     }
 
 pub returns-clause-step : goal.returns-clause-step
 returns-clause-step c =
-    sym (ap escaped c.in_ok-add-3.ensures
+    sym (ap escaped_step c.in_ok-add-3.ensures
     ∙ (escaped_append (string_bytes c.loop-plain.step) c.loop-plain.left.now
-    ∙ (ap (λ (z : List ℕ). escaped (string_bytes c.loop-plain.step) ++ z) (spells_itself c.loop-plain.left.now c.loop-plain.invariant.plain c.in_default.ensures)
+    ∙ (ap (λ (z : List ℕ). escaped_step (string_bytes c.loop-plain.step) ++ z) (spells_itself c.loop-plain.left.now c.loop-plain.invariant.plain c.in_default.ensures)
     ∙ c.loop-plain.invariant.whole)))

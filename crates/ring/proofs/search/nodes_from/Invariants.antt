@@ -1,6 +1,6 @@
 use Rattle.std.proofs.Common.{◌≡◌, ◌++◌, ◌-◌, drop, length}
 use Rattle.ring.specs.Lists.{In}
-use Rattle.ring.specs.Stack.{nodes}
+use Rattle.ring.specs.inner.Stack.{nodes}
 use Rattle.ring.proofs.search.nodes_from.Given as goal
 
 -- the node is among those from here on

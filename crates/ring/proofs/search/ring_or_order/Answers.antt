@@ -1,6 +1,6 @@
 use Rattle.std.proofs.Common.{arith, rules, ◌<◌, ◌∙◌, ◌++◌, [], ◌∷◌, sym, subst, List, ap, length-set, length, set}
 use Rattle.ring.specs.Lists.{In}
-use Rattle.ring.specs.Stack.{nodes, IsFrom}
+use Rattle.ring.specs.inner.Stack.{nodes, IsEndFrom}
 use Rattle.ring.specs.Graph.{needs_in}
 use Rattle.ring.specs.declared.search.Frame.{Frame}
 use Rattle.ring.specs.declared.search.Mark.{Mark}
@@ -66,11 +66,11 @@ returns-in-Open c =
     let p : Popped c.args.graph.now c.args.root c.loop-top.marks.items c.loop-top.stack.items c.pop.new.self.items c.in-Some.top c.loop-top.order.items = record { size = c.loop-top.invariant.marks; search = c.loop-top.invariant.search; popped = c.in-Some.ensures.items } in
     let l : Looked c.args.graph.now c.args.root c.loop-top.marks.items c.loop-top.stack.items c.pop.new.self.items c.in-Some.top c.loop-top.order.items c.index-graph-top.result c.index-need.result.now c.index.result.now = record { before = p; needs = c.requires.graph; read = c.index-graph-top.is; within = omega arith; need = c.index-need.ensures } in
     record {
-      ring = is_ring c.args.graph.now c.args.root c.loop-top.marks.items c.loop-top.stack.items c.pop.new.self.items c.in-Some.top c.loop-top.order.items c.index-graph-top.result c.index-need.result.now c.index.result.now c.in_ok-nodes_from-in-Open.field-0.items l c.index.ensures c.in-Open.is (subst (λ (fs : List Frame). IsFrom c.index-need.result.now (nodes fs) c.in_ok-nodes_from-in-Open.field-0.items) (c.as_slice.ensures.value ∙ c.in_ok-push-in-Open.ensures.items) c.in_ok-nodes_from-in-Open.ensures);
+      ring = is_ring c.args.graph.now c.args.root c.loop-top.marks.items c.loop-top.stack.items c.pop.new.self.items c.in-Some.top c.loop-top.order.items c.index-graph-top.result c.index-need.result.now c.index.result.now c.in_ok-nodes_from-in-Open.field-0.items l c.index.ensures c.in-Open.is (subst (λ (fs : List Frame). IsEndFrom c.index-need.result.now (nodes fs) c.in_ok-nodes_from-in-Open.field-0.items) (c.as_slice.ensures.value ∙ c.in_ok-push-in-Open.ensures.items) c.in_ok-nodes_from-in-Open.ensures);
       no_ring = tt;
       order = tt;
       ring_within = ring_within (needs_in c.args.graph.now) c.args.root c.loop-top.marks.items (length c.args.graph.now) c.loop-top.stack.items c.loop-top.order.items c.index-need.result.now c.in_ok-nodes_from-in-Open.field-0.items c.loop-top.invariant.marks c.loop-top.invariant.search
-          (subst (λ (fs : List Frame). IsFrom c.index-need.result.now (nodes fs) c.in_ok-nodes_from-in-Open.field-0.items) (c.as_slice.ensures.value ∙ (c.in_ok-push-in-Open.ensures.items ∙ sym c.in-Some.ensures.items)) c.in_ok-nodes_from-in-Open.ensures);
+          (subst (λ (fs : List Frame). IsEndFrom c.index-need.result.now (nodes fs) c.in_ok-nodes_from-in-Open.field-0.items) (c.as_slice.ensures.value ∙ (c.in_ok-push-in-Open.ensures.items ∙ sym c.in-Some.ensures.items)) c.in_ok-nodes_from-in-Open.ensures);
       order_within = tt;
     }
 

@@ -5,7 +5,7 @@ use Rattle.std.specs.declared.vec.Vec.{Vec}
 use Rattle.std.specs.declared.alloc.Global.{Global}
 use Rattle.ref_graph.specs.Edges.{rows_of}
 use Rattle.ref_graph.specs.inner.Marking.{is_marked, Marking}
-use Rattle.ref_graph.specs.Walk.{LeadsTo}
+use Rattle.ref_graph.specs.Walk.{WalksTo}
 use Rattle.ref_graph.proofs.Rows.{are_sources, sources_within}
 use Rattle.ref_graph.proofs.Reaches.{Reaching, start, advance, in_graph, found, only, all_within, no_nodes}
 use Rattle.ref_graph.proofs.graph.Graph.reach.Goals as goal
@@ -46,14 +46,14 @@ pub returns-clause-found : goal.returns-clause-found
 returns-clause-found c =
     let edges = rows_of c.self.inside.targets.items in
     let done = subst (Reaching edges c.args.changed.now c.loop-node.marks.items) (no_nodes c.loop-node.waiting.items (omega (arith, c.loop-node.waiting.ok.0, c.in_default.ensures.cases.0))) c.loop-node.invariant in
-    subst (λ (es : List (List ℕ)). IfOk c.listed.result (λ marks. (v : ℕ) → LeadsTo es c.args.changed.now v → Contains marks v)) c.self.view_is
+    subst (λ (es : List (List ℕ)). IfOk c.listed.result (λ marks. (v : ℕ) → WalksTo es c.args.changed.now v → Contains marks v)) c.self.view_is
     (IfOk-weaker c.listed.result _ _ (λ nodes h. found edges c.args.changed.now c.loop-node.marks.items nodes done (λ v. h v ∙ ap (λ ms. is_marked ms v) c.as_slice.ensures.value)) c.listed.ensures.marked)
 
 pub returns-clause-only : goal.returns-clause-only
 returns-clause-only c =
     let edges = rows_of c.self.inside.targets.items in
     let done = subst (Reaching edges c.args.changed.now c.loop-node.marks.items) (no_nodes c.loop-node.waiting.items (omega (arith, c.loop-node.waiting.ok.0, c.in_default.ensures.cases.0))) c.loop-node.invariant in
-    subst (λ (es : List (List ℕ)). IfOk c.listed.result (λ marks. (v : ℕ) → Contains marks v → LeadsTo es c.args.changed.now v)) c.self.view_is
+    subst (λ (es : List (List ℕ)). IfOk c.listed.result (λ marks. (v : ℕ) → Contains marks v → WalksTo es c.args.changed.now v)) c.self.view_is
     (IfOk-weaker c.listed.result _ _ (λ nodes h. only edges c.args.changed.now c.loop-node.marks.items nodes done (λ v. h v ∙ ap (λ ms. is_marked ms v) c.as_slice.ensures.value)) c.listed.ensures.marked)
 
 pub returns-clause-within : goal.returns-clause-within

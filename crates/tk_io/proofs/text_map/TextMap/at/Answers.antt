@@ -6,7 +6,7 @@ use Rattle.std.specs.String.{string_bytes}
 use Rattle.tk_io.proofs.MapViews.{item_shown}
 use Rattle.tk_io.proofs.SortedEntries.{entries_are}
 use Rattle.tk_io.specs.Order.{text_cmp}
-use Rattle.tk_io.specs.Shown.{shown_by}
+use Rattle.tk_io.specs.View.{entries_view}
 use Rattle.tk_io.proofs.text_map.TextMap.at.Goals as goal
 
 pub returns-in-Some : goal.returns-in-Some
@@ -16,7 +16,7 @@ returns-in-Some g c =
     ap (λ s. Some (s, c.in-Some.field-0.now.1)) c.as_str.ensures.value
     ∙ (ap (λ r. option_map (λ e. (string_bytes e.0, e.1)) r) found
     ∙ (item_shown string_bytes (λ v. v) es c.args.i
-    ∙ ap (λ l. slice_get l c.args.i) (entries_are text_cmp (shown_by string_bytes (λ v. v) es) c.self.invariant ∙ ap map.entries c.self.view_is)))
+    ∙ ap (λ l. slice_get l c.args.i) (entries_are text_cmp (entries_view string_bytes (λ v. v) es) c.self.invariant ∙ ap map.entries c.self.view_is)))
 
 pub returns-in-None : goal.returns-in-None
 returns-in-None g c =
@@ -24,4 +24,4 @@ returns-in-None g c =
     let found = ap option_copied (sym c.in-None.is) ∙ (c.entry_at.ensures ∙ ap (λ l. slice_get l c.args.i) c.as_slice.ensures.value) in
     ap (λ r. option_map (λ e. (string_bytes e.0, e.1)) r) found
     ∙ (item_shown string_bytes (λ v. v) es c.args.i
-    ∙ ap (λ l. slice_get l c.args.i) (entries_are text_cmp (shown_by string_bytes (λ v. v) es) c.self.invariant ∙ ap map.entries c.self.view_is))
+    ∙ ap (λ l. slice_get l c.args.i) (entries_are text_cmp (entries_view string_bytes (λ v. v) es) c.self.invariant ∙ ap map.entries c.self.view_is))

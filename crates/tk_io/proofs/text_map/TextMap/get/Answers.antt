@@ -2,7 +2,7 @@ use Rattle.std.proofs.Common.{ap, sym, subst, ◌∙◌}
 use Rattle.std.specs.Cmp.Lexicographic.{nat_list_cmp_total}
 use Rattle.std.specs.FinMap as map
 use Rattle.std.specs.String.{string_bytes}
-use Rattle.tk_io.specs.Shown.{shown_by}
+use Rattle.tk_io.specs.View.{entries_view}
 use Rattle.tk_io.proofs.SortedEntries.{pair_get, pair_none, Rises}
 use Rattle.tk_io.proofs.TextMaps.{text_cmp-IsAntisymmetric}
 use Rattle.tk_io.proofs.text_map.TextMap.get.Goals as goal
@@ -12,11 +12,11 @@ returns-in-Ok g c =
     let entries = c.as_slice-entries.result.now in
     let rises = subst (Rises nat_list_cmp_total text_cmp-IsAntisymmetric string_bytes) (sym c.as_slice-entries.ensures.value) c.self.invariant in
     sym (pair_get nat_list_cmp_total text_cmp-IsAntisymmetric string_bytes entries c.args.key.now c.in-Ok.i c.index-entries-i.result rises c.in-Ok.ensures)
-    ∙ ap (λ m. map.get m c.args.key.now) (ap (λ es. map.from_sorted (shown_by string_bytes (λ v. v) es)) c.as_slice-entries.ensures.value ∙ c.self.view_is)
+    ∙ ap (λ m. map.get m c.args.key.now) (ap (λ es. map.from_sorted (entries_view string_bytes (λ v. v) es)) c.as_slice-entries.ensures.value ∙ c.self.view_is)
 
 pub returns-in-Err : goal.returns-in-Err
 returns-in-Err g c =
     let entries = c.as_slice-entries.result.now in
     let rises = subst (Rises nat_list_cmp_total text_cmp-IsAntisymmetric string_bytes) (sym c.as_slice-entries.ensures.value) c.self.invariant in
     sym (pair_none nat_list_cmp_total text_cmp-IsAntisymmetric string_bytes entries c.args.key.now c.in-Err.field-0 rises c.in-Err.ensures)
-    ∙ ap (λ m. map.get m c.args.key.now) (ap (λ es. map.from_sorted (shown_by string_bytes (λ v. v) es)) c.as_slice-entries.ensures.value ∙ c.self.view_is)
+    ∙ ap (λ m. map.get m c.args.key.now) (ap (λ es. map.from_sorted (entries_view string_bytes (λ v. v) es)) c.as_slice-entries.ensures.value ∙ c.self.view_is)

@@ -8,7 +8,7 @@ nodes [] = []
 nodes (f ∷ fs) = f.node ∷ nodes fs
 
 -- the end of a list of nodes, from one of them on
-pub record IsFrom (node : ℕ) (all part : List ℕ) : Type 0 where
+pub record IsEndFrom (node : ℕ) (all part : List ℕ) : Type 0 where
   pub before : List ℕ
   pub rest : List ℕ
   pub whole : all ≡ before ++ part
