@@ -6,7 +6,7 @@ use Rattle.grammar.proofs.Tables.{steered_from}
 use Rattle.grammar.proofs.Predicts.{reads, starts}
 use Rattle.json_span.specs.Grammar.{Name, char, unescaped, escape, one}
 use Rattle.json_span.specs.Steered.{rules, table, ahead}
-use Rattle.json_span.specs.Scan.{Reaches, Halts, Scans}
+use Rattle.json_span.specs.inner.Scan.{ReadsTo, Halts, Scans}
 use Rattle.json_span.specs.declared.bytes.Class.TheVariants.{One}
 use Rattle.json_span.proofs.Scans as scan
 use Rattle.json_span.proofs.Classes as row
@@ -68,20 +68,20 @@ module _ (text : List ℕ) where
   abbrev pub Leads : ℕ → ℕ → Type 0
   Leads from at = (r : Result ℕ ℕ) → Scans rest text at r → Scans rest text from r
 
-  pub run_leads : (at end : ℕ) → Reaches (many unescaped) text at end → Leads at end
+  pub run_leads : (at end : ℕ) → ReadsTo (many unescaped) text at end → Leads at end
   run_leads at end x (Ok e) y = record { forward = omega (arith, x.forward, y.forward); within_text = y.within_text; steers = past x.steers y.steers }
   run_leads at end x (Err e) y = record { within_text = y.within_text; stuck = stuck_past x.steers y.stuck }
 
-  pub run_ends : (at end : ℕ) → Reaches (many unescaped) text at end → scan.Sees text (first ahead unescaped) end false
+  pub run_ends : (at end : ℕ) → ReadsTo (many unescaped) text at end → scan.Sees text (first ahead unescaped) end false
   run_ends at end x = ended x.steers
 
-  escaped : (at end : ℕ) → scan.Sees text (first ahead unescaped) at false → Reaches (seq (one 92) escape) text at end → Reaches char text at end
+  escaped : (at end : ℕ) → scan.Sees text (first ahead unescaped) at false → ReadsTo (seq (one 92) escape) text at end → ReadsTo char text at end
   escaped at end e x = scan.reach_right text unescaped (seq (one 92) escape) at end e x
 
-  backslash : (at : ℕ) → at < length text → scan.Sees text (within 92 92) at true → Reaches (one 92) text at (at + 1)
+  backslash : (at : ℕ) → at < length text → scan.Sees text (within 92 92) at true → ReadsTo (one 92) text at (at + 1)
   backslash at lt e = row.reach_class text (One 92) at lt e
 
-  pub escape_leads : (at end : ℕ) → at < length text → scan.Sees text (first ahead unescaped) at false → scan.Sees text (within 92 92) at true → Reaches escape text (at + 1) end → Leads at end
+  pub escape_leads : (at end : ℕ) → at < length text → scan.Sees text (first ahead unescaped) at false → scan.Sees text (within 92 92) at true → ReadsTo escape text (at + 1) end → Leads at end
   escape_leads at end lt e f x (Ok s) y =
       let h = escaped at end e (scan.reach_both text (one 92) escape at (at + 1) end (backslash at lt f) x) in
       record { forward = omega (arith, h.forward, y.forward); within_text = y.within_text; steers = goes_on h.steers y.steers }

@@ -5,24 +5,24 @@ use Rattle.grammar.specs.Grammar.{Reads, one_byte, both, no_more, more}
 use Rattle.json_span.specs.Grammar.{ws}
 use Rattle.json_span.specs.Steered.{rules}
 use Rattle.json_span.specs.Reading.{StringAt}
-use Rattle.json_span.specs.Plain.{Plain, Plains, PlainMembers, PlainEntry, plain_array, plain_object, plains_of, plains_in, plain_members_of, plain_entries_in}
-use Rattle.json_span.specs.Says.{Says, says_list, says_object, no_item, items, MoreItems, no_more_item, more_items, SaysMember, says_member, no_member, some_members, MoreMembers, no_more_member, more_members, PaddedMember, SaysText}
-use Rattle.json_span.specs.Composing.{Blanks, Each, no_texts, one_more, joined, Listed, blank, by_commas, MemberText, Between, IsArrayText, IsObjectText, ListsMayBeSpaced}
+use Rattle.json_span.specs.Plain.{PlainValue, Plains, PlainMembers, PlainEntry, plain_array, plain_object, plains_of, plains_in, plain_members_of, plain_entries_in}
+use Rattle.json_span.specs.Says.{Says, says_list, says_object, says_no_item, says_items, SaysMoreItems, says_no_more_item, says_more_items, SaysMember, says_member, says_no_member, says_members, SaysMoreMembers, says_no_more_member, says_more_members, PaddedMember, SaysText}
+use Rattle.json_span.specs.Composing.{Blanks, Pointwise, no_texts, one_more, separated, Listed, only_blanks, by_commas, MemberText, Between, IsArrayText, IsObjectText, ListsMayBeSpaced}
 use Rattle.json_span.proofs.Cut.{reads_cut}
 use Rattle.json_span.proofs.SaidCut.{says_cut, string_cut}
 use Rattle.json_span.proofs.Saying.{says_frame}
 use Rattle.json_span.proofs.Shorts.{is_value}
 use Rattle.json_span.proofs.Slices.{frame, string_frame}
 
--- behind the first text, each with a comma in front
+-- behind the first text, each with a comma before it
 abbrev behind : List (List ℕ) → List ℕ
 behind ts = flat_map (λ t. (44 ∷ []) ++ t) ts
 
 -- the first text, the others, and what follows
-regrouped : (t : List ℕ) (ts : List (List ℕ)) (rest : List ℕ) → joined (44 ∷ []) (t ∷ ts) ++ rest ≡ t ++ (behind ts ++ rest)
+regrouped : (t : List ℕ) (ts : List (List ℕ)) (rest : List ℕ) → separated (44 ∷ []) (t ∷ ts) ++ rest ≡ t ++ (behind ts ++ rest)
 regrouped t ts rest = append_assoc t (behind ts) rest
 
-first_joined : (t text w rest : List ℕ) (ts : List (List ℕ)) → t ≡ text ++ w → w ≡ behind ts ++ rest → t ≡ joined (44 ∷ []) (text ∷ ts) ++ rest
+first_joined : (t text w rest : List ℕ) (ts : List (List ℕ)) → t ≡ text ++ w → w ≡ behind ts ++ rest → t ≡ separated (44 ∷ []) (text ∷ ts) ++ rest
 first_joined t text w rest ts e f = e ∙ ap (λ z. text ++ z) f ∙ sym (regrouped text ts rest)
 
 -- behind a comma
@@ -38,7 +38,7 @@ blanks_of {k} f = subst (λ z. Reads rules ws z []) (append-nil k) (f [])
 quoted_alone : {k s : List ℕ} → ((u : List ℕ) → StringAt (k ++ u) s u) → StringAt k s []
 quoted_alone {k} {s} f = subst (λ z. StringAt z s []) (append-nil k) (f [])
 
--- the text that was read in front of this rest
+-- the text that was read before this rest
 record Found (R : List ℕ → Type 0) (t rest : List ℕ) : Type 0 where
   pub text : List ℕ
   pub made : t ≡ text ++ rest
@@ -76,10 +76,10 @@ module _ {V : Type 0} (R : List ℕ → V → Type 0) (before : (b t : List ℕ)
   record Spaced (text : List ℕ) (vs : List V) : Type 0 where
     pub first : List ℕ
     pub others : List (List ℕ)
-    pub made : text ≡ joined (44 ∷ []) (first ∷ others)
-    pub each : Each R (first ∷ others) vs
+    pub made : text ≡ separated (44 ∷ []) (first ∷ others)
+    pub each : Pointwise R (first ∷ others) vs
 
-  each_spaced : (b d t : List ℕ) (v : V) {ts : List (List ℕ)} {vs : List V} → Blanks b → Blanks d → R t v → Each R ts vs → Spaced (t ++ (flat_map (λ z. (44 ∷ b) ++ z) ts ++ d)) (v ∷ vs)
+  each_spaced : (b d t : List ℕ) (v : V) {ts : List (List ℕ)} {vs : List V} → Blanks b → Blanks d → R t v → Pointwise R ts vs → Spaced (t ++ (flat_map (λ z. (44 ∷ b) ++ z) ts ++ d)) (v ∷ vs)
   each_spaced b d t v hb hd p no_texts = record { first = t ++ d; others = []; made = sym (append-nil (t ++ d)); each = one_more (after d t v p hd) no_texts }
   each_spaced b d t v hb hd p (one_more {t = s} {v = w} {ts = ts} q r) =
       let x = each_spaced b d (b ++ s) w hb hd (before b s w hb q) r in
@@ -92,35 +92,35 @@ module _ {V : Type 0} (R : List ℕ → V → Type 0) (before : (b t : List ℕ)
       }
 
   spaced : ListsMayBeSpaced R
-  spaced first comma last ts vs a b d no_texts = blank (more_blanks (frame a last) d)
+  spaced first comma last ts vs a b d no_texts = only_blanks (more_blanks (frame a last) d)
   spaced first comma last ts vs a b d (one_more {t = t} {v = v} {ts = ss} p r) =
       let x = each_spaced comma last (first ++ t) v b d (before first t v a p) r in
       let rest : List ℕ = flat_map (λ z. (44 ∷ comma) ++ z) ss in
-      let e : first ++ ((t ++ rest) ++ last) ≡ joined (44 ∷ []) (x.first ∷ x.others) = ap (λ z. first ++ z) (append_assoc t rest last) ∙ sym (append_assoc first t (rest ++ last)) ∙ x.made in
+      let e : first ++ ((t ++ rest) ++ last) ≡ separated (44 ∷ []) (x.first ∷ x.others) = ap (λ z. first ++ z) (append_assoc t rest last) ∙ sym (append_assoc first t (rest ++ last)) ∙ x.made in
       subst (λ z. Listed R z vs) (sym e) (by_commas x.each)
 
 module _ {K : Type 0} (num : List ℕ → K) where
-  pub front_says : (t u : List ℕ) (v : Plain K) → Says num t v u → (front : List ℕ) × (t ≡ front ++ u) × Says num front v []
+  pub front_says : (t u : List ℕ) (v : PlainValue K) → Says num t v u → (front : List ℕ) × (t ≡ front ++ u) × Says num front v []
   front_says t u v x =
       let k = says_cut num x in
       (k.front, k.joined, subst (λ z. Says num z v []) (append-nil k.front) (k.reads []))
 
   -- values
-  more_values : {ts : List (List ℕ)} {vs : List (Plain K)} → Each (SaysText num) ts vs → (rest : List ℕ) → MoreItems num (behind ts ++ (93 ∷ rest)) (plains_of vs) rest
-  more_values no_texts rest = no_more_item (one_byte refl)
+  more_values : {ts : List (List ℕ)} {vs : List (PlainValue K)} → Pointwise (SaysText num) ts vs → (rest : List ℕ) → SaysMoreItems num (behind ts ++ (93 ∷ rest)) (plains_of vs) rest
+  more_values no_texts rest = says_no_more_item (one_byte refl)
   more_values (one_more {t} {v} {ts} {vs} p r) rest =
       let x : List ℕ = behind ts ++ (93 ∷ rest) in
-      rw (regrouped t ts (93 ∷ rest)) (more_items (both (one_byte refl) (frame p.lead x)) (says_frame num p.says x) (frame p.trail x) (more_values r rest))
+      rw (regrouped t ts (93 ∷ rest)) (says_more_items (both (one_byte refl) (frame p.lead x)) (says_frame num p.says x) (frame p.trail x) (more_values r rest))
 
-  pub array_before : (inside : List ℕ) (vs : List (Plain K)) → Listed (SaysText num) inside vs → (rest : List ℕ) → Says num (91 ∷ (inside ++ (93 ∷ rest))) (plain_array (plains_of vs)) rest
-  array_before inside vs (blank b) rest = says_list (both (one_byte refl) (frame b (93 ∷ rest))) (no_item (one_byte refl))
-  array_before inside vs (by_commas no_texts) rest = says_list (both (one_byte refl) no_more) (no_item (one_byte refl))
+  pub array_before : (inside : List ℕ) (vs : List (PlainValue K)) → Listed (SaysText num) inside vs → (rest : List ℕ) → Says num (91 ∷ (inside ++ (93 ∷ rest))) (plain_array (plains_of vs)) rest
+  array_before inside vs (only_blanks b) rest = says_list (both (one_byte refl) (frame b (93 ∷ rest))) (says_no_item (one_byte refl))
+  array_before inside vs (by_commas no_texts) rest = says_list (both (one_byte refl) no_more) (says_no_item (one_byte refl))
   array_before inside vs (by_commas (one_more {t} {v} {ts} p r)) rest =
       let x : List ℕ = behind ts ++ (93 ∷ rest) in
-      rw (regrouped t ts (93 ∷ rest)) (says_list (both (one_byte refl) (frame p.lead x)) (items (says_frame num p.says x) (frame p.trail x) (more_values r rest)))
+      rw (regrouped t ts (93 ∷ rest)) (says_list (both (one_byte refl) (frame p.lead x)) (says_items (says_frame num p.says x) (frame p.trail x) (more_values r rest)))
 
   -- a value with the blanks around it
-  value_found : {t l m w : List ℕ} {v : Plain K} → Reads rules ws t l → Says num l v m → Reads rules ws m w → Found (λ z. SaysText num z v) t w
+  value_found : {t l m w : List ℕ} {v : PlainValue K} → Reads rules ws t l → Says num l v m → Reads rules ws m w → Found (λ z. SaysText num z v) t w
   value_found {w = w} a x b =
       let k = reads_cut a in
       let n = says_cut num x in
@@ -131,30 +131,30 @@ module _ {K : Type 0} (num : List ℕ → K) where
         is = record { before = n.front ++ o.front; after = o.front; lead = k.reads (n.front ++ o.front); says = n.reads o.front; trail = blanks_of o.reads };
       }
 
-  other_values : {t u : List ℕ} {vs : Plains K} → MoreItems num t vs u → Others (λ ts. Each (SaysText num) ts (plains_in vs)) t 93 u
-  other_values {u = u} (no_more_item (one_byte {c = c} h)) = record { texts = []; made = ap (λ z. z ∷ u) (is_value c 93 h); each = no_texts }
-  other_values {u = u} (more_items {w = w} (both (one_byte {c = c} {t = t} h) a) x b y) =
+  other_values : {t u : List ℕ} {vs : Plains K} → SaysMoreItems num t vs u → Others (λ ts. Pointwise (SaysText num) ts (plains_in vs)) t 93 u
+  other_values {u = u} (says_no_more_item (one_byte {c = c} h)) = record { texts = []; made = ap (λ z. z ∷ u) (is_value c 93 h); each = no_texts }
+  other_values {u = u} (says_more_items {w = w} (both (one_byte {c = c} {t = t} h) a) x b y) =
       let f = value_found a x b in
       let r = other_values y in
       record { texts = f.text ∷ r.texts; made = next_joined c t f.text w (93 ∷ u) r.texts (is_value c 44 h) f.made r.made; each = one_more f.is r.each }
 
   inside_array : {t u : List ℕ} {vs : Plains K} → Says num t (plain_array vs) u → Inside (λ z. Listed (SaysText num) z (plains_in vs)) t 91 93 u
-  inside_array (says_list (both (one_byte {c = c} h) a) (no_item (one_byte {c = d} g))) = blank_inside 91 93 c d (λ k b. blank b) (is_value c 91 h) a (is_value d 93 g)
-  inside_array {u = u} (says_list (both (one_byte {c = c} {t = t} h) a) (items {w = w} x b y)) =
+  inside_array (says_list (both (one_byte {c = c} h) a) (says_no_item (one_byte {c = d} g))) = blank_inside 91 93 c d (λ k b. only_blanks b) (is_value c 91 h) a (is_value d 93 g)
+  inside_array {u = u} (says_list (both (one_byte {c = c} {t = t} h) a) (says_items {w = w} x b y)) =
       let f = value_found a x b in
       let r = other_values y in
-      record { text = joined (44 ∷ []) (f.text ∷ r.texts); made = λ i. is_value c 91 h i ∷ first_joined t f.text w (93 ∷ u) r.texts f.made r.made i; is = by_commas (one_more f.is r.each) }
+      record { text = separated (44 ∷ []) (f.text ∷ r.texts); made = λ i. is_value c 91 h i ∷ first_joined t f.text w (93 ∷ u) r.texts f.made r.made i; is = by_commas (one_more f.is r.each) }
 
-  plains_same : (vs : List (Plain K)) → plains_in (plains_of vs) ≡ vs
+  plains_same : (vs : List (PlainValue K)) → plains_in (plains_of vs) ≡ vs
   plains_same [] = refl
   plains_same (v ∷ vs) = ap (λ z. v ∷ z) (plains_same vs)
 
-  pub array_text : (text : List ℕ) (vs : List (Plain K)) → SaysText num text (plain_array (plains_of vs)) → IsArrayText num text vs
+  pub array_text : (text : List ℕ) (vs : List (PlainValue K)) → SaysText num text (plain_array (plains_of vs)) → IsArrayText num text vs
   array_text text vs p =
       let r = inside_array p.says in
       (r.text, enclosed 91 93 r.text p.lead r.made p.trail, subst (Listed (SaysText num) r.text) (plains_same vs) r.is)
 
-  pub text_array : (text : List ℕ) (vs : List (Plain K)) → IsArrayText num text vs → SaysText num text (plain_array (plains_of vs))
+  pub text_array : (text : List ℕ) (vs : List (PlainValue K)) → IsArrayText num text vs → SaysText num text (plain_array (plains_of vs))
   text_array text vs (inside, b, x) =
       let from : List ℕ = 91 ∷ (inside ++ (93 ∷ b.trail)) in
       record { before = from; after = b.trail; lead = rw (b.made) (frame b.before from); says = array_before inside vs x b.trail; trail = b.behind }
@@ -173,20 +173,20 @@ module _ {K : Type 0} (num : List ℕ → K) where
         trail = frame m.says.trail x;
       }
 
-  more_fields : {ts : List (List ℕ)} {es : List (PlainEntry K)} → Each (MemberText num) ts es → (rest : List ℕ) → MoreMembers num (behind ts ++ (125 ∷ rest)) (plain_members_of es) rest
-  more_fields no_texts rest = no_more_member (one_byte refl)
+  more_fields : {ts : List (List ℕ)} {es : List (PlainEntry K)} → Pointwise (MemberText num) ts es → (rest : List ℕ) → SaysMoreMembers num (behind ts ++ (125 ∷ rest)) (plain_members_of es) rest
+  more_fields no_texts rest = says_no_more_member (one_byte refl)
   more_fields (one_more {t = t} {ts = ts} {vs = es} m r) rest =
       let p = member_before m (behind ts ++ (125 ∷ rest)) in
-      rw (regrouped t ts (125 ∷ rest)) (more_members (both (one_byte refl) p.lead) p.says p.trail (more_fields r rest))
+      rw (regrouped t ts (125 ∷ rest)) (says_more_members (both (one_byte refl) p.lead) p.says p.trail (more_fields r rest))
 
   pub object_before : (inside : List ℕ) (es : List (PlainEntry K)) → Listed (MemberText num) inside es → (rest : List ℕ) → Says num (123 ∷ (inside ++ (125 ∷ rest))) (plain_object (plain_members_of es)) rest
-  object_before inside es (blank b) rest = says_object (both (one_byte refl) (frame b (125 ∷ rest))) (no_member (one_byte refl))
-  object_before inside es (by_commas no_texts) rest = says_object (both (one_byte refl) no_more) (no_member (one_byte refl))
+  object_before inside es (only_blanks b) rest = says_object (both (one_byte refl) (frame b (125 ∷ rest))) (says_no_member (one_byte refl))
+  object_before inside es (by_commas no_texts) rest = says_object (both (one_byte refl) no_more) (says_no_member (one_byte refl))
   object_before inside es (by_commas (one_more {t = t} {ts = ts} m r)) rest =
       let p = member_before m (behind ts ++ (125 ∷ rest)) in
-      rw (regrouped t ts (125 ∷ rest)) (says_object (both (one_byte refl) p.lead) (some_members p.says p.trail (more_fields r rest)))
+      rw (regrouped t ts (125 ∷ rest)) (says_object (both (one_byte refl) p.lead) (says_members p.says p.trail (more_fields r rest)))
 
-  member_found : {t l m w s : List ℕ} {v : Plain K} → Reads rules ws t l → SaysMember num l s v m → Reads rules ws m w → Found (λ z. MemberText num z (record { name = s; value = v })) t w
+  member_found : {t l m w s : List ℕ} {v : PlainValue K} → Reads rules ws t l → SaysMember num l s v m → Reads rules ws m w → Found (λ z. MemberText num z (record { name = s; value = v })) t w
   member_found {w = w} a (says_member q b (both (one_byte {c = c} h) d) x) o =
       let f = value_found d x o in
       let k = reads_cut a in
@@ -209,19 +209,19 @@ module _ {K : Type 0} (num : List ℕ → K) where
         };
       }
 
-  other_fields : {t u : List ℕ} {ms : PlainMembers K} → MoreMembers num t ms u → Others (λ ts. Each (MemberText num) ts (plain_entries_in ms)) t 125 u
-  other_fields {u = u} (no_more_member (one_byte {c = c} h)) = record { texts = []; made = ap (λ z. z ∷ u) (is_value c 125 h); each = no_texts }
-  other_fields {u = u} (more_members {w = w} (both (one_byte {c = c} {t = t} h) a) x b y) =
+  other_fields : {t u : List ℕ} {ms : PlainMembers K} → SaysMoreMembers num t ms u → Others (λ ts. Pointwise (MemberText num) ts (plain_entries_in ms)) t 125 u
+  other_fields {u = u} (says_no_more_member (one_byte {c = c} h)) = record { texts = []; made = ap (λ z. z ∷ u) (is_value c 125 h); each = no_texts }
+  other_fields {u = u} (says_more_members {w = w} (both (one_byte {c = c} {t = t} h) a) x b y) =
       let f = member_found a x b in
       let r = other_fields y in
       record { texts = f.text ∷ r.texts; made = next_joined c t f.text w (125 ∷ u) r.texts (is_value c 44 h) f.made r.made; each = one_more f.is r.each }
 
   inside_object : {t u : List ℕ} {ms : PlainMembers K} → Says num t (plain_object ms) u → Inside (λ z. Listed (MemberText num) z (plain_entries_in ms)) t 123 125 u
-  inside_object (says_object (both (one_byte {c = c} h) a) (no_member (one_byte {c = d} g))) = blank_inside 123 125 c d (λ k b. blank b) (is_value c 123 h) a (is_value d 125 g)
-  inside_object {u = u} (says_object (both (one_byte {c = c} {t = t} h) a) (some_members {w = w} x b y)) =
+  inside_object (says_object (both (one_byte {c = c} h) a) (says_no_member (one_byte {c = d} g))) = blank_inside 123 125 c d (λ k b. only_blanks b) (is_value c 123 h) a (is_value d 125 g)
+  inside_object {u = u} (says_object (both (one_byte {c = c} {t = t} h) a) (says_members {w = w} x b y)) =
       let f = member_found a x b in
       let r = other_fields y in
-      record { text = joined (44 ∷ []) (f.text ∷ r.texts); made = λ i. is_value c 123 h i ∷ first_joined t f.text w (125 ∷ u) r.texts f.made r.made i; is = by_commas (one_more f.is r.each) }
+      record { text = separated (44 ∷ []) (f.text ∷ r.texts); made = λ i. is_value c 123 h i ∷ first_joined t f.text w (125 ∷ u) r.texts f.made r.made i; is = by_commas (one_more f.is r.each) }
 
   entries_same : (es : List (PlainEntry K)) → plain_entries_in (plain_members_of es) ≡ es
   entries_same [] = refl
@@ -237,10 +237,10 @@ module _ {K : Type 0} (num : List ℕ → K) where
       let from : List ℕ = 123 ∷ (inside ++ (125 ∷ b.trail)) in
       record { before = from; after = b.trail; lead = rw (b.made) (frame b.before from); says = object_before inside es x b.trail; trail = b.behind }
 
-  value_behind : (b : List ℕ) {t : List ℕ} {v : Plain K} → Blanks b → SaysText num t v → SaysText num (b ++ t) v
+  value_behind : (b : List ℕ) {t : List ℕ} {v : PlainValue K} → Blanks b → SaysText num t v → SaysText num (b ++ t) v
   value_behind b {t} h p = record { before = p.before; after = p.after; lead = more_blanks (frame h t) p.lead; says = p.says; trail = p.trail }
 
-  value_then : (d : List ℕ) {t : List ℕ} {v : Plain K} → SaysText num t v → Blanks d → SaysText num (t ++ d) v
+  value_then : (d : List ℕ) {t : List ℕ} {v : PlainValue K} → SaysText num t v → Blanks d → SaysText num (t ++ d) v
   value_then d p h = record { before = p.before ++ d; after = p.after ++ d; lead = frame p.lead d; says = says_frame num p.says d; trail = more_blanks (frame p.trail d) h }
 
   member_behind : (b : List ℕ) {t : List ℕ} {e : PlainEntry K} → Blanks b → MemberText num t e → MemberText num (b ++ t) e

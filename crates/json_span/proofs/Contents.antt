@@ -5,37 +5,37 @@ use Rattle.grammar.specs.Grammar.{seq, many, Reads, one_byte, both, left, right,
 use Rattle.grammar.specs.Predict.{first}
 use Rattle.json_span.specs.Grammar.{hex, char, one}
 use Rattle.json_span.specs.Steered.{rules, ahead}
-use Rattle.json_span.specs.Characters.{Content, closes, plain, short as a_short, scalar, pair, unit, is_high, is_low}
+use Rattle.json_span.specs.Characters.{CharactersAt, closing_quote, unescaped_byte, short_escape, unicode_escape, surrogate_pair, code_unit, is_high, is_low}
 use Rattle.json_span.proofs.Shorts.{choice_read, short_some, is_value, hex_unit, not_d_hex, not_d_value, hex_value, no_surrogate, below_unit, low_digit_value, d_value, high_unit, low_unit, high_digit_value, last_digit_value}
 
 four : (t u2 u3 u4 v : List ℕ) (a b c d : ℕ) → t ≡ a ∷ u2 → u2 ≡ b ∷ u3 → u3 ≡ c ∷ u4 → u4 ≡ d ∷ v → t ≡ a ∷ b ∷ c ∷ d ∷ v
 four t u2 u3 u4 v a b c d e f g h = cc
 
 abbrev Has : List ℕ → List ℕ → Type 0
-Has t u = (s : List ℕ) × Content t s u
+Has t u = (s : List ℕ) × CharactersAt t s u
 
 of_unit : (e f a b c d : ℕ) {t s u : List ℕ} → e ≡ 92 → f ≡ 117 → first ahead hex a ≡ true → first ahead hex b ≡ true → first ahead hex c ≡ true → first ahead hex d ≡ true →
-    (is_high (digit_value a * 4096 + digit_value b * 256 + digit_value c * 16 + digit_value d) || is_low (digit_value a * 4096 + digit_value b * 256 + digit_value c * 16 + digit_value d)) ≡ false → Content t s u → Has (e ∷ f ∷ a ∷ b ∷ c ∷ d ∷ t) u
+    (is_high (digit_value a * 4096 + digit_value b * 256 + digit_value c * 16 + digit_value d) || is_low (digit_value a * 4096 + digit_value b * 256 + digit_value c * 16 + digit_value d)) ≡ false → CharactersAt t s u → Has (e ∷ f ∷ a ∷ b ∷ c ∷ d ∷ t) u
 of_unit e f a b c d {s = s} p q ha hb hc hd n k =
-    (encode_utf8 (digit_value a * 4096 + digit_value b * 256 + digit_value c * 16 + digit_value d) ++ s, scalar p q (hex_unit a b c d ha hb hc hd) n k)
+    (encode_utf8 (digit_value a * 4096 + digit_value b * 256 + digit_value c * 16 + digit_value d) ++ s, unicode_escape p q (hex_unit a b c d ha hb hc hd) n k)
 
 of_units : (e f a b c d g i j k l m : ℕ) {t s u : List ℕ} → e ≡ 92 → f ≡ 117 → first ahead hex a ≡ true → first ahead hex b ≡ true → first ahead hex c ≡ true → first ahead hex d ≡ true →
     g ≡ 92 → i ≡ 117 → first ahead hex j ≡ true → first ahead hex k ≡ true → first ahead hex l ≡ true → first ahead hex m ≡ true →
-    is_high (unit a b c d) ≡ true → is_low (unit j k l m) ≡ true → Content t s u → Has (e ∷ f ∷ a ∷ b ∷ c ∷ d ∷ g ∷ i ∷ j ∷ k ∷ l ∷ m ∷ t) u
+    is_high (code_unit a b c d) ≡ true → is_low (code_unit j k l m) ≡ true → CharactersAt t s u → Has (e ∷ f ∷ a ∷ b ∷ c ∷ d ∷ g ∷ i ∷ j ∷ k ∷ l ∷ m ∷ t) u
 of_units e f a b c d g i j k l m {s = s} p q ha hb hc hd p2 q2 hj hk hl hm high low x =
-    (encode_utf8 (0x10000 + (unit a b c d - 0xd800) * 1024 + (unit j k l m - 0xdc00)) ++ s, pair p q (hex_unit a b c d ha hb hc hd) high p2 q2 (hex_unit j k l m hj hk hl hm) low x)
+    (encode_utf8 (0x10000 + (code_unit a b c d - 0xd800) * 1024 + (code_unit j k l m - 0xdc00)) ++ s, surrogate_pair p q (hex_unit a b c d ha hb hc hd) high p2 q2 (hex_unit j k l m hj hk hl hm) low x)
 
 pub content_of : {t m u : List ℕ} → Reads rules (many char) t m → Reads rules (one 34) m u → Has t u
-content_of no_more (one_byte {c = c} h) = ([], closes (is_value c 34 h))
+content_of no_more (one_byte {c = c} h) = ([], closing_quote (is_value c 34 h))
 content_of {u = u} (more (left x) ms) q =
     let (c, e, h) = choice_read x (tt, (tt, tt)) in
     let (s, k) = content_of ms q in
-    subst (λ z. Has z u) (sym e) (c ∷ s, plain h k)
+    subst (λ z. Has z u) (sym e) (c ∷ s, unescaped_byte h k)
 content_of {u = u} (more (right (both (one_byte {c = b} h) (left x))) ms) q =
     let (c, e, f) = choice_read x (tt, (tt, (tt, (tt, (tt, (tt, (tt, tt))))))) in
     let (s, k) = content_of ms q in
     let (d, g) = short_some c f in
-    subst (λ z. Has (b ∷ z) u) (sym e) (d ∷ s, a_short (is_value b 92 h) g k)
+    subst (λ z. Has (b ∷ z) u) (sym e) (d ∷ s, short_escape (is_value b 92 h) g k)
 content_of {u = u} (more (right (both (one_byte {c = b} h) (right (both (one_byte {c = f} g) (left (both x (both y (both z w)))))))) ms) q =
     let (a1, e1, f1) = choice_read x (tt, (tt, (tt, (tt, tt)))) in
     let (a2, e2, f2) = choice_read y (tt, (tt, tt)) in

@@ -2,7 +2,7 @@
 use Rattle.std.proofs.Common.{◌≡◌, ℕ, List, [], ◌∷◌, ◌++◌, refl, sym, ap, ◌∙◌, append_assoc}
 use Rattle.grammar.specs.Grammar.{Rule, Reads, no_byte, one_byte, both, left, right, no_more, more, by_name}
 
--- the front that was read, and its reading before anything
+-- the prefix that was read, and its reading before anything
 pub record Cut (R : List ℕ → List ℕ → Type 0) (t u : List ℕ) : Type 0 where
   pub front : List ℕ
   pub joined : t ≡ front ++ u

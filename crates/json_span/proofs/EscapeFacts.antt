@@ -5,11 +5,11 @@ use Rattle.std.specs.Char.{encode_utf8, IsScalar}
 use Rattle.std.proofs.lemmas.Str.{encode_ascii}
 use Rattle.std.proofs.Math.Logic.{∥∥₁_elim}
 use Rattle.std.specs.Coded.{Coded-set, coded_ℕ, coded_bool, le_prop}
-use Rattle.json_span.specs.Escapes.{BeginsEscape, Stands}
+use Rattle.json_span.specs.inner.Escapes.{BeginsEscape, StandsFor}
 use Rattle.grammar.specs.Predict.{first}
 use Rattle.json_span.specs.Grammar.{hex, unescaped}
 use Rattle.json_span.specs.Steered.{ahead}
-use Rattle.json_span.specs.Characters.{Content, closes, plain, short, scalar, pair, short_of, unit, unit_of, is_high, is_low, joined_pair}
+use Rattle.json_span.specs.Characters.{CharactersAt, closing_quote, unescaped_byte, short_escape, unicode_escape, surrogate_pair, short_of, code_unit, code_unit_of, is_high, is_low, joined_pair}
 
 not_escape : (c : ℕ) → c ≡ 92 → first ahead unescaped c ≡ true → ⊥
 not_escape c e h = let b : first ahead unescaped 92 ≡ true = subst (λ z. first ahead unescaped z ≡ true) e h in cc
@@ -25,24 +25,24 @@ pub record IsShort (t s u : List ℕ) : Type 0 where
   pub character : ℕ
   pub stands : short_of (get_or t 1 0) ≡ Some character
   pub rest : List ℕ
-  pub content : Content (drop 2 t) rest u
+  pub content : CharactersAt (drop 2 t) rest u
   pub same : s ≡ character ∷ rest
 
-pub short_in : (t s u : List ℕ) → Content t s u → get_or t 0 0 ≡ 92 → (get_or t 1 0 ≡ 117 → ⊥) → IsShort t s u
-short_in _ _ _ (closes {c} e) h n = absurd (not_both c e h)
-short_in _ _ _ (plain {c} e x) h n = absurd (not_escape c h e)
-short_in _ _ _ (short {c = c} {s = s} b p x) h n = record { long = omega arith; character = c; stands = p; rest = s; content = x; same = refl }
-short_in _ _ _ (scalar b f p q x) h n = absurd (n f)
-short_in _ _ _ (pair b f p q g i r v x) h n = absurd (n f)
+pub short_in : (t s u : List ℕ) → CharactersAt t s u → get_or t 0 0 ≡ 92 → (get_or t 1 0 ≡ 117 → ⊥) → IsShort t s u
+short_in _ _ _ (closing_quote {c} e) h n = absurd (not_both c e h)
+short_in _ _ _ (unescaped_byte {c} e x) h n = absurd (not_escape c h e)
+short_in _ _ _ (short_escape {c = c} {s = s} b p x) h n = record { long = omega arith; character = c; stands = p; rest = s; content = x; same = refl }
+short_in _ _ _ (unicode_escape b f p q x) h n = absurd (n f)
+short_in _ _ _ (surrogate_pair b f p q g i r v x) h n = absurd (n f)
 
 -- the digits behind \u, from this place on
 abbrev pub unit_in : List ℕ → ℕ → Option ℕ
-unit_in t i = unit_of (get_or t i 0) (get_or t (i + 1) 0) (get_or t (i + 2) 0) (get_or t (i + 3) 0)
+unit_in t i = code_unit_of (get_or t i 0) (get_or t (i + 1) 0) (get_or t (i + 2) 0) (get_or t (i + 3) 0)
 
 pub record IsOneUnit (t s u : List ℕ) (n : ℕ) : Type 0 where
   pub no_surrogate : (is_high n || is_low n) ≡ false
   pub rest : List ℕ
-  pub content : Content (drop 6 t) rest u
+  pub content : CharactersAt (drop 6 t) rest u
   pub same : s ≡ encode_utf8 n ++ rest
 
 pub record IsPair (t s u : List ℕ) (n : ℕ) : Type 0 where
@@ -51,7 +51,7 @@ pub record IsPair (t s u : List ℕ) (n : ℕ) : Type 0 where
   pub stands : unit_in t 8 ≡ Some low
   pub is_low_one : is_low low ≡ true
   pub rest : List ℕ
-  pub content : Content (drop 12 t) rest u
+  pub content : CharactersAt (drop 12 t) rest u
   pub same : s ≡ encode_utf8 (joined_pair n low) ++ rest
 
 pub record IsUnit (t s u : List ℕ) : Type 0 where
@@ -68,18 +68,18 @@ or_left : (a b : Bool) → (a || b) ≡ false → a ≡ false
 or_left true b e = e
 or_left false b e = refl
 
-pub unit_in_escape : (t s u : List ℕ) → Content t s u → get_or t 0 0 ≡ 92 → get_or t 1 0 ≡ 117 → IsUnit t s u
-unit_in_escape _ _ _ (closes {c} e) h k = absurd (not_both c e h)
-unit_in_escape _ _ _ (plain {c} e x) h k = absurd (not_escape c h e)
-unit_in_escape _ _ _ (short {x = x} {c = c} b p y) h k = absurd (not_u x c p k)
-unit_in_escape _ _ _ (scalar {n = n} {s = s} b f p q x) h k = record {
+pub unit_in_escape : (t s u : List ℕ) → CharactersAt t s u → get_or t 0 0 ≡ 92 → get_or t 1 0 ≡ 117 → IsUnit t s u
+unit_in_escape _ _ _ (closing_quote {c} e) h k = absurd (not_both c e h)
+unit_in_escape _ _ _ (unescaped_byte {c} e x) h k = absurd (not_escape c h e)
+unit_in_escape _ _ _ (short_escape {x = x} {c = c} b p y) h k = absurd (not_u x c p k)
+unit_in_escape _ _ _ (unicode_escape {n = n} {s = s} b f p q x) h k = record {
   long = omega arith;
   number = n;
   stands = p;
   alone = λ _. record { no_surrogate = q; rest = s; content = x; same = refl };
   paired = λ e. absurd (both_ways (is_high n) e (or_left (is_high n) (is_low n) q));
 }
-unit_in_escape _ _ _ (pair {h = n} {low = low} {s = s} b f p q g i r v x) h k = record {
+unit_in_escape _ _ _ (surrogate_pair {h = n} {low = low} {s = s} b f p q g i r v x) h k = record {
   long = omega arith;
   number = n;
   stands = p;
@@ -93,7 +93,7 @@ pub record AreDigits (a b c d n : ℕ) : Type 0 where
   pub second_hex : first ahead hex b ≡ true
   pub third_hex : first ahead hex c ≡ true
   pub fourth_hex : first ahead hex d ≡ true
-  pub number : unit a b c d ≡ n
+  pub number : code_unit a b c d ≡ n
 
 four_tests : (p q r s : Bool) (m n : ℕ) → cond (p && q && r && s) (Some m) None ≡ Some n → (p ≡ true) × (q ≡ true) × (r ≡ true) × (s ≡ true) × (m ≡ n)
 four_tests true true true true m n e = (refl, refl, refl, refl, cc)
@@ -102,21 +102,21 @@ four_tests true true false s m n e = cc
 four_tests true false r s m n e = cc
 four_tests false q r s m n e = cc
 
-pub digits_in : (a b c d n : ℕ) → unit_of a b c d ≡ Some n → AreDigits a b c d n
+pub digits_in : (a b c d n : ℕ) → code_unit_of a b c d ≡ Some n → AreDigits a b c d n
 digits_in a b c d n e =
-    let (p, q, r, s, m) = four_tests (first ahead hex a) (first ahead hex b) (first ahead hex c) (first ahead hex d) (unit a b c d) n e in
+    let (p, q, r, s, m) = four_tests (first ahead hex a) (first ahead hex b) (first ahead hex c) (first ahead hex d) (code_unit a b c d) n e in
     record { first_hex = p; second_hex = q; third_hex = r; fourth_hex = s; number = m }
 
 pub hex_ascii : (a : ℕ) → first ahead hex a ≡ true → a < 128
 hex_ascii a h = grind (arith, nat_tests)
 
-pub fourth_ascii : (a b c d n : ℕ) → unit_of a b c d ≡ Some n → d < 128
+pub fourth_ascii : (a b c d n : ℕ) → code_unit_of a b c d ≡ Some n → d < 128
 fourth_ascii a b c d n e = hex_ascii d (digits_in a b c d n e).fourth_hex
 
 pub short_small : (x c : ℕ) → short_of x ≡ Some c → c < 128
 short_small x c e = grind (arith, nat_tests)
 
-pub short_stands : (t : List ℕ) (r : ℕ) → get_or t 0 0 ≡ 92 → (get_or t 1 0 ≡ 117 → ⊥) → ((c : ℕ) → short_of (get_or t 1 0) ≡ Some c → r ≡ c) → Stands t r 2
+pub short_stands : (t : List ℕ) (r : ℕ) → get_or t 0 0 ≡ 92 → (get_or t 1 0 ≡ 117 → ⊥) → ((c : ℕ) → short_of (get_or t 1 0) ≡ Some c → r ≡ c) → StandsFor t r 2
 short_stands t r e n h s u x =
     let k = short_in t s u x e n in
     let same : r ≡ k.character = h k.character k.stands in
@@ -129,7 +129,7 @@ scalar_alone n h e = grind (arith, nat_tests)
 scalar_pair : (h l : ℕ) → is_high h ≡ true → is_low l ≡ true → IsScalar (joined_pair h l)
 scalar_pair h l p q = grind (arith, nat_tests)
 
-pub alone_stands : (t : List ℕ) (n r : ℕ) → get_or t 0 0 ≡ 92 → get_or t 1 0 ≡ 117 → ((m : ℕ) → unit_in t 2 ≡ Some m → n ≡ m) → n < 65536 → is_high n ≡ false → (IsScalar n → r ≡ n) → Stands t r 6
+pub alone_stands : (t : List ℕ) (n r : ℕ) → get_or t 0 0 ≡ 92 → get_or t 1 0 ≡ 117 → ((m : ℕ) → unit_in t 2 ≡ Some m → n ≡ m) → n < 65536 → is_high n ≡ false → (IsScalar n → r ≡ n) → StandsFor t r 6
 alone_stands t n r e f h small unpaired g s u x =
     let k = unit_in_escape t s u x e f in
     let same : n ≡ k.number = h k.number k.stands in
@@ -137,7 +137,7 @@ alone_stands t n r e f h small unpaired g s u x =
     let is : r ≡ n = g (scalar_alone n small (ap (λ z. is_high z || is_low z) same ∙ one.no_surrogate)) in
     (one.rest, one.content, one.same ∙ ap (λ z. encode_utf8 z ++ one.rest) (sym (is ∙ same)))
 
-pub pair_stands : (t : List ℕ) (n l r : ℕ) → get_or t 0 0 ≡ 92 → get_or t 1 0 ≡ 117 → ((m : ℕ) → unit_in t 2 ≡ Some m → n ≡ m) → is_high n ≡ true → ((m : ℕ) → unit_in t 8 ≡ Some m → l ≡ m) → r ≡ joined_pair n l → Stands t r 12
+pub pair_stands : (t : List ℕ) (n l r : ℕ) → get_or t 0 0 ≡ 92 → get_or t 1 0 ≡ 117 → ((m : ℕ) → unit_in t 2 ≡ Some m → n ≡ m) → is_high n ≡ true → ((m : ℕ) → unit_in t 8 ≡ Some m → l ≡ m) → r ≡ joined_pair n l → StandsFor t r 12
 pair_stands t n l r e f h paired hl g s u x =
     let k = unit_in_escape t s u x e f in
     let same : n ≡ k.number = h k.number k.stands in
@@ -149,12 +149,12 @@ pair_stands t n l r e f h paired hl g s u x =
 pub short_letter : (x c : ℕ) → short_of x ≡ Some c → x < 128
 short_letter x c e = grind (arith, nat_tests)
 
-two_in : (t s u : List ℕ) → Content t s u → get_or t 0 0 ≡ 92 → 2 ≤ length t
-two_in _ _ _ (closes {c} e) h = absurd (not_both c e h)
-two_in _ _ _ (plain {c} e x) h = absurd (not_escape c h e)
-two_in _ _ _ (short b p x) h = omega arith
-two_in _ _ _ (scalar b f p q x) h = omega arith
-two_in _ _ _ (pair b f p q g i r v x) h = omega arith
+two_in : (t s u : List ℕ) → CharactersAt t s u → get_or t 0 0 ≡ 92 → 2 ≤ length t
+two_in _ _ _ (closing_quote {c} e) h = absurd (not_both c e h)
+two_in _ _ _ (unescaped_byte {c} e x) h = absurd (not_escape c h e)
+two_in _ _ _ (short_escape b p x) h = omega arith
+two_in _ _ _ (unicode_escape b f p q x) h = omega arith
+two_in _ _ _ (surrogate_pair b f p q g i r v x) h = omega arith
 
 pub two_long : (t : List ℕ) → BeginsEscape t → 2 ≤ length t
 two_long t b = ∥∥₁_elim b le_prop (λ (s, u, x, e). two_in t s u x e)

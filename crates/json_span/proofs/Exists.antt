@@ -3,9 +3,9 @@ use Rattle.std.proofs.Common.{◌≡◌, ℕ, ◌-◌, ◌≤◌, List, [], ◌�
 use Rattle.grammar.specs.Grammar.{Rule, seq, many, named, Reads, Derives, no_byte, one_byte, both, left, right, no_more, more, by_name}
 use Rattle.grammar.proofs.Steps.{no_longer}
 use Rattle.json_span.specs.Grammar.{Name, value, string, one}
-use Rattle.json_span.specs.Steered.{square, curly, rules, token, item_of, more_of, inside_of, json}
-use Rattle.json_span.specs.Tree.{Tree, a_null, a_boolean, a_number, a_string, an_array, an_object, Placed, placed, Elements, no_elements, element, Members, no_members, member}
-use Rattle.json_span.specs.Reading.{StringAt, BeginsAt, Value, value_at, Shape, null_shape, false_shape, true_shape, number_shape, string_shape, array_shape, object_shape, ElementsAt, no_element, first_element, MoreElements, last_element, next_element, member_at, MembersAt, no_member, first_member, MoreMembers, last_member, next_member, Shows}
+use Rattle.json_span.specs.Steered.{square, curly, rules, symbol, list_item_of, more_of, inside_of, json}
+use Rattle.json_span.specs.Tree.{Tree, a_null, a_boolean, a_number, a_string, an_array, an_object, Placed, placed, Elements, no_elements, an_element, Members, no_members, a_member}
+use Rattle.json_span.specs.Reading.{StringAt, BeginsAt, ValueAt, with_span, Shape, null_shape, false_shape, true_shape, number_shape, string_shape, array_shape, object_shape, ElementsAt, no_element, first_element, MoreElements, last_element, next_element, member_at, MembersAt, no_member, first_member, MoreMembers, last_member, next_member, Shows}
 use Rattle.json_span.proofs.Shorts.{is_value}
 use Rattle.json_span.proofs.Contents.{content_of_rest}
 
@@ -31,11 +31,11 @@ string_of (by_name (both (one_byte {c = c} {t = inner} h) r)) =
     let (s, k) = content_of_rest r in
     (s, record { reads = by_name (both (one_byte h) r); inner = inner; quoted = ap (λ z. z ∷ inner) (is_value c 34 h); content = k })
 
-placed_at : (total : ℕ) (t u : List ℕ) (v : Tree) → length t ≤ total → length u ≤ length t → Shape total t v u → (n : Placed) × Value total t n u
-placed_at total t u v h l x = (placed v (total - length t) (total - length u), value_at x (begins_at total t h) (begins_at total u (omega (arith, h, l))))
+placed_at : (total : ℕ) (t u : List ℕ) (v : Tree) → length t ≤ total → length u ≤ length t → Shape total t v u → (n : Placed) × ValueAt total t n u
+placed_at total t u v h l x = (placed v (total - length t) (total - length u), with_span x (begins_at total t h) (begins_at total u (omega (arith, h, l))))
 
 mutual
-  pub value_of : (total : ℕ) {t u : List ℕ} → Reads rules (named value) t u → length t ≤ total → (n : Placed) × Value total t n u
+  pub value_of : (total : ℕ) {t u : List ℕ} → Reads rules (named value) t u → length t ≤ total → (n : Placed) × ValueAt total t n u
   value_of total {t} {u} (by_name (left x)) h = placed_at total t u (a_boolean false) h (no_longer x) (false_shape x)
   value_of total {t} {u} (by_name (right (left x))) h = placed_at total t u a_null h (no_longer x) (null_shape x)
   value_of total {t} {u} (by_name (right (right (left x)))) h = placed_at total t u (a_boolean true) h (no_longer x) (true_shape x)
@@ -51,14 +51,14 @@ mutual
   inside_elements total (right (both (both no_byte (both v b)) (both ms y))) h =
       let (n, w) = value_of total v h in
       let (ns, m) = elements_from total ms y (omega (arith, no_longer v, no_longer b)) in
-      (element n ns, first_element w b m)
+      (an_element n ns, first_element w b m)
 
-  elements_from : (total : ℕ) {t w u : List ℕ} → Reads rules (many (seq (token 44) (item_of square))) t w → Reads rules (one 93) w u → length t ≤ total → (ns : Elements) × MoreElements total t ns u
+  elements_from : (total : ℕ) {t w u : List ℕ} → Reads rules (many (seq (symbol 44) (list_item_of square))) t w → Reads rules (one 93) w u → length t ≤ total → (ns : Elements) × MoreElements total t ns u
   elements_from total no_more y h = (no_elements, last_element y)
   elements_from total (more (both x (both no_byte (both v b))) ms) y h =
       let (n, w) = value_of total v (omega (arith, no_longer x)) in
       let (ns, m) = elements_from total ms y (omega (arith, no_longer x, no_longer v, no_longer b)) in
-      (element n ns, next_element x w b m)
+      (an_element n ns, next_element x w b m)
 
   inside_members : (total : ℕ) {t u : List ℕ} → Reads rules (inside_of curly) t u → length t ≤ total → (ms : Members) × MembersAt total t ms u
   inside_members total (left x) h = (no_members, no_member x)
@@ -66,15 +66,15 @@ mutual
       let (s, k) = string_of q in
       let (n, w) = value_of total v (omega (arith, no_longer q, no_longer c, no_longer d)) in
       let (fs, m) = members_from total ms y (omega (arith, no_longer q, no_longer c, no_longer d, no_longer v, no_longer b)) in
-      (member s (total - length t) (total - length l) n fs, first_member (member_at k (begins_at total t h) (begins_at total l (omega (arith, no_longer q))) c d w) b m)
+      (a_member s (total - length t) (total - length l) n fs, first_member (member_at k (begins_at total t h) (begins_at total l (omega (arith, no_longer q))) c d w) b m)
 
-  members_from : (total : ℕ) {t w u : List ℕ} → Reads rules (many (seq (token 44) (item_of curly))) t w → Reads rules (one 125) w u → length t ≤ total → (ms : Members) × MoreMembers total t ms u
+  members_from : (total : ℕ) {t w u : List ℕ} → Reads rules (many (seq (symbol 44) (list_item_of curly))) t w → Reads rules (one 125) w u → length t ≤ total → (ms : Members) × MoreMembers total t ms u
   members_from total no_more y h = (no_members, last_member y)
   members_from total (more (both {u = a} x (both (both {u = l} q (both c d)) (both v b))) ms) y h =
       let (s, k) = string_of q in
       let (n, w) = value_of total v (omega (arith, no_longer x, no_longer q, no_longer c, no_longer d)) in
       let (fs, m) = members_from total ms y (omega (arith, no_longer x, no_longer q, no_longer c, no_longer d, no_longer v, no_longer b)) in
-      (member s (total - length a) (total - length l) n fs, next_member x (member_at k (begins_at total a (omega (arith, no_longer x))) (begins_at total l (omega (arith, no_longer x, no_longer q))) c d w) b m)
+      (a_member s (total - length a) (total - length l) n fs, next_member x (member_at k (begins_at total a (omega (arith, no_longer x))) (begins_at total l (omega (arith, no_longer x, no_longer q))) c d w) b m)
 
 pub more_elements_of : (total : ℕ) {t u : List ℕ} → Reads rules (more_of square) t u → length t ≤ total → (ns : Elements) × MoreElements total t ns u
 more_elements_of total (both ms y) h = elements_from total ms y h

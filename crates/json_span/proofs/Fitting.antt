@@ -11,9 +11,9 @@ use Rattle.std.proofs.lemmas.Bool.Decides.{nat_tests}
 use Rattle.grammar.specs.Grammar.{Rule, named, within, Reads}
 use Rattle.grammar.specs.Predict.{begins, first}
 use Rattle.json_span.specs.Grammar.{Name, number, string, value, null_word, false_word, true_word, ws}
-use Rattle.json_span.specs.Steered.{rules, ahead, token}
+use Rattle.json_span.specs.Steered.{rules, ahead, symbol}
 use Rattle.json_span.specs.Tree.{Tree, Placed, Elements, Members}
-use Rattle.json_span.specs.Reading.{StringAt, BeginsAt, Value, value_at, Shape, null_shape, false_shape, true_shape, number_shape, string_shape, array_shape, object_shape, ElementsAt, no_element, first_element, MoreElements, last_element, next_element, MemberAt, member_at, MembersAt, no_member, first_member, MoreMembers, last_member, next_member, Shows}
+use Rattle.json_span.specs.Reading.{StringAt, BeginsAt, ValueAt, with_span, Shape, null_shape, false_shape, true_shape, number_shape, string_shape, array_shape, object_shape, ElementsAt, no_element, first_element, MoreElements, last_element, next_element, MemberAt, member_at, MembersAt, no_member, first_member, MoreMembers, last_member, next_member, Shows}
 use Rattle.json_span.specs.Table.{HasType, IsString, Fits, FitsAt, AllFit, MembersFit, Lies, spans}
 use Rattle.json_span.specs.Types.{type_of_byte}
 use Rattle.json_span.specs.declared.value_type.ValueType.TheVariants.{Number}
@@ -66,12 +66,12 @@ number_slice : (text : List ℕ) (start end : ℕ) (t u s : List ℕ) → t ≡ 
 number_slice text start end t u s e f le c = append_cancel_right (slice_range text start end) s u (ap (λ z. slice_range text start end ++ z) f ∙ sym (drop_split text start end le) ∙ sym e ∙ c)
 
 mutual
-  pub value_fits : (text : List ℕ) (utf : IsUtf8 text) {total : ℕ} {t u : List ℕ} {n : Placed} → Value total t n u → length text ≡ total → Ends text t → Fits text n
-  value_fits text utf {total} {t} {u} (value_at {v = v} {start = start} {end = end} s p q) hh z =
+  pub value_fits : (text : List ℕ) (utf : IsUtf8 text) {total : ℕ} {t u : List ℕ} {n : Placed} → ValueAt total t n u → length text ≡ total → Ends text t → Fits text n
+  value_fits text utf {total} {t} {u} (with_span {v = v} {start = start} {end = end} s p q) hh z =
       let e = ends_at text t start total hh z p in
-      let w = ends_read text (named value) z (value_reads (value_at s p q)) in
+      let w = ends_read text (named value) z (value_reads (with_span s p q)) in
       let f = ends_at text u end total hh w q in
-      shape_fits text utf start end s hh z e f (let n = no_longer (value_reads (value_at s p q)) in omega (arith, n, p, q)) (omega (arith, q, hh))
+      shape_fits text utf start end s hh z e f (let n = no_longer (value_reads (with_span s p q)) in omega (arith, n, p, q)) (omega (arith, q, hh))
 
   shape_fits : (text : List ℕ) (utf : IsUtf8 text) (start end : ℕ) {total : ℕ} {t u : List ℕ} {v : Tree} → Shape total t v u → length text ≡ total → Ends text t → t ≡ drop start text → u ≡ drop end text → start ≤ end → end ≤ length text → HasType text start v × FitsAt text start end v
   shape_fits text utf start end {total} {t} {u} (null_shape x) hh z e f le w = (ap (option_map type_of_byte) (byte_at text null_word 110 start e (begun null_word refl x) (λ c h. only (within 110 110 c) h)), tt)
@@ -84,9 +84,9 @@ mutual
   shape_fits text utf start end {total} {t} {u} (string_shape {s = s} x) hh z e f le w =
       (ap (option_map type_of_byte) (byte_at text (named string) 34 start e (begun (named string) refl x.reads) (λ c h. only (within 34 34 c) h)), ∣ subst (λ a. StringAt a s (drop end text)) e (subst (StringAt t s) f x) ∣₁)
   shape_fits text utf start end {total} {t} {u} (array_shape x y) hh z e f le w =
-      (ap (option_map type_of_byte) (byte_at text (token 91) 91 start e (begun (token 91) refl x) (λ c h. only (within 91 91 c) h)), elements_fit text utf y hh (ends_read text (token 91) z x))
+      (ap (option_map type_of_byte) (byte_at text (symbol 91) 91 start e (begun (symbol 91) refl x) (λ c h. only (within 91 91 c) h)), elements_fit text utf y hh (ends_read text (symbol 91) z x))
   shape_fits text utf start end {total} {t} {u} (object_shape x y) hh z e f le w =
-      (ap (option_map type_of_byte) (byte_at text (token 123) 123 start e (begun (token 123) refl x) (λ c h. only (within 123 123 c) h)), members_fit text utf y hh (ends_read text (token 123) z x))
+      (ap (option_map type_of_byte) (byte_at text (symbol 123) 123 start e (begun (symbol 123) refl x) (λ c h. only (within 123 123 c) h)), members_fit text utf y hh (ends_read text (symbol 123) z x))
 
   elements_fit : (text : List ℕ) (utf : IsUtf8 text) {total : ℕ} {t u : List ℕ} {ns : Elements} → ElementsAt total t ns u → length text ≡ total → Ends text t → AllFit text ns
   elements_fit text utf (no_element x) hh z = tt
@@ -95,13 +95,13 @@ mutual
   more_fit : (text : List ℕ) (utf : IsUtf8 text) {total : ℕ} {t u : List ℕ} {ns : Elements} → MoreElements total t ns u → length text ≡ total → Ends text t → AllFit text ns
   more_fit text utf (last_element x) hh z = tt
   more_fit text utf (next_element x v b m) hh z =
-      let y = ends_read text (token 44) z x in
+      let y = ends_read text (symbol 44) z x in
       (value_fits text utf v hh y, more_fit text utf m hh (ends_read text ws (ends_read text (named value) y (value_reads v)) b))
 
   member_fits : (text : List ℕ) (utf : IsUtf8 text) {total : ℕ} {t u s : List ℕ} {start end : ℕ} {n : Placed} → MemberAt total t s start end n u → length text ≡ total → Ends text t → IsString text start s end × Fits text n × Ends text u
   member_fits text utf {total} {t} {u} {s} {start} {end} (member_at {l = l} k p q b c v) hh z =
       let y = ends_read text (named string) z k.reads in
-      let w = ends_read text (token 58) (ends_read text ws y b) c in
+      let w = ends_read text (symbol 58) (ends_read text ws y b) c in
       (∣ subst (λ a. StringAt a s (drop end text)) (ends_at text t start total hh z p) (subst (StringAt t s) (ends_at text l end total hh y q) k) ∣₁, value_fits text utf v hh w, ends_read text (named value) w (value_reads v))
 
   members_fit : (text : List ℕ) (utf : IsUtf8 text) {total : ℕ} {t u : List ℕ} {ms : Members} → MembersAt total t ms u → length text ≡ total → Ends text t → MembersFit text ms
@@ -110,7 +110,7 @@ mutual
 
   more_members_fit : (text : List ℕ) (utf : IsUtf8 text) {total : ℕ} {t u : List ℕ} {ms : Members} → MoreMembers total t ms u → length text ≡ total → Ends text t → MembersFit text ms
   more_members_fit text utf (last_member x) hh z = tt
-  more_members_fit text utf (next_member x i b m) hh z = let (a, f, y) = member_fits text utf i hh (ends_read text (token 44) z x) in (a, f, more_members_fit text utf m hh (ends_read text ws y b))
+  more_members_fit text utf (next_member x i b m) hh z = let (a, f, y) = member_fits text utf i hh (ends_read text (symbol 44) z x) in (a, f, more_members_fit text utf m hh (ends_read text ws y b))
 
 pub shown_fits : (text : List ℕ) (utf : IsUtf8 text) (n : Placed) → Shows text n → Fits text n
 shown_fits text utf n (t, m, before, v, after) = value_fits text utf v refl (ends_read text ws (0, omega arith, refl) before)

@@ -1,5 +1,5 @@
 -- What building gives, value by value.
-use Rattle.std.proofs.Common.{◌≡◌, ◌≢◌, ℕ, zero, suc, ◌+◌, ◌<◌, ◌≤◌, List, [], ◌∷◌, ◌++◌, length, drop, true, false, refl, sym, ap, ◌∙◌, arith, length-drop, length-append, add-one, Some, None, Option, option_map, set, append_assoc}
+use Rattle.std.proofs.Common.{◌≡◌, ◌≢◌, ℕ, zero, suc, ◌+◌, ◌<◌, ◌≤◌, List, [], ◌∷◌, ◌++◌, length, drop, true, false, refl, sym, ap, subst, ◌∙◌, arith, length-drop, length-append, add-one, Some, None, Option, option_map, set, append_assoc}
 use Rattle.std.specs.Option.{unwrap_or}
 use Rattle.grammar.specs.Grammar.{Rule, seq, alt, named, Reads}
 use Rattle.grammar.specs.Predict.{begins, first, Steers, on_both, nullable}
@@ -8,27 +8,29 @@ use Rattle.grammar.proofs.Predicts.{reads}
 use Rattle.grammar.proofs.Steps.{no_longer}
 use Rattle.json_span.specs.Grammar.{Name, value, number, string, ws, one, null_word, false_word, true_word}
 use Rattle.json_span.specs.Steered as steered
-use Rattle.json_span.specs.Steered.{Bracket, square, curly, table, ahead, token, open_of, close_of, before_of, more_of, list_of}
-use Rattle.json_span.specs.Tree.{Tree, Placed, placed, an_array, an_object, element, Members, member, Entry, elements_of, members_of}
-use Rattle.json_span.specs.Reading.{StringAt, BeginsAt, Value, value_at, Shape, null_shape, false_shape, true_shape, number_shape, string_shape, array_shape, object_shape, no_element, no_member}
-use Rattle.json_span.specs.Flaw.{too_deep, or_else, flaw_in, flaw_at, flaw_in_elements, flaw_in_members}
-use Rattle.json_span.specs.Scan.{Reaches}
-use Rattle.json_span.specs.Kinds.{bracket_of, rule_of_scalar}
+use Rattle.json_span.specs.Steered.{Bracket, square, curly, table, ahead, symbol, open_of, close_of, before_of, more_of, list_of}
+use Rattle.json_span.specs.Tree.{Tree, Placed, placed, an_array, an_object, an_element, Members, a_member, Entry, elements_of, members_of}
+use Rattle.json_span.specs.Reading.{StringAt, BeginsAt, ValueAt, with_span, Shape, null_shape, false_shape, true_shape, number_shape, string_shape, array_shape, object_shape, no_element, no_member}
+use Rattle.json_span.specs.Flaw.{Flaw, too_deep, or_else, flaw_in, flaw_at, flaw_in_elements, flaw_in_members}
+use Rattle.json_span.specs.inner.Scan.{ReadsTo}
+use Rattle.json_span.specs.inner.Alternatives.{bracket_of, rule_of_scalar}
 use Rattle.json_span.proofs.Scalars.{scalar_shape}
 use Rattle.std.proofs.lemmas.List.{length-set}
-use Rattle.json_span.specs.Skipping.{left_of, Leads}
+use Rattle.json_span.specs.inner.Skipping.{left_of, ContinuesAs}
 use Rattle.json_span.specs.Table.{size_inside, sizes, member_sizes, span, spans, spans_inside, spans_of, member_spans}
 use Rattle.json_span.specs.declared.table.Span.{Span}
 use Rattle.json_span.proofs.Spans.{length-spans_of, length-member_spans, spans-push, member_spans-push, grown, closed, scalar_spans}
-use Rattle.json_span.specs.Building.{IsSmall, Opens, IsComma, IsClose, Gives, flaw_view, empty_tree}
-use Rattle.json_span.specs.ListsLeft.{list_left, then_elements, then_members, ElementsLeft, MembersLeft, ArrayLeft, ObjectLeft}
-use Rattle.json_span.specs.Names.{IsName, AreNames, names_flaw}
+use Rattle.json_span.specs.inner.Building.{IsSmall, Opens, IsComma, IsClose, IsNext, IsBuilt, flaw_view, empty_tree}
+use Rattle.json_span.specs.inner.ListsLeft.{list_left, then_elements, then_members, ArrayLeft, ObjectLeft}
+use Rattle.json_span.specs.inner.Names.{IsNameOf, AreNamesOf, names_flaw}
 use Rattle.json_span.specs.declared.names.NameSpan.{NameSpan}
-use Rattle.json_span.proofs.Naming.{are_push}
-use Rattle.json_span.specs.declared.kind.Bracket as declared
-use Rattle.json_span.specs.declared.kind.Bracket.TheVariants.{Square, Curly}
-use Rattle.json_span.specs.declared.kind.Scalar.{Scalar}
+use Rattle.json_span.proofs.Naming.{are_push, own_behind}
+use Rattle.json_span.specs.declared.alternative.Bracket as declared
+use Rattle.json_span.specs.declared.alternative.Bracket.TheVariants.{Square, Curly}
+use Rattle.json_span.specs.declared.alternative.Scalar.{Scalar}
+use Rattle.json_span.specs.declared.build.Built.{Built}
 use Rattle.json_span.specs.declared.build.Built.TheVariants.{Whole, Flawed}
+use Rattle.json_span.specs.declared.build.Next.{Next}
 use Rattle.json_span.specs.declared.flaw.Flaw as declared_flaw
 use Rattle.json_span.specs.declared.flaw.Flaw.TheVariants.{Deep}
 use Rattle.json_span.proofs.Steered.{honest_json}
@@ -44,12 +46,12 @@ begins_at : (text : List ℕ) (at : ℕ) → at ≤ length text → BeginsAt (le
 begins_at text at h = omega (arith, length-drop at text)
 
 -- a whole value
-pub gives_whole : (text : List ℕ) (at room name name_end : ℕ) (old new : List Span) (v : Tree) (close : ℕ) → at ≤ length text → Reaches (named value) text at close → Shape (length text) (drop at text) v (drop close text) →
-    flaw_at room at v ≡ None → new ≡ old ++ spans name name_end (length old) (placed v at close) → length new ≤ close → Gives text at room name name_end old new (Whole close)
+pub gives_whole : (text : List ℕ) (at room name name_end : ℕ) (old new : List Span) (v : Tree) (close : ℕ) → at ≤ length text → ReadsTo (named value) text at close → Shape (length text) (drop at text) v (drop close text) →
+    flaw_at room at v ≡ None → new ≡ old ++ spans name name_end (length old) (placed v at close) → length new ≤ close → IsBuilt text at room name name_end old new (Whole close)
 gives_whole text at room name name_end old new v close le x s f made small = record {
   tree = placed v at close;
   reads = x;
-  value = value_at s (begins_at text at le) (begins_at text close x.within_text);
+  value = with_span s (begins_at text at le) (begins_at text close x.within_text);
   flaw = f;
   kept = (made, small);
 }
@@ -63,11 +65,11 @@ one_span name name_end at end old new v none zero_inside made =
 pushed_small : (old new : List Span) (h : Span) (at end : ℕ) → new ≡ old ++ h ∷ [] → length old ≤ at → at < end → length new ≤ end
 pushed_small old new h at end made small lt = omega (arith, ap length made ∙ length-append old (h ∷ []))
 
-pub opened_small : (text : List ℕ) (at inner : ℕ) (old new : List Span) (h : Span) → IsSmall text at old → Reaches ws text (at + 1) inner → new ≡ old ++ h ∷ [] → IsSmall text inner new
+pub opened_small : (text : List ℕ) (at inner : ℕ) (old new : List Span) (h : Span) → IsSmall text at old → ReadsTo ws text (at + 1) inner → new ≡ old ++ h ∷ [] → IsSmall text inner new
 opened_small text at inner old new h small blanks made = record { short = small.short; places = pushed_small old new h at inner made small.places (omega (arith, blanks.forward)) }
 
-pub gives_scalar : (scalar : Scalar) (text : List ℕ) (at room name name_end : ℕ) (old new : List Span) (end : ℕ) → at ≤ length text → IsSmall text at old → Reaches (rule_of_scalar scalar) text at end → Reaches (named value) text at end →
-    new ≡ old ++ span name name_end at end (length old + 1) ∷ [] → Gives text at room name name_end old new (Whole end)
+pub gives_scalar : (scalar : Scalar) (text : List ℕ) (at room name name_end : ℕ) (old new : List Span) (end : ℕ) → at ≤ length text → IsSmall text at old → ReadsTo (rule_of_scalar scalar) text at end → ReadsTo (named value) text at end →
+    new ≡ old ++ span name name_end at end (length old + 1) ∷ [] → IsBuilt text at room name name_end old new (Whole end)
 gives_scalar scalar text at room name name_end old new end le small x y made =
     let (v, shape, flawless) = scalar_shape scalar text at end x in
     let (none, zero_inside) = scalar_spans v flawless (length old + 1) in
@@ -97,18 +99,18 @@ deep_tree curly total start t u _ (array_shape x y) e = refl
 deep_tree square total start t u _ (object_shape x y) e = refl
 deep_tree curly total start t u _ (object_shape x y) e = refl
 
-deep_value : (b : Bracket) (total at : ℕ) (t u : List ℕ) (n : Placed) → Value total t n u → BeginsAt total t at → begins (first ahead (list_of b)) t ≡ true → flaw_in 0 n ≡ Some (too_deep at (at + 1))
-deep_value b total at t u _ (value_at {v = v} {start = start} s p q) h e =
+deep_value : (b : Bracket) (total at : ℕ) (t u : List ℕ) (n : Placed) → ValueAt total t n u → BeginsAt total t at → begins (first ahead (list_of b)) t ≡ true → flaw_in 0 n ≡ Some (too_deep at (at + 1))
+deep_value b total at t u _ (with_span {v = v} {start = start} s p q) h e =
     let same : start ≡ at = omega (arith, p, h) in
     deep_tree b total start t u v s e ∙ ap (λ z. Some (too_deep z (z + 1))) same
 
-pub gives_deep : (b : Bracket) (text : List ℕ) (at room name name_end end : ℕ) (old new : List Span) → room ≡ 0 → at ≤ length text → begins (first ahead (list_of b)) (drop at text) ≡ true → Reaches (named value) text at end → Gives text at room name name_end old new (Flawed (Deep at (at + 1)) end)
+pub gives_deep : (b : Bracket) (text : List ℕ) (at room name name_end end : ℕ) (old new : List Span) → room ≡ 0 → at ≤ length text → begins (first ahead (list_of b)) (drop at text) ≡ true → ReadsTo (named value) text at end → IsBuilt text at room name name_end old new (Flawed (Deep at (at + 1)) end)
 gives_deep b text at room name name_end end old new zero_room le e x =
     let (n, v) = value_of (length text) (read_of text (named value) at end x) (omega (arith, length-drop at text)) in
     record { tree = n; reads = x; value = v; flaw = ap (λ z. flaw_in z n) zero_room ∙ deep_value b (length text) at (drop at text) (drop end text) n v (begins_at text at le) e; kept = tt }
 
 -- a list of no values
-empty_shape : (b : Bracket) (total : ℕ) (t m u : List ℕ) → Reads steered.rules (token (open_of b)) t m → Reads steered.rules (one (close_of b)) m u → Shape total t (empty_tree b) u
+empty_shape : (b : Bracket) (total : ℕ) (t m u : List ℕ) → Reads steered.rules (symbol (open_of b)) t m → Reads steered.rules (one (close_of b)) m u → Shape total t (empty_tree b) u
 empty_shape square total t m u x y = array_shape x (no_element y)
 empty_shape curly total t m u x y = object_shape x (no_member y)
 
@@ -122,14 +124,14 @@ empty_spans : (b : Bracket) (i : ℕ) → (spans_inside i (empty_tree b) ≡ [])
 empty_spans square i = (refl, refl)
 empty_spans curly i = (refl, refl)
 
-pub gives_empty : (k : declared.Bracket) (text : List ℕ) (at inner room name name_end : ℕ) (old new : List Span) → IsSmall text at old → room ≢ 0 → at < length text → begins (first ahead (list_of (bracket_of k))) (drop at text) ≡ true → Reaches ws text (at + 1) inner →
-    inner < length text → begins (first ahead (one (close_of (bracket_of k)))) (drop inner text) ≡ true → new ≡ old ++ span name name_end at (inner + 1) (length old + 1) ∷ [] → Gives text at room name name_end old new (Whole (inner + 1))
+pub gives_empty : (k : declared.Bracket) (text : List ℕ) (at inner room name name_end : ℕ) (old new : List Span) → IsSmall text at old → room ≢ 0 → at < length text → begins (first ahead (list_of (bracket_of k))) (drop at text) ≡ true → ReadsTo ws text (at + 1) inner →
+    inner < length text → begins (first ahead (one (close_of (bracket_of k)))) (drop inner text) ≡ true → new ≡ old ++ span name name_end at (inner + 1) (length old + 1) ∷ [] → IsBuilt text at room name name_end old new (Whole (inner + 1))
 gives_empty k text at inner room name name_end old new small some lt e b lt2 f made =
     let x = skip.open_token text [] k at inner lt e b in
     let y = scan.reach_one text (one (close_of (bracket_of k))) inner tt refl lt2 f in
     let (none, zero_inside) = empty_spans (bracket_of k) (length old + 1) in
     gives_whole text at room name name_end old new (empty_tree (bracket_of k)) (inner + 1) (omega arith)
-    (skip.empty_list text k at inner (inner + 1) e x f y) (empty_shape (bracket_of k) (length text) (drop at text) (drop inner text) (drop (inner + 1) text) (read_of text (token (open_of (bracket_of k))) at inner x) (read_of text (one (close_of (bracket_of k))) inner (inner + 1) y))
+    (skip.empty_list text k at inner (inner + 1) e x f y) (empty_shape (bracket_of k) (length text) (drop at text) (drop inner text) (drop (inner + 1) text) (read_of text (symbol (open_of (bracket_of k))) at inner x) (read_of text (one (close_of (bracket_of k))) inner (inner + 1) y))
     (empty_flaw (bracket_of k) room at some) (one_span name name_end at (inner + 1) old new (empty_tree (bracket_of k)) none zero_inside made)
     (pushed_small old new (span name name_end at (inner + 1) (length old + 1)) at (inner + 1) made small.places (omega (arith, b.forward)))
 
@@ -137,49 +139,74 @@ gives_empty k text at inner room name name_end old new small some lt e b lt2 f m
 rest_of : (b : Bracket) {t u : List ℕ} → Steers steered.rules ahead (seq ws (more_of b)) t u → (w : List ℕ) × Reads steered.rules ws t w × Reads steered.rules (more_of b) w u
 rest_of b (on_both {u = w} x y) = (w, reads steered.rules ahead honest_json x, reads steered.rules ahead honest_json y)
 
-module _ (text : List ℕ) (at inner room name name_end : ℕ) (old nodes new : List Span) (o : Opens square text at inner) where
-  array_token : Reads steered.rules (token 91) (drop at text) (drop inner text)
-  array_token = read_of text (token 91) at inner (skip.open_token text [] Square at inner o.bound o.opens o.blanks)
+-- the value that a list was read on behind, as the arm of the match has it
+pub built_as : {text : List ℕ} {at room name name_end : ℕ} {old new : List Span} {b c : Built} → b ≡ c →
+    IsBuilt text at room name name_end old new b → IsBuilt text at room name name_end old new c
+built_as {text} {at} {room} {name} {name_end} {old} {new} e x = subst (IsBuilt text at room name name_end old new) e x
 
-  module _ (next : ℕ) (l : Leads text (left_of true []) at (list_left square) next) (ps : List Placed) (left : ElementsLeft text room inner next ps) (within_ : next ≤ length text) where
-    nothing_before : Reaches (before_of square) text next next
-    nothing_before = skip.reach_nothing text next within_
+-- the same under a name that was read at this place
+pub built_at : {text : List ℕ} {at room start next name_end : ℕ} {old new : List Span} {b c : Built} → start ≡ next → b ≡ c →
+    IsBuilt text at room start name_end old new b → IsBuilt text at room next name_end old new c
+built_at {text} {at} {room} {start} {next} {name_end} {old} {new} {b} same e x =
+    built_as e (subst (λ z. IsBuilt text at room z name_end old new b) same x)
 
-    pub array_flawed : (f : declared_flaw.Flaw) (end close : ℕ) → Gives text next room 0 0 nodes new (Flawed f end) → Reaches (seq ws (more_of square)) text end close → Gives text at (room + 1) name name_end old new (Flawed f close)
-    array_flawed f end close g m =
+pub next_as : (k : Bracket) (text : List ℕ) (at : ℕ) {m n : Next} → m ≡ n → IsNext k text at m → IsNext k text at n
+next_as k text at e x = subst (IsNext k text at) e x
+
+nothing_before : {text : List ℕ} {next : ℕ} → next ≤ length text → ReadsTo (before_of square) text next next
+nothing_before {text} {next} within_ = skip.reach_nothing text next within_
+
+module _ {text : List ℕ} {at inner : ℕ} (o : Opens square text at inner) where
+  array_token : Reads steered.rules (symbol 91) (drop at text) (drop inner text)
+  array_token = read_of text (symbol 91) at inner (skip.open_token text [] Square at inner o.bound o.opens o.blanks)
+
+  module _ {room next name name_end : ℕ} {old nodes new : List Span} (l : ContinuesAs text (left_of true []) at (list_left square) next)
+      (before : ArrayLeft text room at inner next name name_end old nodes) (within_ : next ≤ length text) where
+    pub array_flawed : {f : declared_flaw.Flaw} {end close : ℕ} → IsBuilt text next room 0 0 nodes new (Flawed f end) →
+        ReadsTo (seq ws (more_of square)) text end close → IsBuilt text at (room + 1) name name_end old new (Flawed f close)
+    array_flawed {f} {end} {close} g m =
         let (w, x, y) = rest_of square m.steers in
         let (ns, more_) = more_elements_of (length text) y (omega (arith, no_longer x, length-drop end text)) in
+        let ps = before.items in
         record {
-          tree = placed (an_array (then_elements ps (element g.tree ns))) at close;
-          reads = list.whole_list text square at next l next end close nothing_before g.reads m;
-          value = value_at (array_shape array_token (left.whole g.tree (drop end text) w (drop close text) ns g.value x more_)) (begins_at text at (omega (arith, o.bound))) (begins_at text close m.within_text);
-          flaw = ap (λ z. flaw_at z at (an_array (then_elements ps (element g.tree ns)))) (add-one room) ∙ left.flawless (element g.tree ns) ∙ members.or_some (flaw_in room g.tree) (flaw_in_elements room ns) (flaw_view f) g.flaw;
+          tree = placed (an_array (then_elements ps (an_element g.tree ns))) at close;
+          reads = list.whole_list text square at next l next end close (nothing_before within_) g.reads m;
+          value = with_span (array_shape array_token (before.left.whole g.tree (drop end text) w (drop close text) ns g.value x more_)) (begins_at text at (omega (arith, o.bound))) (begins_at text close m.within_text);
+          flaw = ap (λ z. flaw_at z at (an_array (then_elements ps (an_element g.tree ns)))) (add-one room) ∙ before.left.flawless (an_element g.tree ns) ∙ members.or_some (flaw_in room g.tree) (flaw_in_elements room ns) (flaw_view f) g.flaw;
           kept = tt;
         }
 
-    module _ (made : nodes ≡ old ++ span name name_end at 0 0 ∷ spans_of (length old + 1) (elements_of ps)) (end : ℕ) (g : Gives text next room 0 0 nodes new (Whole end)) where
-      array_grown : new ≡ old ++ span name name_end at 0 0 ∷ spans_of (length old + 1) (elements_of (ps ++ g.tree ∷ []))
+    module _ {end : ℕ} (g : IsBuilt text next room 0 0 nodes new (Whole end)) where
+      array_grown : new ≡ old ++ span name name_end at 0 0 ∷ spans_of (length old + 1) (elements_of (before.items ++ g.tree ∷ []))
       array_grown =
           let k = length old + 1 in
-          grown (span name name_end at 0 0) 0 0 (sizes (elements_of ps)) old nodes new (spans_of k (elements_of ps)) g.tree made (length-spans_of k (elements_of ps)) g.kept.0 ∙ ap (λ z. old ++ span name name_end at 0 0 ∷ z) (sym (spans-push k ps g.tree))
+          let ps = before.items in
+          grown (span name name_end at 0 0) 0 0 (sizes (elements_of ps)) old nodes new (spans_of k (elements_of ps)) g.tree before.made (length-spans_of k (elements_of ps)) g.kept.0 ∙ ap (λ z. old ++ span name name_end at 0 0 ∷ z) (sym (spans-push k ps g.tree))
 
-      pub array_whole : (last : List Span) (close : ℕ) → IsClose square text end close → last ≡ set new (length old) (span name name_end at close (length new)) → Gives text at (room + 1) name name_end old last (Whole close)
-      array_whole last close c is =
+      pub array_whole : {last : List Span} {close : ℕ} → IsClose square text end close →
+          last ≡ set new (length old) (span name name_end at close (length new)) → IsBuilt text at (room + 1) name name_end old last (Whole close)
+      array_whole {last} {close} c is =
+          let ps = before.items in
           let qs = ps ++ g.tree ∷ [] in
           let k = length old + 1 in
           let m = list.close_reach text square end close c in
           gives_whole text at (room + 1) name name_end old last (an_array (elements_of qs)) close (omega (arith, o.bound))
-          (list.whole_list text square at next l next end close nothing_before g.reads m)
-          (array_shape array_token (list.elements_close text room inner next ps left g.tree end close g.value c))
-          (ap (λ z. flaw_at z at (an_array (elements_of qs))) (add-one room) ∙ list.elements_flawless text room inner next ps left g.tree g.flaw)
+          (list.whole_list text square at next l next end close (nothing_before within_) g.reads m)
+          (array_shape array_token (list.elements_close text room inner next ps before.left g.tree end close g.value c))
+          (ap (λ z. flaw_at z at (an_array (elements_of qs))) (add-one room) ∙ list.elements_flawless text room inner next ps before.left g.tree g.flaw)
           (closed (span name name_end at 0 0) name name_end at close (sizes (elements_of qs)) old new last (spans_of k (elements_of qs)) array_grown (length-spans_of k (elements_of qs)) is)
           (closed_small new last (length old) end close (span name name_end at close (length new)) is g.kept.1 m.forward)
 
-      pub array_next : (item : ℕ) → IsComma text end item → (item ≤ length text) × Leads text (left_of true []) at (list_left square) item × ArrayLeft text room at inner item name name_end old new × (next < item)
-      array_next item c = (
+      pub array_next : {item : ℕ} → IsComma text end item →
+          (item ≤ length text) × ContinuesAs text (left_of true []) at (list_left square) item × ArrayLeft text room at inner item name name_end old new × (next < item)
+      array_next {item} c = (
         c.behind.within_text,
-        list.item_leads text square at next l next end item nothing_before g.reads c,
-        record { items = ps ++ g.tree ∷ []; left = list.elements_next text room inner next ps left g.tree end item g.value g.flaw c; made = array_grown },
+        list.item_leads text square at next l next end item (nothing_before within_) g.reads c,
+        record {
+          items = before.items ++ g.tree ∷ [];
+          left = list.elements_next text room inner next before.items before.left g.tree end item g.value g.flaw c;
+          made = array_grown;
+        },
         omega (arith, g.reads.forward, list.past_comma text end item c),
       )
 
@@ -187,88 +214,108 @@ or_own : (first_ : Option declared_flaw.Flaw) (f : declared_flaw.Flaw) → or_el
 or_own None f = refl
 or_own (Some g) f = refl
 
-module _ (text : List ℕ) (at inner room name name_end : ℕ) (old nodes new : List Span) (o : Opens curly text at inner) where
-  object_token : Reads steered.rules (token 123) (drop at text) (drop inner text)
-  object_token = read_of text (token 123) at inner (skip.open_token text [] Curly at inner o.bound o.opens o.blanks)
+pub told_as : {x y : Option declared_flaw.Flaw} {told : Option Flaw} → x ≡ y → option_map flaw_view x ≡ told → option_map flaw_view y ≡ told
+told_as {told = told} e is = subst (λ z. option_map flaw_view z ≡ told) e is
 
-  -- where a member's value begins
-  module _ (next : ℕ) (l : Leads text (left_of true []) at (list_left curly) next) (es : List Entry) (left : MembersLeft text room inner next es) (within_ : next ≤ length text)
-      (s : List ℕ) (own_end value_start : ℕ) (q : Reaches (named string) text next own_end) (k_ : StringAt (drop next text) s (drop own_end text)) (c : Reaches (seq ws (token 58)) text own_end value_start) where
-    pub name_before : Reaches (before_of curly) text next value_start
-    name_before = scan.reach_both text (named string) (seq ws (token 58)) next own_end value_start q c
+-- the names of an object once the last of them was read, behind those of the lists around it
+pub names_read : {text : List ℕ} {room at inner next name name_end base : ℕ} {old nodes : List Span} {outer names more : List NameSpan} {n : NameSpan} {e : Entry} →
+    (before : ObjectLeft text room at inner next name name_end old nodes outer names) → more ≡ names ++ n ∷ [] → base ≡ length outer → IsNameOf text n e →
+    AreNamesOf text (drop base more) (before.fields ++ e ∷ [])
+names_read {text} {base = base} {outer = outer} {names = names} {more = more} {n = n} {e = e} before pushed is is_name =
+    subst (λ z. AreNamesOf text z (before.fields ++ e ∷ [])) (sym (own_behind outer before.own names more n base before.behind pushed is))
+    (are_push text before.own before.fields n e before.are is_name)
 
+-- where a member's value begins
+pub name_before : {text : List ℕ} {next own_end value_start : ℕ} → ReadsTo (named string) text next own_end → ReadsTo (seq ws (symbol 58)) text own_end value_start →
+    ReadsTo (before_of curly) text next value_start
+name_before {text} {next} {own_end} {value_start} q c = scan.reach_both text (named string) (seq ws (symbol 58)) next own_end value_start q c
+
+module _ {text : List ℕ} {at inner : ℕ} (o : Opens curly text at inner) where
+  object_token : Reads steered.rules (symbol 123) (drop at text) (drop inner text)
+  object_token = read_of text (symbol 123) at inner (skip.open_token text [] Curly at inner o.bound o.opens o.blanks)
+
+  module _ {room next name name_end : ℕ} {old nodes new : List Span} {outer names : List NameSpan} (l : ContinuesAs text (left_of true []) at (list_left curly) next)
+      (before : ObjectLeft text room at inner next name name_end old nodes outer names) (within_ : next ≤ length text)
+      {s : List ℕ} {own_end value_start : ℕ} (q : ReadsTo (named string) text next own_end) (k_ : StringAt (drop next text) s (drop own_end text)) (c : ReadsTo (seq ws (symbol 58)) text own_end value_start) where
     -- a value that is kept no more, with what stands behind it
-    object_rest : (n : Placed) (end close : ℕ) → Reaches (named value) text value_start end → Value (length text) (drop value_start text) n (drop end text) → Reaches (seq ws (more_of curly)) text end close → (f : declared_flaw.Flaw) →
-        ((ms : Members) → flaw_in_members room [] (then_members es (member s next own_end n ms)) ≡ Some (flaw_view f)) → Gives text at (room + 1) name name_end old new (Flawed f close)
+    object_rest : (n : Placed) (end close : ℕ) → ReadsTo (named value) text value_start end → ValueAt (length text) (drop value_start text) n (drop end text) → ReadsTo (seq ws (more_of curly)) text end close → (f : declared_flaw.Flaw) →
+        ((ms : Members) → flaw_in_members room [] (then_members before.fields (a_member s next own_end n ms)) ≡ Some (flaw_view f)) → IsBuilt text at (room + 1) name name_end old new (Flawed f close)
     object_rest n end close x v m f flaws =
         let (w, y, z) = rest_of curly m.steers in
         let (ms, more_) = more_members_of (length text) z (omega (arith, no_longer y, length-drop end text)) in
         let whole = members.member_of text s next own_end value_start end n within_ q.within_text k_ c v in
+        let es = before.fields in
         record {
-          tree = placed (an_object (then_members es (member s next own_end n ms))) at close;
-          reads = list.whole_list text curly at next l value_start end close name_before x m;
-          value = value_at (object_shape object_token (left.whole s next own_end n (drop end text) w (drop close text) ms whole y more_)) (begins_at text at (omega (arith, o.bound))) (begins_at text close m.within_text);
-          flaw = ap (λ i. flaw_at i at (an_object (then_members es (member s next own_end n ms)))) (add-one room) ∙ flaws ms;
+          tree = placed (an_object (then_members es (a_member s next own_end n ms))) at close;
+          reads = list.whole_list text curly at next l value_start end close (name_before q c) x m;
+          value = with_span (object_shape object_token (before.left.whole s next own_end n (drop end text) w (drop close text) ms whole y more_)) (begins_at text at (omega (arith, o.bound))) (begins_at text close m.within_text);
+          flaw = ap (λ i. flaw_at i at (an_object (then_members es (a_member s next own_end n ms)))) (add-one room) ∙ flaws ms;
           kept = tt;
         }
 
     -- the flaw of the value, or of a name before it
-    pub object_flawed : (f : declared_flaw.Flaw) (first_ : Option declared_flaw.Flaw) (end close : ℕ) → (g : Gives text value_start room next own_end nodes new (Flawed f end)) → option_map flaw_view first_ ≡ names_flaw [] (es ++ record { name = s; start = next; end = own_end; value = g.tree } ∷ []) →
-        Reaches (seq ws (more_of curly)) text end close → Gives text at (room + 1) name name_end old new (Flawed (unwrap_or first_ f) close)
-    object_flawed f first_ end close g told m =
-        let e : Entry = record { name = s; start = next; end = own_end; value = g.tree } in
-        object_rest g.tree end close g.reads g.value m (unwrap_or first_ f) (λ ms. members.members_flawed text room inner next es left s next own_end g.tree ms (flaw_view f) g.flaw ∙ ap (λ z. or_else z (Some (flaw_view f))) (sym told) ∙ or_own first_ f)
+    pub object_flawed : {f : declared_flaw.Flaw} (first_ : Option declared_flaw.Flaw) {end close : ℕ} → (g : IsBuilt text value_start room next own_end nodes new (Flawed f end)) →
+        option_map flaw_view first_ ≡ names_flaw [] (before.fields ++ record { name = s; start = next; end = own_end; value = g.tree } ∷ []) →
+        ReadsTo (seq ws (more_of curly)) text end close → IsBuilt text at (room + 1) name name_end old new (Flawed (unwrap_or first_ f) close)
+    object_flawed {f} first_ {end} {close} g told m =
+        object_rest g.tree end close g.reads g.value m (unwrap_or first_ f)
+        (λ ms. members.members_flawed text room inner next before.fields before.left s next own_end g.tree ms (flaw_view f) g.flaw ∙ ap (λ z. or_else z (Some (flaw_view f))) (sym told) ∙ or_own first_ f)
 
-    module _ (made : nodes ≡ old ++ span name name_end at 0 0 ∷ member_spans (length old + 1) (members_of es)) (end : ℕ) (g : Gives text value_start room next own_end nodes new (Whole end)) where
-      object_grown : new ≡ old ++ span name name_end at 0 0 ∷ member_spans (length old + 1) (members_of (es ++ record { name = s; start = next; end = own_end; value = g.tree } ∷ []))
-      object_grown =
-          let k = length old + 1 in
-          grown (span name name_end at 0 0) next own_end (member_sizes (members_of es)) old nodes new (member_spans k (members_of es)) g.tree made (length-member_spans k (members_of es)) g.kept.0
-          ∙ ap (λ z. old ++ span name name_end at 0 0 ∷ z) (sym (member_spans-push k es (record { name = s; start = next; end = own_end; value = g.tree })))
-
+    module _ {end : ℕ} (g : IsBuilt text value_start room next own_end nodes new (Whole end)) where
       abbrev pub own_entry : Entry
       own_entry = record { name = s; start = next; end = own_end; value = g.tree }
 
-      pub object_whole : (last : List Span) (close : ℕ) → IsClose curly text end close → None ≡ names_flaw [] (es ++ own_entry ∷ []) → last ≡ set new (length old) (span name name_end at close (length new)) → Gives text at (room + 1) name name_end old last (Whole close)
-      object_whole last close i told is =
-          let gs = es ++ record { name = s; start = next; end = own_end; value = g.tree } ∷ [] in
+      object_grown : new ≡ old ++ span name name_end at 0 0 ∷ member_spans (length old + 1) (members_of (before.fields ++ own_entry ∷ []))
+      object_grown =
+          let k = length old + 1 in
+          let es = before.fields in
+          grown (span name name_end at 0 0) next own_end (member_sizes (members_of es)) old nodes new (member_spans k (members_of es)) g.tree before.made (length-member_spans k (members_of es)) g.kept.0
+          ∙ ap (λ z. old ++ span name name_end at 0 0 ∷ z) (sym (member_spans-push k es own_entry))
+
+      pub object_whole : {last : List Span} {close : ℕ} → IsClose curly text end close → None ≡ names_flaw [] (before.fields ++ own_entry ∷ []) →
+          last ≡ set new (length old) (span name name_end at close (length new)) → IsBuilt text at (room + 1) name name_end old last (Whole close)
+      object_whole {last} {close} i told is =
+          let es = before.fields in
+          let gs = es ++ own_entry ∷ [] in
           let k = length old + 1 in
           let m = list.close_reach text curly end close i in
           let whole = members.member_of text s next own_end value_start end g.tree within_ q.within_text k_ c g.value in
           gives_whole text at (room + 1) name name_end old last (an_object (members_of gs)) close (omega (arith, o.bound))
-          (list.whole_list text curly at next l value_start end close name_before g.reads m)
-          (object_shape object_token (members.members_close text room inner next es left s next own_end g.tree end close whole i))
-          (ap (λ z. flaw_at z at (an_object (members_of gs))) (add-one room) ∙ members.members_flaw text room inner next es left s next own_end g.tree g.flaw ∙ sym told)
+          (list.whole_list text curly at next l value_start end close (name_before q c) g.reads m)
+          (object_shape object_token (members.members_close text room inner next es before.left s next own_end g.tree end close whole i))
+          (ap (λ z. flaw_at z at (an_object (members_of gs))) (add-one room) ∙ members.members_flaw text room inner next es before.left s next own_end g.tree g.flaw ∙ sym told)
           (closed (span name name_end at 0 0) name name_end at close (member_sizes (members_of gs)) old new last (member_spans k (members_of gs)) object_grown (length-member_spans k (members_of gs)) is)
           (closed_small new last (length old) end close (span name name_end at close (length new)) is g.kept.1 m.forward)
 
       -- a name that repeats another, in an object that was read to its end
-      pub object_again : (f : declared_flaw.Flaw) (close : ℕ) → IsClose curly text end close → Some (flaw_view f) ≡ names_flaw [] (es ++ own_entry ∷ []) → (last : List Span) → Gives text at (room + 1) name name_end old last (Flawed f close)
-      object_again f close i told last =
+      pub object_again : {f : declared_flaw.Flaw} {close : ℕ} {last : List Span} → IsClose curly text end close →
+          Some (flaw_view f) ≡ names_flaw [] (before.fields ++ own_entry ∷ []) → IsBuilt text at (room + 1) name name_end old last (Flawed f close)
+      object_again {f} {close} i told =
+          let es = before.fields in
           let gs = es ++ own_entry ∷ [] in
           let m = list.close_reach text curly end close i in
           let whole = members.member_of text s next own_end value_start end g.tree within_ q.within_text k_ c g.value in
           record {
             tree = placed (an_object (members_of gs)) at close;
-            reads = list.whole_list text curly at next l value_start end close name_before g.reads m;
-            value = value_at (object_shape object_token (members.members_close text room inner next es left s next own_end g.tree end close whole i)) (begins_at text at (omega (arith, o.bound))) (begins_at text close m.within_text);
-            flaw = ap (λ z. flaw_at z at (an_object (members_of gs))) (add-one room) ∙ members.members_flaw text room inner next es left s next own_end g.tree g.flaw ∙ sym told;
+            reads = list.whole_list text curly at next l value_start end close (name_before q c) g.reads m;
+            value = with_span (object_shape object_token (members.members_close text room inner next es before.left s next own_end g.tree end close whole i)) (begins_at text at (omega (arith, o.bound))) (begins_at text close m.within_text);
+            flaw = ap (λ z. flaw_at z at (an_object (members_of gs))) (add-one room) ∙ members.members_flaw text room inner next es before.left s next own_end g.tree g.flaw ∙ sym told;
             kept = tt;
           }
 
-      pub object_next : (item : ℕ) → IsComma text end item → (outer own names more : List NameSpan) (n : NameSpan) → names ≡ outer ++ own → AreNames text own es → IsName text n own_entry → more ≡ names ++ n ∷ [] →
-          (item ≤ length text) × Leads text (left_of true []) at (list_left curly) item × ObjectLeft text room at inner item name name_end old new outer more × (next < item)
-      object_next item i outer own names more n split are is_name pushed =
+      pub object_next : {item : ℕ} {more : List NameSpan} {n : NameSpan} → IsComma text end item → IsNameOf text n own_entry → more ≡ names ++ n ∷ [] →
+          (item ≤ length text) × ContinuesAs text (left_of true []) at (list_left curly) item × ObjectLeft text room at inner item name name_end old new outer more × (next < item)
+      object_next {item} {more} {n} i is_name pushed =
           let whole = members.member_of text s next own_end value_start end g.tree within_ q.within_text k_ c g.value in (
             i.behind.within_text,
-            list.item_leads text curly at next l value_start end item name_before g.reads i,
+            list.item_leads text curly at next l value_start end item (name_before q c) g.reads i,
             record {
-              fields = es ++ own_entry ∷ [];
-              left = members.members_next text room inner next es left s next own_end g.tree end item whole g.flaw i;
+              fields = before.fields ++ own_entry ∷ [];
+              left = members.members_next text room inner next before.fields before.left s next own_end g.tree end item whole g.flaw i;
               made = object_grown;
-              own = own ++ n ∷ [];
-              behind = pushed ∙ ap (λ z. z ++ n ∷ []) split ∙ append_assoc outer own (n ∷ []);
-              are = are_push text own es n own_entry are is_name;
+              own = before.own ++ n ∷ [];
+              behind = pushed ∙ ap (λ z. z ++ n ∷ []) before.behind ∙ append_assoc outer before.own (n ∷ []);
+              are = are_push text before.own before.fields n own_entry before.are is_name;
             },
             omega (arith, q.forward, c.forward, g.reads.forward, list.past_comma text end item i),
           )

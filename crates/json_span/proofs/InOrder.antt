@@ -1,8 +1,8 @@
 -- The parts of what a text shows stand in the order of the text.
 use Rattle.std.proofs.Common.{◌≡◌, ℕ, ◌+◌, ◌<◌, ◌≤◌, List, length, refl, arith}
 use Rattle.grammar.proofs.Steps.{no_longer, shorter}
-use Rattle.json_span.specs.Tree.{Tree, a_null, a_boolean, a_number, a_string, an_array, an_object, Placed, placed, Elements, no_elements, element, Members, no_members, member, start_of, end_of}
-use Rattle.json_span.specs.Reading.{Value, value_at, Shape, null_shape, false_shape, true_shape, number_shape, string_shape, array_shape, object_shape, ElementsAt, no_element, first_element, MoreElements, last_element, next_element, member_at, MembersAt, no_member, first_member, MoreMembers, last_member, next_member, Shows}
+use Rattle.json_span.specs.Tree.{Tree, a_null, a_boolean, a_number, a_string, an_array, an_object, Placed, placed, Elements, no_elements, an_element, Members, no_members, a_member, start_of, end_of}
+use Rattle.json_span.specs.Reading.{ValueAt, with_span, Shape, null_shape, false_shape, true_shape, number_shape, string_shape, array_shape, object_shape, ElementsAt, no_element, first_element, MoreElements, last_element, next_element, member_at, MembersAt, no_member, first_member, MoreMembers, last_member, next_member, Shows}
 use Rattle.json_span.proofs.Steered.{honest_json}
 use Rattle.json_span.proofs.Unique.{value_reads}
 
@@ -20,22 +20,22 @@ abbrev mutual
 
   pub ElementsInOrder : ℕ → ℕ → Elements → Type 0
   ElementsInOrder low high no_elements = low ≤ high
-  ElementsInOrder low high (element n ns) = (low ≤ start_of n) × InOrder n × ElementsInOrder (end_of n) high ns
+  ElementsInOrder low high (an_element n ns) = (low ≤ start_of n) × InOrder n × ElementsInOrder (end_of n) high ns
 
   pub MembersInOrder : ℕ → ℕ → Members → Type 0
   MembersInOrder low high no_members = low ≤ high
-  MembersInOrder low high (member s start end n ms) = (low ≤ start) × (start ≤ start_of n) × InOrder n × MembersInOrder (end_of n) high ms
+  MembersInOrder low high (a_member s start end n ms) = (low ≤ start) × (start ≤ start_of n) × InOrder n × MembersInOrder (end_of n) high ms
 
-value_begins : {total : ℕ} {t u : List ℕ} {n : Placed} → Value total t n u → start_of n + length t ≡ total
-value_begins (value_at s p q) = p
+value_begins : {total : ℕ} {t u : List ℕ} {n : Placed} → ValueAt total t n u → start_of n + length t ≡ total
+value_begins (with_span s p q) = p
 
-value_ends : {total : ℕ} {t u : List ℕ} {n : Placed} → Value total t n u → end_of n + length u ≡ total
-value_ends (value_at s p q) = q
+value_ends : {total : ℕ} {t u : List ℕ} {n : Placed} → ValueAt total t n u → end_of n + length u ≡ total
+value_ends (with_span s p q) = q
 
 mutual
-  pub value_in_order : {total : ℕ} {t u : List ℕ} {n : Placed} → Value total t n u → InOrder n
-  value_in_order (value_at {start = start} {end = end} s p q) =
-      let lt = shorter honest_json.visible (value_reads (value_at s p q)) refl in
+  pub value_in_order : {total : ℕ} {t u : List ℕ} {n : Placed} → ValueAt total t n u → InOrder n
+  value_in_order (with_span {start = start} {end = end} s p q) =
+      let lt = shorter honest_json.visible (value_reads (with_span s p q)) refl in
       (omega (arith, p, q, lt), shape_in_order start end s (omega (arith, p)) (omega (arith, q)))
 
   shape_in_order : (low high : ℕ) {total : ℕ} {t u : List ℕ} {v : Tree} → Shape total t v u → low + length t ≤ total → total ≤ high + length u → PartsInOrder low high v

@@ -7,8 +7,8 @@ use Rattle.std.proofs.lemmas.Grind.{flat_map-append}
 use Rattle.std.proofs.lemmas.List.{drop_all, drop_more}
 use Rattle.lane_scan.specs.Bytes.{is_special}
 use Rattle.json_span.specs.Reading.{StringAt}
-use Rattle.json_span.specs.Spelling.{escaped, inside_text, are_bytes, are_plain}
-use Rattle.json_span.specs.Composing.{joined}
+use Rattle.json_span.specs.Spelling.{byte_text, inside_text, are_bytes, are_plain}
+use Rattle.json_span.specs.Composing.{separated}
 use Rattle.json_span.proofs.Spelled.{string_at}
 use Rattle.json_span.proofs.Strings.{cut_at}
 
@@ -16,7 +16,7 @@ and_both : (a b : Bool) → (a && b) ≡ true → (a ≡ true) × (b ≡ true)
 and_both true b h = (refl, h)
 and_both false b h = cc
 
-one_plain : (c : ℕ) → not (is_special c) ≡ true → escaped c ≡ c ∷ []
+one_plain : (c : ℕ) → not (is_special c) ≡ true → byte_text c ≡ c ∷ []
 one_plain c h = grind (arith, nat_tests)
 
 pub plain_stays : (s : List ℕ) → are_plain s ≡ true → inside_text s ≡ s
@@ -24,7 +24,7 @@ plain_stays [] h = refl
 plain_stays (c ∷ s) h = let p = and_both (not (is_special c)) (are_plain s) h in rw (one_plain c p.0) (ap (λ z. c ∷ z) (plain_stays s p.1))
 
 pub insides_follow : (s t : List ℕ) → inside_text (s ++ t) ≡ inside_text s ++ inside_text t
-insides_follow s t = flat_map-append escaped s t
+insides_follow s t = flat_map-append byte_text s t
 
 others_join : (between : List ℕ) (names : List (List ℕ)) → are_plain between ≡ true → flat_map (λ n. between ++ inside_text n) names ≡ inside_text (flat_map (λ n. between ++ n) names)
 others_join between [] h = refl
@@ -32,7 +32,7 @@ others_join between (n ∷ ns) h =
     ap (λ z. (between ++ inside_text n) ++ z) (others_join between ns h)
     ∙ sym (insides_follow (between ++ n) (flat_map (λ n. between ++ n) ns) ∙ ap (λ z. z ++ inside_text (flat_map (λ n. between ++ n) ns)) (insides_follow between n ∙ ap (λ z. z ++ inside_text n) (plain_stays between h)))
 
-pub insides_join : (between : List ℕ) (names : List (List ℕ)) → are_plain between ≡ true → join_by inside_text between names ≡ inside_text (joined between names)
+pub insides_join : (between : List ℕ) (names : List (List ℕ)) → are_plain between ≡ true → join_by inside_text between names ≡ inside_text (separated between names)
 insides_join between [] h = refl
 insides_join between (n ∷ ns) h = ap (λ z. inside_text n ++ z) (others_join between ns h) ∙ sym (insides_follow n (flat_map (λ n. between ++ n) ns))
 
@@ -46,7 +46,7 @@ bytes_join between (n ∷ ns) h k =
     let p = and_both (are_bytes n) (list_all are_bytes ns) k in
     bytes_follow (between ++ n) (flat_map (λ n. between ++ n) ns) (bytes_follow between n h p.0) (bytes_join between ns h p.1)
 
-bytes_joined : (between : List ℕ) (names : List (List ℕ)) → are_bytes between ≡ true → list_all are_bytes names ≡ true → are_bytes (joined between names) ≡ true
+bytes_joined : (between : List ℕ) (names : List (List ℕ)) → are_bytes between ≡ true → list_all are_bytes names ≡ true → are_bytes (separated between names) ≡ true
 bytes_joined between [] h k = refl
 bytes_joined between (n ∷ ns) h k = let p = and_both (are_bytes n) (list_all are_bytes ns) k in bytes_follow n (flat_map (λ n. between ++ n) ns) p.0 (bytes_join between ns h p.1)
 
@@ -55,8 +55,8 @@ pub inside_at : (s u : List ℕ) → are_bytes s ≡ true → StringAt (34 ∷ (
 inside_at s u h = subst (λ z. StringAt (34 ∷ z) s u) (append_assoc (inside_text s) (34 ∷ []) u) (string_at s u h)
 
 pub joined_at : (between : List ℕ) (names : List (List ℕ)) (u : List ℕ) → are_plain between ≡ true → are_bytes between ≡ true → list_all are_bytes names ≡ true →
-    StringAt (34 ∷ (join_by inside_text between names ++ (34 ∷ u))) (joined between names) u
-joined_at between names u h k l = rw (insides_join between names h) (inside_at (joined between names) u (bytes_joined between names k l))
+    StringAt (34 ∷ (join_by inside_text between names ++ (34 ∷ u))) (separated between names) u
+joined_at between names u h k l = rw (insides_join between names h) (inside_at (separated between names) u (bytes_joined between names k l))
 
 -- a run of plain bytes
 run_plain : (s : List ℕ) → All (λ x. is_special x ≡ false) s → inside_text s ≡ s
@@ -72,7 +72,7 @@ inside_last text at special h e p =
 
 -- a run, the byte behind it, and the rest
 pub inside_more : (text : List ℕ) (at special : ℕ) → at ≤ special → special < length text → All (λ x. is_special x ≡ false) (slice_range text at special) →
-    inside_text (drop at text) ≡ slice_range text at special ++ (escaped (get_or text special 0) ++ inside_text (drop (special + 1) text))
+    inside_text (drop at text) ≡ slice_range text at special ++ (byte_text (get_or text special 0) ++ inside_text (drop (special + 1) text))
 inside_more text at special h lt p =
     ap inside_text (cut_at text at special h ∙ ap (λ z. slice_range text at special ++ z) (drop_more text special 0 lt))
     ∙ insides_follow (slice_range text at special) (get_or text special 0 ∷ drop (special + 1) text)
@@ -84,9 +84,9 @@ written_whole text old out new run at special h e p f inv g = g ∙ ap (λ z. ou
 
 -- and past an escape
 pub written_more : (text old out new last run : List ℕ) (at special : ℕ) → at ≤ special → special < length text → All (λ x. is_special x ≡ false) (slice_range text at special) → run ≡ slice_range text at special → out ++ inside_text (drop at text) ≡ old ++ inside_text text → new ≡ out ++ run →
-    last ≡ new ++ escaped (get_or text special 0) → last ++ inside_text (drop (special + 1) text) ≡ old ++ inside_text text
+    last ≡ new ++ byte_text (get_or text special 0) → last ++ inside_text (drop (special + 1) text) ≡ old ++ inside_text text
 written_more text old out new last run at special h lt p f inv g k =
-    let byte : List ℕ = escaped (get_or text special 0) in
+    let byte : List ℕ = byte_text (get_or text special 0) in
     let rest : List ℕ = inside_text (drop (special + 1) text) in
     ap (λ z. z ++ rest) (k ∙ ap (λ z. z ++ byte) (g ∙ ap (λ z. out ++ z) f))
     ∙ append_assoc (out ++ slice_range text at special) byte rest

@@ -1,46 +1,48 @@
-pub mod Steered
-pub mod Scans
-pub mod Classes
-pub mod Runs
-pub mod CharacterScans
-pub mod KindFacts
+mod Steered
+mod Scans
+mod Classes
+mod Runs
+mod CharacterScans
+mod AlternativesRead
 pub mod Skips
 pub mod Views
-pub mod EscapeFacts
+mod PlainViews
+mod PlainCopies
+mod EscapeFacts
 pub mod Shorts
-pub mod Contents
-pub mod Boundaries
-pub mod Strings
+mod Contents
+mod Boundaries
+mod Strings
 pub mod Exists
-pub mod Scalars
-pub mod Begins
-pub mod Lists
-pub mod Naming
-pub mod NameOrder
-pub mod MemberLists
-pub mod Spans
-pub mod Gives
-pub mod Rfc
-pub mod FrontsOn
-pub mod Refusal
+mod Scalars
+mod Begins
+mod Lists
+mod Naming
+mod NameOrder
+mod MemberLists
+mod Spans
+mod Gives
+mod Rfc
+mod FrontsOn
+mod Refusal
 pub mod Unique
 pub mod OneAnswer
 pub mod Utf8
 pub mod Spelled
 pub mod Answered
-pub mod Cut
+mod Cut
 pub mod Slices
 pub mod Saying
 pub mod SaidShown
 pub mod SliceSaid
-pub mod StringsAreUtf8
+mod StringsAreUtf8
 pub mod SaidFits
-pub mod SaidCut
+mod SaidCut
 pub mod Composing
 pub mod Insides
-pub mod Unders
-pub mod Lying
-pub mod Fitting
-pub mod Matching
+mod Lying
+mod CursorsGoOn
+mod Fitting
+mod Matching
 pub mod InOrder
-pub mod FirstFlaw
+mod FirstFlaw

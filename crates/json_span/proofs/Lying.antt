@@ -1,23 +1,23 @@
 -- What lies in a table, taken apart.
-use Rattle.std.proofs.Common.{◌≡◌, ℕ, zero, suc, ◌+◌, ◌<◌, ◌≤◌, ◌==◌, Bool, true, false, Option, None, List, [], ◌∷◌, ◌++◌, length, take, drop, Some, option_map, refl, sym, ap, ◌∙◌, subst, arith, append_assoc}
+use Rattle.std.proofs.Common.{◌≡◌, ℕ, zero, suc, ◌+◌, ◌<◌, ◌≤◌, true, Option, None, List, [], ◌∷◌, ◌++◌, length, take, drop, Some, option_map, refl, sym, ap, ◌∙◌, subst, arith, append_assoc}
 use Rattle.std.proofs.lemmas.List.{drop-drop}
 use Rattle.std.proofs.lemmas.Option.{slice_get_within}
 use Rattle.std.proofs.Math.Seq.{drop-append_seam, take-append_seam}
 use Rattle.std.specs.List.{slice_get}
 use Rattle.std.proofs.Math.Logic.{∥∥₁_elim, ∥∥₁_prop}
 use Rattle.std.specs.Coded.{Coded-set, coded_bool, le_prop}
-use Rattle.json_span.specs.Tree.{Tree, a_null, a_boolean, a_number, a_string, an_array, an_object, Placed, placed, Elements, no_elements, element, Members, no_members, member, Entry, start_of, end_of, tree_of, elements_in, entries_in, is_null, boolean_in, number_in, string_in, array_in, object_in}
+use Rattle.json_span.specs.Tree.{a_number, an_array, an_object, Placed, placed, Elements, no_elements, an_element, Members, no_members, a_member, Entry, start_of, end_of, tree_of, elements_in, entries_in, number_in, array_in, object_in}
 use Rattle.json_span.specs.Types.{type_of, type_of_byte}
-use Rattle.json_span.specs.Table.{size, sizes, size_inside, member_sizes, span, spans, spans_inside, spans_of, member_spans, truth_byte, IsNumber, IsString, Fits, AllFit, MembersFit, Lies, AllLie, MembersLie, MemberLies, AllStanding, MembersStanding}
+use Rattle.json_span.specs.Table.{size, sizes, size_inside, member_sizes, span, spans, spans_inside, spans_of, member_spans, IsNumberSlice, IsString, Fits, AllFit, MembersFit, Lies, AllLie, MembersLie, MemberLies, AllStanding, MembersStanding}
 use Rattle.json_span.specs.declared.table.Span.{Span}
 use Rattle.json_span.specs.declared.value_type.ValueType.{ValueType}
-use Rattle.json_span.specs.declared.value_type.ValueType.TheVariants.{Null, Boolean, Number, String, Array, Object}
+use Rattle.json_span.specs.declared.value_type.ValueType.TheVariants.{Number, Array, Object}
 use Rattle.grammar.specs.Grammar.{within}
 use Rattle.grammar.specs.Predict.{begins}
-use Rattle.json_span.specs.Characters.{Content}
-use Rattle.json_span.specs.Escapes.{HasContent}
+use Rattle.json_span.specs.Characters.{CharactersAt}
+use Rattle.json_span.specs.inner.Escapes.{HasCharacters}
 use Rattle.json_span.specs.Reading.{StringAt}
-use Rattle.json_span.specs.Once.{front_of, coded_text, string_at_one}
+use Rattle.json_span.specs.inner.Once.{front_of, coded_text, string_at_one}
 use Rattle.json_span.proofs.Spans.{length-spans, length-spans_of, length-member_spans}
 
 pub got : {A : Type 0} (l : List A) (i : ℕ) (x : A) (r : List A) → drop i l ≡ x ∷ r → slice_get l i ≡ Some x
@@ -65,45 +65,16 @@ members_stand text table a z i (placed (an_object ms) start end) p e =
     ((ms, (q.0, omega arith, q.2)), refl)
 members_stand text table a z i (placed v start end) p e = cc
 
--- what a value of another type is not
-pub no_array : (v : Tree) → (type_of v ≡ Array → ⊥) → None ≡ array_in v
-no_array (an_array ns) h = absurd (h refl)
-no_array v h = refl
-
-pub no_object : (v : Tree) → (type_of v ≡ Object → ⊥) → None ≡ object_in v
-no_object (an_object ms) h = absurd (h refl)
-no_object v h = refl
-
-pub no_boolean : (v : Tree) → (type_of v ≡ Boolean → ⊥) → None ≡ boolean_in v
-no_boolean (a_boolean b) h = absurd (h refl)
-no_boolean v h = refl
-
-pub no_number : (v : Tree) → (type_of v ≡ Number → ⊥) → None ≡ number_in v
-no_number (a_number k) h = absurd (h refl)
-no_number v h = refl
-
-pub no_text : (v : Tree) → (type_of v ≡ String → ⊥) → None ≡ string_in v
-no_text (a_string s) h = absurd (h refl)
-no_text v h = refl
-
-pub null_told : (v : Tree) → type_of v ≡ Null → is_null v ≡ true
-null_told a_null e = refl
-null_told v e = cc
-
-pub no_null : (v : Tree) → (type_of v ≡ Null → ⊥) → is_null v ≡ false
-no_null a_null h = absurd (h refl)
-no_null v h = refl
-
 -- the first of some that stand, where there is one
 pub none_left : (text : List ℕ) (table : List Span) (i stop : ℕ) (ns : Elements) → AllLie text table i stop ns → stop ≤ i → ns ≡ no_elements
 none_left text table i stop no_elements p h = refl
-none_left text table i stop (element (placed v start end) ns) p h = absurd (omega (arith, p.1, h))
+none_left text table i stop (an_element (placed v start end) ns) p h = absurd (omega (arith, p.1, h))
 
-pub one_left : (text : List ℕ) (table : List Span) (i stop : ℕ) (ns : Elements) → AllLie text table i stop ns → i < stop → (n : Placed) × (ms : Elements) × Lies text table 0 0 i n × AllLie text table (i + size n) stop ms × (ns ≡ element n ms)
+pub one_left : (text : List ℕ) (table : List Span) (i stop : ℕ) (ns : Elements) → AllLie text table i stop ns → i < stop → (n : Placed) × (ms : Elements) × Lies text table 0 0 i n × AllLie text table (i + size n) stop ms × (ns ≡ an_element n ms)
 one_left text table i stop no_elements p h = absurd (omega (arith, p.1, h))
-one_left text table i stop (element n ms) p h =
-    let rest = drop (sizes (element n ms)) (drop i table) in
-    let whole : drop i table ≡ spans 0 0 i n ++ (spans_of (i + size n) ms ++ rest) = front_of (sizes (element n ms)) (drop i table) (spans_of i (element n ms)) p.0 ∙ append_assoc (spans 0 0 i n) (spans_of (i + size n) ms) rest in
+one_left text table i stop (an_element n ms) p h =
+    let rest = drop (sizes (an_element n ms)) (drop i table) in
+    let whole : drop i table ≡ spans 0 0 i n ++ (spans_of (i + size n) ms ++ rest) = front_of (sizes (an_element n ms)) (drop i table) (spans_of i (an_element n ms)) p.0 ∙ append_assoc (spans 0 0 i n) (spans_of (i + size n) ms) rest in
     let q = list_from text table (i + size n) ms rest (behind table i (size n) (spans 0 0 i n) (spans_of (i + size n) ms ++ rest) (length-spans 0 0 i n) whole) p.2.1 in
     (n, ms, value_from text table 0 0 i n (spans_of (i + size n) ms ++ rest) whole p.2.0, (q.0, omega (arith, p.1), q.2), refl)
 
@@ -113,22 +84,22 @@ places (placed v start end) = omega arith
 
 pub no_more_elements : (ns : Elements) → length (elements_in ns) ≤ sizes ns
 no_more_elements no_elements = omega arith
-no_more_elements (element n ns) = let h = no_more_elements ns in let k = places n in omega (arith, h, k)
+no_more_elements (an_element n ns) = let h = no_more_elements ns in let k = places n in omega (arith, h, k)
 
 pub no_more_members : (ms : Members) → length (entries_in ms) ≤ member_sizes ms
 no_more_members no_members = omega arith
-no_more_members (member s a z n ms) = let h = no_more_members ms in let k = places n in omega (arith, h, k)
+no_more_members (a_member s a z n ms) = let h = no_more_members ms in let k = places n in omega (arith, h, k)
 
 pub no_member_left : (text : List ℕ) (table : List Span) (i stop : ℕ) (ms : Members) → MembersLie text table i stop ms → stop ≤ i → ms ≡ no_members
 no_member_left text table i stop no_members p h = refl
-no_member_left text table i stop (member s a z (placed v start end) ns) p h = absurd (omega (arith, p.1, h))
+no_member_left text table i stop (a_member s a z (placed v start end) ns) p h = absurd (omega (arith, p.1, h))
 
 pub member_left : (text : List ℕ) (table : List Span) (i stop : ℕ) (ms : Members) → MembersLie text table i stop ms → i < stop →
-    (e : Entry) × (ns : Members) × MemberLies text table i e × MembersLie text table (i + size e.value) stop ns × (ms ≡ member e.name e.start e.end e.value ns)
+    (e : Entry) × (ns : Members) × MemberLies text table i e × MembersLie text table (i + size e.value) stop ns × (ms ≡ a_member e.name e.start e.end e.value ns)
 member_left text table i stop no_members p h = absurd (omega (arith, p.1, h))
-member_left text table i stop (member s a z n ms) p h =
-    let rest = drop (member_sizes (member s a z n ms)) (drop i table) in
-    let whole : drop i table ≡ spans a z i n ++ (member_spans (i + size n) ms ++ rest) = front_of (member_sizes (member s a z n ms)) (drop i table) (member_spans i (member s a z n ms)) p.0 ∙ append_assoc (spans a z i n) (member_spans (i + size n) ms) rest in
+member_left text table i stop (a_member s a z n ms) p h =
+    let rest = drop (member_sizes (a_member s a z n ms)) (drop i table) in
+    let whole : drop i table ≡ spans a z i n ++ (member_spans (i + size n) ms ++ rest) = front_of (member_sizes (a_member s a z n ms)) (drop i table) (member_spans i (a_member s a z n ms)) p.0 ∙ append_assoc (spans a z i n) (member_spans (i + size n) ms) rest in
     let q = object_from text table (i + size n) ms rest (behind table i (size n) (spans a z i n) (member_spans (i + size n) ms ++ rest) (length-spans a z i n) whole) p.2.2 in
     (record { name = s; start = a; end = z; value = n }, ms, (p.2.0, value_from text table a z i n (member_spans (i + size n) ms ++ rest) whole p.2.1), (q.0, omega (arith, p.1), q.2), refl)
 
@@ -146,30 +117,16 @@ some_is e = cc
 pub type_told : (text : List ℕ) (t : Placed) (b : ℕ) → Fits text t → slice_get text (start_of t) ≡ Some b → type_of_byte b ≡ type_of (tree_of t)
 type_told text (placed v start end) b f e = some_is (sym (ap (option_map type_of_byte) e) ∙ f.0)
 
-is_truth : (b : Bool) → (truth_byte b == 116) ≡ b
-is_truth true = refl
-is_truth false = refl
-
-pub truth_told : (text : List ℕ) (t : Placed) (b : ℕ) → Fits text t → slice_get text (start_of t) ≡ Some b → type_of (tree_of t) ≡ Boolean → Some (b == 116) ≡ boolean_in (tree_of t)
-truth_told text (placed (a_boolean truth) start end) b f e k =
-    let same : b ≡ truth_byte truth = some_is (sym e ∙ f.1) in
-    ap Some (ap (λ z. z == 116) same ∙ is_truth truth)
-truth_told text (placed v start end) b f e k = cc
-
 -- the spelling of a number, the characters of a string
-pub number_told : (text : List ℕ) (t : Placed) → Fits text t → type_of (tree_of t) ≡ Number → (k : List ℕ) × IsNumber text (start_of t) (end_of t) k × (Some k ≡ number_in (tree_of t))
+pub number_told : (text : List ℕ) (t : Placed) → Fits text t → type_of (tree_of t) ≡ Number → (k : List ℕ) × IsNumberSlice text (start_of t) (end_of t) k × (Some k ≡ number_in (tree_of t))
 number_told text (placed (a_number k) start end) f e = (k, f.1, refl)
 number_told text (placed v start end) f e = cc
 
-pub text_told : (text : List ℕ) (t : Placed) → Fits text t → type_of (tree_of t) ≡ String → (s : List ℕ) × IsString text (start_of t) s (end_of t) × (Some s ≡ string_in (tree_of t))
-text_told text (placed (a_string s) start end) f e = (s, f.1, refl)
-text_told text (placed v start end) f e = cc
-
 -- a string at a place: its quote, and its characters
-pub content_at : (text s : List ℕ) (a z : ℕ) → StringAt (drop a text) s (drop z text) → Content (drop (a + 1) text) s (drop z text)
-content_at text s a z x = subst (λ t. Content t s (drop z text)) (sym (behind text a 1 (34 ∷ []) x.inner refl x.quoted)) x.content
+pub content_at : (text s : List ℕ) (a z : ℕ) → StringAt (drop a text) s (drop z text) → CharactersAt (drop (a + 1) text) s (drop z text)
+content_at text s a z x = subst (λ t. CharactersAt t s (drop z text)) (sym (behind text a 1 (34 ∷ []) x.inner refl x.quoted)) x.content
 
-pub has_content : (text s : List ℕ) (a z : ℕ) → IsString text a s z → HasContent (drop (a + 1) text)
+pub has_content : (text s : List ℕ) (a z : ℕ) → IsString text a s z → HasCharacters (drop (a + 1) text)
 has_content text s a z p = ∥∥₁_elim p ∥∥₁_prop (λ x. ∣ (s, drop z text, content_at text s a z x) ∣₁)
 
 pub quote_seen : (text s : List ℕ) (a z : ℕ) → IsString text a s z → begins (within 34 34) (drop a text) ≡ true
@@ -177,9 +134,6 @@ quote_seen text s a z p = ∥∥₁_elim p (Coded-set coded_bool (begins (within
 
 pub name_inside : (text s : List ℕ) (a z : ℕ) → IsString text a s z → a < length text
 name_inside text s a z p = ∥∥₁_elim p le_prop (λ x. slice_get_within text a 34 (got text a 34 x.inner x.quoted))
-
-pub name_within : (text s : List ℕ) (a z : ℕ) → IsString text a s z → a ≤ length text
-name_within text s a z p = ∥∥₁_elim p le_prop (λ x. let h = slice_get_within text a 34 (got text a 34 x.inner x.quoted) in omega (arith, h))
 
 pub name_read : (text s r : List ℕ) (a z end : ℕ) → IsString text a s z → StringAt (drop a text) r (drop end text) → s ≡ r
 name_read text s r a z end p q = ∥∥₁_elim p (Coded-set coded_text s r) (λ x. string_at_one (drop a text) s (drop z text) r (drop end text) x q)

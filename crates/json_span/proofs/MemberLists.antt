@@ -4,27 +4,27 @@ use Rattle.grammar.specs.Grammar.{seq, Reads}
 use Rattle.grammar.specs.Predict.{Steers, on_both}
 use Rattle.grammar.proofs.Predicts.{reads}
 use Rattle.json_span.specs.Grammar.{ws, one}
-use Rattle.json_span.specs.Steered.{curly, rules, ahead, token}
-use Rattle.json_span.specs.Tree.{Placed, Members, no_members, member, Entry, members_of}
-use Rattle.json_span.specs.Reading.{StringAt, BeginsAt, Value, MemberAt, member_at, MembersAt, first_member, last_member, next_member}
+use Rattle.json_span.specs.Steered.{curly, rules, ahead, symbol}
+use Rattle.json_span.specs.Tree.{Placed, Members, no_members, a_member, Entry, members_of}
+use Rattle.json_span.specs.Reading.{StringAt, BeginsAt, ValueAt, MemberAt, member_at, MembersAt, first_member, last_member, next_member}
 use Rattle.json_span.specs.Flaw.{Flaw, equal_names, or_else, flaw_in, flaw_in_members, is_seen}
-use Rattle.json_span.specs.Scan.{Reaches}
-use Rattle.json_span.specs.Building.{IsComma, IsClose}
-use Rattle.json_span.specs.ListsLeft.{then_members, MembersLeft}
-use Rattle.json_span.specs.Names.{names_flaw, names_of}
+use Rattle.json_span.specs.inner.Scan.{ReadsTo}
+use Rattle.json_span.specs.inner.Building.{IsComma, IsClose}
+use Rattle.json_span.specs.inner.ListsLeft.{then_members, MembersLeft}
+use Rattle.json_span.specs.inner.Names.{names_flaw, reversed_names}
 use Rattle.json_span.proofs.Naming.{names-push, flaw_push}
 use Rattle.json_span.proofs.Steered.{honest_json}
 use Rattle.json_span.proofs.Scans as scan
 use Rattle.json_span.proofs.Skips as skip
 use Rattle.json_span.proofs.Lists.{read_of, or_after}
 
-pub then-push : (es : List Entry) (e : Entry) (ms : Members) → then_members (es ++ e ∷ []) ms ≡ then_members es (member e.name e.start e.end e.value ms)
+pub then-push : (es : List Entry) (e : Entry) (ms : Members) → then_members (es ++ e ∷ []) ms ≡ then_members es (a_member e.name e.start e.end e.value ms)
 then-push [] e ms = refl
-then-push (f ∷ es) e ms = ap (member f.name f.start f.end f.value) (then-push es e ms)
+then-push (f ∷ es) e ms = ap (a_member f.name f.start f.end f.value) (then-push es e ms)
 
 pub then-none : (es : List Entry) → then_members es no_members ≡ members_of es
 then-none [] = refl
-then-none (e ∷ es) = ap (member e.name e.start e.end e.value) (then-none es)
+then-none (e ∷ es) = ap (a_member e.name e.start e.end e.value) (then-none es)
 
 pub members_start : (text : List ℕ) (room inner : ℕ) → MembersLeft text room inner inner []
 members_start text room inner = record { whole = λ s start end n m w u ms x b more. first_member x b more; flawless = λ ms. refl }
@@ -32,12 +32,12 @@ members_start text room inner = record { whole = λ s start end n m w u ms x b m
 begins_at : (text : List ℕ) (at : ℕ) → at ≤ length text → BeginsAt (length text) (drop at text) at
 begins_at text at h = omega (arith, length-drop at text)
 
-colon_reads : {t u : List ℕ} → Steers rules ahead (seq ws (token 58)) t u → (m : List ℕ) × Reads rules ws t m × Reads rules (token 58) m u
+colon_reads : {t u : List ℕ} → Steers rules ahead (seq ws (symbol 58)) t u → (m : List ℕ) × Reads rules ws t m × Reads rules (symbol 58) m u
 colon_reads (on_both {u = m} x y) = (m, reads rules ahead honest_json x, reads rules ahead honest_json y)
 
 -- a name, a colon and a value
-pub member_of : (text s : List ℕ) (next name_end value_start end : ℕ) (n : Placed) → next ≤ length text → name_end ≤ length text → StringAt (drop next text) s (drop name_end text) → Reaches (seq ws (token 58)) text name_end value_start →
-    Value (length text) (drop value_start text) n (drop end text) → MemberAt (length text) (drop next text) s next name_end n (drop end text)
+pub member_of : (text s : List ℕ) (next name_end value_start end : ℕ) (n : Placed) → next ≤ length text → name_end ≤ length text → StringAt (drop next text) s (drop name_end text) → ReadsTo (seq ws (symbol 58)) text name_end value_start →
+    ValueAt (length text) (drop value_start text) n (drop end text) → MemberAt (length text) (drop next text) s next name_end n (drop end text)
 member_of text s next name_end value_start end n h h2 k c v = let (m, x, y) = colon_reads c.steers in member_at k (begins_at text next h) (begins_at text name_end h2) x y v
 
 -- the flaws of a member whose value has none
@@ -62,42 +62,44 @@ cond_flaw true x y f g e = refl
 cond_flaw false x y f g e = or_some f g y e
 
 module _ (text : List ℕ) (room inner next : ℕ) (es : List Entry) (left : MembersLeft text room inner next es) where
-  pub members_next : (s : List ℕ) (start name_end : ℕ) (n : Placed) (end item : ℕ) → MemberAt (length text) (drop next text) s start name_end n (drop end text) → flaw_in room n ≡ None → IsComma text end item →
-      MembersLeft text room inner item (es ++ record { name = s; start = start; end = name_end; value = n } ∷ [])
-  members_next s start name_end n end item v none c =
-      let e : Entry = record { name = s; start = start; end = name_end; value = n } in
-      let x = skip.token_at text 44 c.comma item (scan.reach_one text (one 44) c.comma tt refl c.bound c.sees) c.behind in
-      record {
-        whole = λ s2 a2 z2 n2 m w u ms v2 b more. subst (λ z. MembersAt (length text) (drop inner text) z u) (sym (then-push es e (member s2 a2 z2 n2 ms)))
-            (left.whole s start name_end n (drop end text) (drop c.comma text) u (member s2 a2 z2 n2 ms) v (read_of text ws end c.comma c.before) (next_member (read_of text (token 44) c.comma item x) v2 b more));
-        flawless = λ ms. ap (flaw_in_members room []) (then-push es e ms) ∙ left.flawless (member s start name_end n ms)
-            ∙ ap (or_else (names_flaw [] es)) (cond_value (is_seen (names_of es []) s) (equal_names start name_end) (flaw_in room n) (flaw_in_members room (s ∷ names_of es []) ms) none)
-            ∙ or_assoc (names_flaw [] es) (cond (is_seen (names_of es []) s) (Some (equal_names start name_end)) None) (flaw_in_members room (s ∷ names_of es []) ms)
-            ∙ λ k. or_else (sym (flaw_push [] es e) k) (flaw_in_members room (sym (names-push es e []) k) ms);
-      }
+  module _ (s : List ℕ) (start name_end : ℕ) (n : Placed) where
+    abbrev e : Entry
+    e = record { name = s; start = start; end = name_end; value = n }
 
-  pub members_close : (s : List ℕ) (start name_end : ℕ) (n : Placed) (end close : ℕ) → MemberAt (length text) (drop next text) s start name_end n (drop end text) → IsClose curly text end close →
-      MembersAt (length text) (drop inner text) (members_of (es ++ record { name = s; start = start; end = name_end; value = n } ∷ [])) (drop close text)
-  members_close s start name_end n end close v c =
-      let e : Entry = record { name = s; start = start; end = name_end; value = n } in
-      subst (λ z. MembersAt (length text) (drop inner text) z (drop close text)) (sym (then-push es e no_members) ∙ then-none (es ++ e ∷ []))
-      (left.whole s start name_end n (drop end text) (drop c.close text) (drop close text) no_members v (read_of text ws end c.close c.before) (last_member (read_of text (one 125) c.close close c.closes)))
+    -- whether it is a second name
+    abbrev own : Option Flaw
+    own = cond (is_seen (reversed_names es []) s) (Some (equal_names start name_end)) None
 
-  -- the first flaw of all members, where the last one's value has none
-  pub members_flaw : (s : List ℕ) (start name_end : ℕ) (n : Placed) → flaw_in room n ≡ None → flaw_in_members room [] (members_of (es ++ record { name = s; start = start; end = name_end; value = n } ∷ [])) ≡ names_flaw [] (es ++ record { name = s; start = start; end = name_end; value = n } ∷ [])
-  members_flaw s start name_end n none =
-      let e : Entry = record { name = s; start = start; end = name_end; value = n } in
-      let own = cond (is_seen (names_of es []) s) (Some (equal_names start name_end)) None in
-      ap (flaw_in_members room []) (sym (then-none (es ++ e ∷ [])) ∙ then-push es e no_members) ∙ left.flawless (member s start name_end n no_members)
-      ∙ ap (or_else (names_flaw [] es)) (cond_value (is_seen (names_of es []) s) (equal_names start name_end) (flaw_in room n) None none)
-      ∙ or_assoc (names_flaw [] es) own None ∙ or_none (or_else (names_flaw [] es) own) ∙ sym (flaw_push [] es e)
+    pub members_next : (end item : ℕ) → MemberAt (length text) (drop next text) s start name_end n (drop end text) → flaw_in room n ≡ None → IsComma text end item →
+        MembersLeft text room inner item (es ++ e ∷ [])
+    members_next end item v none c =
+        let x = skip.token_at text 44 c.comma item (scan.reach_one text (one 44) c.comma tt refl c.bound c.sees) c.behind in
+        record {
+          whole = λ s2 a2 z2 n2 m w u ms v2 b more. subst (λ z. MembersAt (length text) (drop inner text) z u) (sym (then-push es e (a_member s2 a2 z2 n2 ms)))
+              (left.whole s start name_end n (drop end text) (drop c.comma text) u (a_member s2 a2 z2 n2 ms) v (read_of text ws end c.comma c.before) (next_member (read_of text (symbol 44) c.comma item x) v2 b more));
+          flawless = λ ms. ap (flaw_in_members room []) (then-push es e ms) ∙ left.flawless (a_member s start name_end n ms)
+              ∙ ap (or_else (names_flaw [] es)) (cond_value (is_seen (reversed_names es []) s) (equal_names start name_end) (flaw_in room n) (flaw_in_members room (s ∷ reversed_names es []) ms) none)
+              ∙ or_assoc (names_flaw [] es) own (flaw_in_members room (s ∷ reversed_names es []) ms)
+              ∙ λ k. or_else (sym (flaw_push [] es e) k) (flaw_in_members room (sym (names-push es e []) k) ms);
+        }
 
-  -- where its value has one
-  pub members_flawed : (s : List ℕ) (start name_end : ℕ) (n : Placed) (ms : Members) (f : Flaw) → flaw_in room n ≡ Some f →
-      flaw_in_members room [] (then_members es (member s start name_end n ms)) ≡ or_else (names_flaw [] (es ++ record { name = s; start = start; end = name_end; value = n } ∷ [])) (Some f)
-  members_flawed s start name_end n ms f some =
-      let e : Entry = record { name = s; start = start; end = name_end; value = n } in
-      let own = cond (is_seen (names_of es []) s) (Some (equal_names start name_end)) None in
-      left.flawless (member s start name_end n ms)
-      ∙ ap (or_else (names_flaw [] es)) (cond_flaw (is_seen (names_of es []) s) (equal_names start name_end) f (flaw_in room n) (flaw_in_members room (s ∷ names_of es []) ms) some)
-      ∙ or_assoc (names_flaw [] es) own (Some f) ∙ ap (λ z. or_else z (Some f)) (sym (flaw_push [] es e))
+    pub members_close : (end close : ℕ) → MemberAt (length text) (drop next text) s start name_end n (drop end text) → IsClose curly text end close →
+        MembersAt (length text) (drop inner text) (members_of (es ++ e ∷ [])) (drop close text)
+    members_close end close v c =
+        subst (λ z. MembersAt (length text) (drop inner text) z (drop close text)) (sym (then-push es e no_members) ∙ then-none (es ++ e ∷ []))
+        (left.whole s start name_end n (drop end text) (drop c.close text) (drop close text) no_members v (read_of text ws end c.close c.before) (last_member (read_of text (one 125) c.close close c.closes)))
+
+    -- the first flaw of all members, where the last one's value has none
+    pub members_flaw : flaw_in room n ≡ None → flaw_in_members room [] (members_of (es ++ e ∷ [])) ≡ names_flaw [] (es ++ e ∷ [])
+    members_flaw none =
+        ap (flaw_in_members room []) (sym (then-none (es ++ e ∷ [])) ∙ then-push es e no_members) ∙ left.flawless (a_member s start name_end n no_members)
+        ∙ ap (or_else (names_flaw [] es)) (cond_value (is_seen (reversed_names es []) s) (equal_names start name_end) (flaw_in room n) None none)
+        ∙ or_assoc (names_flaw [] es) own None ∙ or_none (or_else (names_flaw [] es) own) ∙ sym (flaw_push [] es e)
+
+    -- where its value has one
+    pub members_flawed : (ms : Members) (f : Flaw) → flaw_in room n ≡ Some f →
+        flaw_in_members room [] (then_members es (a_member s start name_end n ms)) ≡ or_else (names_flaw [] (es ++ e ∷ [])) (Some f)
+    members_flawed ms f some =
+        left.flawless (a_member s start name_end n ms)
+        ∙ ap (or_else (names_flaw [] es)) (cond_flaw (is_seen (reversed_names es []) s) (equal_names start name_end) f (flaw_in room n) (flaw_in_members room (s ∷ reversed_names es []) ms) some)
+        ∙ or_assoc (names_flaw [] es) own (Some f) ∙ ap (λ z. or_else z (Some f)) (sym (flaw_push [] es e))

@@ -19,7 +19,7 @@ use Rattle.tk_io.specs.Order.{text_cmp}
 use Rattle.tk_io.proofs.TextMaps.{text_cmp-IsAntisymmetric}
 use Rattle.json_span.specs.Tree.{Entry, placed, a_null}
 use Rattle.json_span.specs.Flaw.{equal_names, is_seen}
-use Rattle.json_span.specs.Names.{AreNames, names_flaw, names_of}
+use Rattle.json_span.specs.inner.Names.{AreNamesOf, names_flaw, reversed_names}
 use Rattle.json_span.specs.inner.NameOrder.{named_at, placed_from, is_below, AreSorted, least, again_in}
 use Rattle.json_span.specs.declared.names.NameSpan.{NameSpan}
 use Rattle.json_span.specs.declared.names.PlacedName.{PlacedName}
@@ -262,7 +262,7 @@ seen_here g es i x names (inl h) = elim (or_either (bytes_eq g.name x) (is_seen 
 ]
 seen_here g es i x names (inr s) = inr (record { at = suc s.at; entry = s.entry; there = s.there; before = omega (arith, s.before); same = s.same })
 
-seen_back : (es : List Entry) (i : ℕ) (names : List (List ℕ)) (x : List ℕ) → is_seen (names_of (take i es) names) x ≡ true → (is_seen names x ≡ true) ⊎ Seen es i x
+seen_back : (es : List Entry) (i : ℕ) (names : List (List ℕ)) (x : List ℕ) → is_seen (reversed_names (take i es) names) x ≡ true → (is_seen names x ≡ true) ⊎ Seen es i x
 seen_back [] zero names x h = inl h
 seen_back [] (suc i) names x h = inl h
 seen_back (g ∷ es) zero names x h = inl h
@@ -271,12 +271,12 @@ seen_back (g ∷ es) (suc i) names x h = seen_here g es i x names (seen_back es 
 no_name_yet : (x : List ℕ) → is_seen [] x ≡ true → ⊥
 no_name_yet x e = cc
 
-seen_from : (es : List Entry) (i : ℕ) (x : List ℕ) → is_seen (names_of (take i es) []) x ≡ true → Seen es i x
+seen_from : (es : List Entry) (i : ℕ) (x : List ℕ) → is_seen (reversed_names (take i es) []) x ≡ true → Seen es i x
 seen_from es i x h = elim (seen_back es i [] x h) as (λ _. Seen es i x) [ inl k ↦ absurd (no_name_yet x k) | inr s ↦ s ]
 
 -- each name up to a place is a first one
 abbrev AllNew : List Entry → ℕ → Type 0
-AllNew es i = (j : ℕ) (f : Entry) → slice_get es j ≡ Some f → j < i → is_seen (names_of (take j es) []) f.name ≡ true → ⊥
+AllNew es i = (j : ℕ) (f : Entry) → slice_get es j ≡ Some f → j < i → is_seen (reversed_names (take j es) []) f.name ≡ true → ⊥
 
 is_false : (b : Bool) → (b ≡ true → ⊥) → b ≡ false
 is_false true f = absurd (f refl)
@@ -285,20 +285,20 @@ is_false false f = refl
 no_entry : Entry
 no_entry = record { name = []; start = 0; end = 0; value = placed a_null 0 0 }
 
-still_to_come : (es : List Entry) (i : ℕ) → i ≤ length es → AllNew es i → names_flaw [] es ≡ names_flaw (names_of (take i es) []) (drop i es)
+still_to_come : (es : List Entry) (i : ℕ) → i ≤ length es → AllNew es i → names_flaw [] es ≡ names_flaw (reversed_names (take i es) []) (drop i es)
 still_to_come es zero le new = refl
 still_to_come es (suc i) le new =
     let e = get_or es i no_entry in
     let h = slice_get-get_or es i no_entry (omega (arith, le)) in
     let so_far = still_to_come es i (omega (arith, le)) (λ j f k lt s. new j f k (omega (arith, lt)) s) in
-    subst (λ k. names_flaw [] es ≡ names_flaw (names_of (take k es) []) (drop k es)) (add-one i) (flaw_later es i e h (is_false _ (new i e h (omega arith))) so_far)
+    subst (λ k. names_flaw [] es ≡ names_flaw (reversed_names (take k es) []) (drop k es)) (add-one i) (flaw_later es i e h (is_false _ (new i e h (omega arith))) so_far)
 
 all_new_none : (es : List Entry) → AllNew es (length es) → names_flaw [] es ≡ None
-all_new_none es new = still_to_come es (length es) (omega arith) new ∙ ap (names_flaw (names_of (take (length es) es) [])) (drop_all (length es) es (omega arith))
+all_new_none es new = still_to_come es (length es) (omega arith) new ∙ ap (names_flaw (reversed_names (take (length es) es) [])) (drop_all (length es) es (omega arith))
 
 module _ (es : List Entry) (ys : List PlacedName) (s : AreSorted es ys) where
   -- a second name has an equal one directly before it
-  second_again : (j : ℕ) (f : Entry) → slice_get es j ≡ Some f → is_seen (names_of (take j es) []) f.name ≡ true → (p : ℕ) × (again_in ys ≡ Some p) × (p ≤ j)
+  second_again : (j : ℕ) (f : Entry) → slice_get es j ≡ Some f → is_seen (reversed_names (take j es) []) f.name ≡ true → (p : ℕ) × (again_in ys ≡ Some p) × (p ≤ j)
   second_again j f h k =
       let w = seen_from es j f.name k in
       let both = follows_placed es 0 w.at j w.at j w.entry f w.there h w.before (omega arith) (omega arith) in
@@ -325,10 +325,10 @@ module _ (es : List Entry) (ys : List PlacedName) (s : AreSorted es ys) where
       record { entry = both.two.entry; there = there; flaw = sym (flaw_here es p both.two.entry there seen (still_to_come es p (omega (arith, slice_get_within es p both.two.entry there)) new)) }
 
 -- the name at that place
-pub again_within : (text : List ℕ) (ns : List NameSpan) (es : List Entry) (ys : List PlacedName) (p : ℕ) → AreNames text ns es → AreSorted es ys → again_in ys ≡ Some p → p < length ns
+pub again_within : (text : List ℕ) (ns : List NameSpan) (es : List Entry) (ys : List PlacedName) (p : ℕ) → AreNamesOf text ns es → AreSorted es ys → again_in ys ≡ Some p → p < length ns
 again_within text ns es ys p are s e = let f = again_some es ys s p e in omega (arith, slice_get_within es p f.entry f.there, are_many text ns es are)
 
-pub again_told : (text : List ℕ) (ns : List NameSpan) (es : List Entry) (ys : List PlacedName) (p : ℕ) → AreNames text ns es → AreSorted es ys → again_in ys ≡ Some p →
+pub again_told : (text : List ℕ) (ns : List NameSpan) (es : List Entry) (ys : List PlacedName) (p : ℕ) → AreNamesOf text ns es → AreSorted es ys → again_in ys ≡ Some p →
     Some (equal_names (get_or ns p no_name).start (get_or ns p no_name).end) ≡ names_flaw [] es
 again_told text ns es ys p are s e =
     let f = again_some es ys s p e in
@@ -347,7 +347,7 @@ pub taken_in : (es : List Entry) (i : ℕ) (e : Entry) (name : List ℕ) (old ne
 taken_in es i e name old new h same so_far is =
     is ∙ ap (λ l. l ++ record { name = name; place = i } ∷ []) so_far ∙ ap (λ t. placed_from 0 (take i es) ++ record { name = t; place = i } ∷ []) same ∙ sym (placed_more es 0 i i e h (omega arith)) ∙ ap (λ k. placed_from 0 (take k es)) (sym (add-one i))
 
-pub all_taken : (text : List ℕ) (ns : List NameSpan) (es : List Entry) (i : ℕ) (old : List PlacedName) → AreNames text ns es → length ns ≤ i → old ≡ placed_from 0 (take i es) → old ≡ placed_from 0 es
+pub all_taken : (text : List ℕ) (ns : List NameSpan) (es : List Entry) (i : ℕ) (old : List PlacedName) → AreNamesOf text ns es → length ns ≤ i → old ≡ placed_from 0 (take i es) → old ≡ placed_from 0 es
 all_taken text ns es i old are le is = let many : length es ≤ i = omega (arith, le, are_many text ns es are) in is ∙ ap (placed_from 0) (take_all i es many)
 
 -- a sort by names

@@ -6,7 +6,7 @@ use Rattle.json_span.specs.Grammar.{grammar, json_text}
 use Rattle.json_span.specs.Tree.{Placed}
 use Rattle.json_span.specs.Reading.{Shows}
 use Rattle.json_span.specs.Flaw.{Flaw, first_flaw}
-use Rattle.json_span.specs.Answer.{Answer, shows, flawed, stops, IsAnswer, IsRefusal, Answers}
+use Rattle.json_span.specs.Answer.{Answer, shows, flawed, stops, IsAnswer, IsJsonFault, Answers}
 use Rattle.json_span.specs.View.{node_view}
 use Rattle.json_span.specs.declared.node.Node.{Node}
 use Rattle.json_span.specs.declared.reader.JsonFault.{JsonFault}
@@ -48,7 +48,7 @@ answer_is : {a b : Answer} → Some a ≡ Some b → a ≡ b
 answer_is e = cc
 
 -- what `read` answered, found or refused, is the text's answer
-pub is_answer : (text : List ℕ) (r : Result Node JsonFault) → IfOk r (λ n. IsAnswer text (shows (node_view n))) → IfErr r (λ e. IsRefusal text e) → Answers text r
+pub is_answer : (text : List ℕ) (r : Result Node JsonFault) → IfOk r (λ n. IsAnswer text (shows (node_view n))) → IfErr r (λ e. IsJsonFault text e) → Answers text r
 is_answer text (Ok n) found refused a e = subst (IsAnswer text) (answer_is e) found
 is_answer text (Err (Syntax at)) found refused a e = subst (IsAnswer text) (answer_is e) refused
 is_answer text (Err (Dup start end)) found refused a e = subst (IsAnswer text) (answer_is e) refused

@@ -6,7 +6,7 @@ use Rattle.grammar.proofs.Steps.{rounds}
 use Rattle.grammar.proofs.Fronts.{goes_on, is_front}
 use Rattle.grammar.proofs.Tables.{passes_from}
 use Rattle.json_span.specs.Grammar.{Name, value, number, string, grammar, json_text, ws, one, member, value_separator}
-use Rattle.json_span.specs.Steered.{Bracket, square, curly, rules, token, before_of, item_of, json}
+use Rattle.json_span.specs.Steered.{Bracket, square, curly, rules, symbol, before_of, list_item_of, json}
 use Rattle.json_span.proofs.Steered.{spelled, passes}
 
 -- the rule goes through no name
@@ -85,13 +85,13 @@ mutual
   value_to (by_name (right (right (right (right (right (right x))))))) = by_name (right (right (right (right (right (right (string_to x)))))))
 
   -- the blanks before a comma or a bracket
-  elements_to : {t u v : List ℕ} → Reads rules ws t u → Reads rules (many (seq (token 44) (item_of square))) u v → (w : List ℕ) × Reads grammar (many (seq value_separator (named value))) t w × Reads grammar ws w v
+  elements_to : {t u v : List ℕ} → Reads rules ws t u → Reads rules (many (seq (symbol 44) (list_item_of square))) u v → (w : List ℕ) × Reads grammar (many (seq value_separator (named value))) t w × Reads grammar ws w v
   elements_to {t = t} c no_more = (t, no_more, ws_to c)
   elements_to c (more (both (both x b) (both no_byte (both v d))) ms) =
       let (w, m, e) = elements_to d ms in
       (w, more (both (both (ws_to c) (both (one_to x) (ws_to b))) (value_to v)) m, e)
 
-  members_to : {t u v : List ℕ} → Reads rules ws t u → Reads rules (many (seq (token 44) (item_of curly))) u v → (w : List ℕ) × Reads grammar (many (seq value_separator member)) t w × Reads grammar ws w v
+  members_to : {t u v : List ℕ} → Reads rules ws t u → Reads rules (many (seq (symbol 44) (list_item_of curly))) u v → (w : List ℕ) × Reads grammar (many (seq value_separator member)) t w × Reads grammar ws w v
   members_to {t = t} c no_more = (t, no_more, ws_to c)
   members_to c (more (both (both x b) (both p (both v d))) ms) =
       let (w, m, e) = members_to d ms in
@@ -117,7 +117,7 @@ record MemberAround (t u : List ℕ) : Type 0 where
 record RestOf (b : Bracket) (s v : List ℕ) : Type 0 where
   pub comma : List ℕ
   pub lead : Reads rules ws s comma
-  pub items : Reads rules (many (seq (token 44) (item_of b))) comma v
+  pub items : Reads rules (many (seq (symbol 44) (list_item_of b))) comma v
 
 alone : {t u : List ℕ} → Reads rules (named value) t u → Around t u
 alone {t} {u} x = record { before = t; behind = u; lead = no_more; value_ = x; trail = no_more }

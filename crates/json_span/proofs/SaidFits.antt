@@ -5,10 +5,10 @@ use Rattle.grammar.specs.Grammar.{Rule, Reads, one_byte, both, by_name}
 use Rattle.grammar.proofs.Steps.{no_longer}
 use Rattle.json_span.specs.FitsIn.{FitsIn, ItemsFitIn, MembersFitIn}
 use Rattle.json_span.specs.Grammar.{Name, one}
-use Rattle.json_span.specs.Plain.{Plain, Plains, PlainMembers, plains_in, plain_entries_in}
+use Rattle.json_span.specs.Plain.{PlainValue, Plains, PlainMembers, plains_in, plain_entries_in}
 use Rattle.json_span.specs.Reading.{StringAt}
-use Rattle.json_span.specs.Says.{Says, says_null, says_false, says_true, says_number, says_string, says_list, says_object, SaysItems, no_item, items, MoreItems, no_more_item, more_items, SaysMember, says_member, SaysMembers, no_member, some_members, MoreMembers, no_more_member, more_members, SaysText}
-use Rattle.json_span.specs.Steered.{rules, token}
+use Rattle.json_span.specs.Says.{Says, says_null, says_false, says_true, says_number, says_string, says_list, says_object, SaysItems, says_no_item, says_items, SaysMoreItems, says_no_more_item, says_more_items, SaysMember, says_member, SaysMembers, says_no_member, says_members, SaysMoreMembers, says_no_more_member, says_more_members, SaysText}
+use Rattle.json_span.specs.Steered.{rules, symbol}
 use Rattle.json_span.proofs.Boundaries.{is_ascii, ascii_front}
 use Rattle.json_span.proofs.StringsAreUtf8.{behind_ascii, string_utf8}
 
@@ -26,7 +26,7 @@ past {u = u} x e utf = let (k, same, ascii) = ascii_front x e in (behind_front k
 past_string : {t s u : List ℕ} → StringAt t s u → IsUtf8 t → IsUtf8 s × Behind t u
 past_string x utf = let k = string_utf8 x utf in (k.0, (k.1, no_longer x.reads))
 
-past_token : {c : ℕ} {t u : List ℕ} → Reads rules (token c) t u → length u < length t
+past_token : {c : ℕ} {t u : List ℕ} → Reads rules (symbol c) t u → length u < length t
 past_token (both (one_byte h) w) = omega (arith, no_longer w)
 
 past_bracket : {c : ℕ} {t u : List ℕ} → Reads rules (one c) t u → length u < length t
@@ -34,7 +34,7 @@ past_bracket (one_byte h) = omega arith
 
 module _ {K : Type 0} (num : List ℕ → K) (n : ℕ) where
   mutual
-    says_fits : {t u : List ℕ} {v : Plain K} → Says num t v u → length t ≤ n → IsUtf8 t → FitsIn n v × Behind t u
+    says_fits : {t u : List ℕ} {v : PlainValue K} → Says num t v u → length t ≤ n → IsUtf8 t → FitsIn n v × Behind t u
     says_fits (says_null x) h utf = (tt, past x refl utf)
     says_fits (says_false x) h utf = (tt, past x refl utf)
     says_fits (says_true x) h utf = (tt, past x refl utf)
@@ -50,23 +50,23 @@ module _ {K : Type 0} (num : List ℕ → K) (n : ℕ) where
         ((omega (arith, a.1, b.0, h), b.1), (b.2.0, omega (arith, a.1, b.2.1)))
 
     items_fit : {t u : List ℕ} {vs : Plains K} → SaysItems num t vs u → length t ≤ n → IsUtf8 t → (length (plains_in vs) ≤ length t) × ItemsFitIn n vs × Behind t u
-    items_fit (no_item x) h utf = (omega arith, tt, past x refl utf)
-    items_fit (items x w y) h utf =
+    items_fit (says_no_item x) h utf = (omega arith, tt, past x refl utf)
+    items_fit (says_items x w y) h utf =
         let a = says_fits x h utf in
         let b = past w refl a.1.0 in
         let c = more_fit y (omega (arith, a.1.1, b.1, h)) b.0 in
         (omega (arith, a.1.1, b.1, c.0), (a.0, c.1), (c.2.0, omega (arith, a.1.1, b.1, c.2.1)))
 
-    more_fit : {t u : List ℕ} {vs : Plains K} → MoreItems num t vs u → length t ≤ n → IsUtf8 t → (length (plains_in vs) < length t) × ItemsFitIn n vs × Behind t u
-    more_fit (no_more_item x) h utf = (omega (arith, past_bracket x), tt, past x refl utf)
-    more_fit (more_items s x w y) h utf =
+    more_fit : {t u : List ℕ} {vs : Plains K} → SaysMoreItems num t vs u → length t ≤ n → IsUtf8 t → (length (plains_in vs) < length t) × ItemsFitIn n vs × Behind t u
+    more_fit (says_no_more_item x) h utf = (omega (arith, past_bracket x), tt, past x refl utf)
+    more_fit (says_more_items s x w y) h utf =
         let k = past_token s in
         let a = says_fits x (omega (arith, k, h)) (past s refl utf).0 in
         let b = past w refl a.1.0 in
         let c = more_fit y (omega (arith, k, a.1.1, b.1, h)) b.0 in
         (omega (arith, k, a.1.1, b.1, c.0), (a.0, c.1), (c.2.0, omega (arith, k, a.1.1, b.1, c.2.1)))
 
-    member_fits : {t u s : List ℕ} {v : Plain K} → SaysMember num t s v u → length t ≤ n → IsUtf8 t → IsUtf8 s × FitsIn n v × Behind t u
+    member_fits : {t u s : List ℕ} {v : PlainValue K} → SaysMember num t s v u → length t ≤ n → IsUtf8 t → IsUtf8 s × FitsIn n v × Behind t u
     member_fits (says_member x w s y) h utf =
         let a = past_string x utf in
         let b = past w refl a.1.0 in
@@ -75,21 +75,21 @@ module _ {K : Type 0} (num : List ℕ → K) (n : ℕ) where
         (a.0, d.0, (d.1.0, omega (arith, a.1.1, b.1, c.1, d.1.1)))
 
     members_fit : {t u : List ℕ} {ms : PlainMembers K} → SaysMembers num t ms u → length t ≤ n → IsUtf8 t → (length (plain_entries_in ms) ≤ length t) × MembersFitIn n ms × Behind t u
-    members_fit (no_member x) h utf = (omega arith, tt, past x refl utf)
-    members_fit (some_members x w y) h utf =
+    members_fit (says_no_member x) h utf = (omega arith, tt, past x refl utf)
+    members_fit (says_members x w y) h utf =
         let a = member_fits x h utf in
         let b = past w refl a.2.0 in
         let c = more_members_fit y (omega (arith, a.2.1, b.1, h)) b.0 in
         (omega (arith, a.2.1, b.1, c.0), (a.0, a.1, c.1), (c.2.0, omega (arith, a.2.1, b.1, c.2.1)))
 
-    more_members_fit : {t u : List ℕ} {ms : PlainMembers K} → MoreMembers num t ms u → length t ≤ n → IsUtf8 t → (length (plain_entries_in ms) < length t) × MembersFitIn n ms × Behind t u
-    more_members_fit (no_more_member x) h utf = (omega (arith, past_bracket x), tt, past x refl utf)
-    more_members_fit (more_members s x w y) h utf =
+    more_members_fit : {t u : List ℕ} {ms : PlainMembers K} → SaysMoreMembers num t ms u → length t ≤ n → IsUtf8 t → (length (plain_entries_in ms) < length t) × MembersFitIn n ms × Behind t u
+    more_members_fit (says_no_more_member x) h utf = (omega (arith, past_bracket x), tt, past x refl utf)
+    more_members_fit (says_more_members s x w y) h utf =
         let k = past_token s in
         let a = member_fits x (omega (arith, k, h)) (past s refl utf).0 in
         let b = past w refl a.2.0 in
         let c = more_members_fit y (omega (arith, k, a.2.1, b.1, h)) b.0 in
         (omega (arith, k, a.2.1, b.1, c.0), (a.0, a.1, c.1), (c.2.0, omega (arith, k, a.2.1, b.1, c.2.1)))
 
-pub said_fits : {K : Type 0} (num : List ℕ → K) (text : List ℕ) (v : Plain K) (n : ℕ) → IsUtf8 text → length text ≤ n → SaysText num text v → FitsIn n v
+pub said_fits : {K : Type 0} (num : List ℕ → K) (text : List ℕ) (v : PlainValue K) (n : ℕ) → IsUtf8 text → length text ≤ n → SaysText num text v → FitsIn n v
 said_fits num text v n utf h x = let a = past x.lead refl utf in (says_fits num n x.says (omega (arith, a.1, h)) a.0).0

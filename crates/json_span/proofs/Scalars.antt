@@ -7,10 +7,10 @@ use Rattle.json_span.specs.Steered.{ahead}
 use Rattle.json_span.specs.Tree.{Tree, a_null, a_boolean, a_number, a_string}
 use Rattle.json_span.specs.Reading.{Shape, null_shape, false_shape, true_shape, number_shape, string_shape}
 use Rattle.json_span.specs.Flaw.{flaw_at}
-use Rattle.json_span.specs.Scan.{Reaches}
-use Rattle.json_span.specs.Kinds.{rule_of_scalar}
-use Rattle.json_span.specs.declared.kind.Scalar.{Scalar}
-use Rattle.json_span.specs.declared.kind.Scalar.TheVariants.{False, Null, True, Number, String}
+use Rattle.json_span.specs.inner.Scan.{ReadsTo}
+use Rattle.json_span.specs.inner.Alternatives.{rule_of_scalar}
+use Rattle.json_span.specs.declared.alternative.Scalar.{Scalar}
+use Rattle.json_span.specs.declared.alternative.Scalar.TheVariants.{False, Null, True, Number, String}
 use Rattle.json_span.proofs.Steered.{honest_json}
 use Rattle.json_span.proofs.Strings.{cut_at}
 use Rattle.json_span.proofs.Exists.{string_of}
@@ -32,7 +32,7 @@ flaw-string s zero start = refl
 flaw-string s (suc room) start = refl
 
 -- what a scalar shows
-pub scalar_shape : (scalar : Scalar) (text : List ℕ) (at end : ℕ) → Reaches (rule_of_scalar scalar) text at end → (v : Tree) × Shape (length text) (drop at text) v (drop end text) × ((room start : ℕ) → flaw_at room start v ≡ None)
+pub scalar_shape : (scalar : Scalar) (text : List ℕ) (at end : ℕ) → ReadsTo (rule_of_scalar scalar) text at end → (v : Tree) × Shape (length text) (drop at text) v (drop end text) × ((room start : ℕ) → flaw_at room start v ≡ None)
 scalar_shape False text at end x = (a_boolean false, false_shape (reads steered.rules ahead honest_json x.steers), flaw-boolean false)
 scalar_shape Null text at end x = (a_null, null_shape (reads steered.rules ahead honest_json x.steers), flaw-null)
 scalar_shape True text at end x = (a_boolean true, true_shape (reads steered.rules ahead honest_json x.steers), flaw-boolean true)

@@ -8,7 +8,7 @@ use Rattle.grammar.specs.Predict.{first}
 use Rattle.grammar.proofs.Steps.{IsChoice}
 use Rattle.json_span.specs.Grammar.{Name, hex, not_d, short, letter_d, high_digit, low_digit}
 use Rattle.json_span.specs.Steered.{rules, ahead}
-use Rattle.json_span.specs.Characters.{short_of, unit_of, is_high, is_low}
+use Rattle.json_span.specs.Characters.{short_of, code_unit_of, is_high, is_low}
 
 or_left : (a b : Bool) → a ≡ true → (a || b) ≡ true
 or_left true b e = refl
@@ -102,7 +102,7 @@ not_d_hex a h = grind (arith, nat_tests)
 pub hex_value : (a : ℕ) → first ahead hex a ≡ true → digit_value a < 16
 hex_value a h = grind (arith, nat_tests)
 
-pub hex_unit : (a b c d : ℕ) → first ahead hex a ≡ true → first ahead hex b ≡ true → first ahead hex c ≡ true → first ahead hex d ≡ true → unit_of a b c d ≡ Some (digit_value a * 4096 + digit_value b * 256 + digit_value c * 16 + digit_value d)
+pub hex_unit : (a b c d : ℕ) → first ahead hex a ≡ true → first ahead hex b ≡ true → first ahead hex c ≡ true → first ahead hex d ≡ true → code_unit_of a b c d ≡ Some (digit_value a * 4096 + digit_value b * 256 + digit_value c * 16 + digit_value d)
 hex_unit a b c d p q r s = rw (p, q, r, s) refl
 
 -- a first digit other than 13 makes no surrogate

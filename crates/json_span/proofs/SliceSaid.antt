@@ -1,6 +1,6 @@
 -- The slice of a part says what the part is without places.
 use Rattle.std.proofs.Common.{◌≡◌, ℕ, List, slice_range, refl, sym, subst, ap, ◌∙◌}
-use Rattle.json_span.specs.Tree.{Tree, a_null, a_boolean, a_number, a_string, an_array, an_object, Placed, placed, Elements, no_elements, element, Members, no_members, member, start_of, end_of}
+use Rattle.json_span.specs.Tree.{Tree, a_null, a_boolean, a_number, a_string, an_array, an_object, Placed, placed, Elements, no_elements, an_element, Members, no_members, a_member, start_of, end_of}
 use Rattle.json_span.specs.Reading.{Shows}
 use Rattle.json_span.specs.Parts.{moved, moved_tree, moved_elements, moved_members, IsPart}
 use Rattle.json_span.specs.Plain.{plain_array, plain_object, plains, plain_members}
@@ -23,11 +23,11 @@ module _ {K : Type 0} (num : List ℕ → K) (d : ℕ) where
 
     elements_same : (ns : Elements) → plain_elements num (moved_elements d ns) ≡ plain_elements num ns
     elements_same no_elements = refl
-    elements_same (element n ns) = let p = moved_same n in let q = elements_same ns in λ i. plains (p i) (q i)
+    elements_same (an_element n ns) = let p = moved_same n in let q = elements_same ns in λ i. plains (p i) (q i)
 
     members_same : (ms : Members) → plain_fields num (moved_members d ms) ≡ plain_fields num ms
     members_same no_members = refl
-    members_same (member s start end n ms) = let p = moved_same n in let q = members_same ms in λ i. plain_members s (p i) (q i)
+    members_same (a_member s start end n ms) = let p = moved_same n in let q = members_same ms in λ i. plain_members s (p i) (q i)
 
 pub slice_says : {K : Type 0} (num : List ℕ → K) (text : List ℕ) (root n : Placed) → Shows text root → IsPart n root → SaysText num (slice_range text (start_of n) (end_of n)) (plain_of num n)
 slice_says num text root n x p =

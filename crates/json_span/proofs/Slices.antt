@@ -8,10 +8,10 @@ use Rattle.grammar.specs.Predict.{begins, more_in}
 use Rattle.grammar.proofs.Fronts.{widen}
 use Rattle.json_span.specs.Grammar.{Name, value}
 use Rattle.json_span.specs.Steered.{rules, ahead}
-use Rattle.json_span.specs.Characters.{Content, closes, plain, short, scalar, pair}
+use Rattle.json_span.specs.Characters.{CharactersAt, closing_quote, unescaped_byte, short_escape, unicode_escape, surrogate_pair}
 use Rattle.json_span.specs.Tree.{Tree, Placed, Elements, Members, start_of, end_of}
-use Rattle.json_span.specs.Reading.{StringAt, BeginsAt, Value, value_at, Shape, null_shape, false_shape, true_shape, number_shape, string_shape, array_shape, object_shape, ElementsAt, no_element, first_element, MoreElements, last_element, next_element, MemberAt, member_at, MembersAt, no_member, first_member, MoreMembers, last_member, next_member, Shows}
-use Rattle.json_span.specs.Parts.{moved, moved_tree, moved_elements, moved_members, IsPart, itself, inside, IsIn, in_array, in_object, IsElement, this_element, later_element, IsMember, this_member, later_member}
+use Rattle.json_span.specs.Reading.{StringAt, BeginsAt, ValueAt, with_span, Shape, null_shape, false_shape, true_shape, number_shape, string_shape, array_shape, object_shape, ElementsAt, no_element, first_element, MoreElements, last_element, next_element, MemberAt, member_at, MembersAt, no_member, first_member, MoreMembers, last_member, next_member, Shows}
+use Rattle.json_span.specs.Parts.{moved, moved_tree, moved_elements, moved_members, IsPart, itself, inside, IsInside, inside_array, inside_object, IsInElements, in_element, in_later_element, IsInMembers, in_member, in_later_member}
 use Rattle.json_span.proofs.Cut.{reads_cut}
 use Rattle.json_span.proofs.Exists.{front_of, value_of}
 use Rattle.json_span.proofs.Strings.{cut_at}
@@ -20,12 +20,12 @@ use Rattle.json_span.proofs.Unique.{value_reads, more_elements_read, more_member
 pub frame : {r : Rule Name} {t u : List ℕ} → Reads rules r t u → (x : List ℕ) → Reads rules r (t ++ x) (u ++ x)
 frame y x = widen rules y x
 
-pub content_frame : {t q u : List ℕ} → Content t q u → (s : List ℕ) → Content (t ++ s) q (u ++ s)
-content_frame (closes e) s = closes e
-content_frame (plain e x) s = plain e (content_frame x s)
-content_frame (short e f x) s = short e f (content_frame x s)
-content_frame (scalar a b c d x) s = scalar a b c d (content_frame x s)
-content_frame (pair a b c d e f g h x) s = pair a b c d e f g h (content_frame x s)
+pub content_frame : {t q u : List ℕ} → CharactersAt t q u → (s : List ℕ) → CharactersAt (t ++ s) q (u ++ s)
+content_frame (closing_quote e) s = closing_quote e
+content_frame (unescaped_byte e x) s = unescaped_byte e (content_frame x s)
+content_frame (short_escape e f x) s = short_escape e f (content_frame x s)
+content_frame (unicode_escape a b c d x) s = unicode_escape a b c d (content_frame x s)
+content_frame (surrogate_pair a b c d e f g h x) s = surrogate_pair a b c d e f g h (content_frame x s)
 
 pub string_frame : {t q u : List ℕ} → StringAt t q u → (s : List ℕ) → StringAt (t ++ s) q (u ++ s)
 string_frame x s = record { reads = frame x.reads s; inner = x.inner ++ s; quoted = ap (λ z. z ++ s) x.quoted; content = content_frame x.content s }
@@ -34,8 +34,8 @@ place : (d total start : ℕ) (t x : List ℕ) → BeginsAt total t start → Be
 place d total start t x p = omega (arith, p, length-append t x)
 
 mutual
-  value_frame : {total : ℕ} {t u : List ℕ} {n : Placed} → Value total t n u → (d : ℕ) (x : List ℕ) → Value (d + total + length x) (t ++ x) (moved d n) (u ++ x)
-  value_frame {total} {t} {u} (value_at {start = start} {end = end} s p q) d x = value_at (shape_frame s d x) (place d total start t x p) (place d total end u x q)
+  value_frame : {total : ℕ} {t u : List ℕ} {n : Placed} → ValueAt total t n u → (d : ℕ) (x : List ℕ) → ValueAt (d + total + length x) (t ++ x) (moved d n) (u ++ x)
+  value_frame {total} {t} {u} (with_span {start = start} {end = end} s p q) d x = with_span (shape_frame s d x) (place d total start t x p) (place d total end u x q)
 
   shape_frame : {total : ℕ} {t u : List ℕ} {v : Tree} → Shape total t v u → (d : ℕ) (x : List ℕ) → Shape (d + total + length x) (t ++ x) (moved_tree d v) (u ++ x)
   shape_frame (null_shape r) d x = null_shape (frame r x)
@@ -71,7 +71,7 @@ record PartAt (text : List ℕ) (n : Placed) : Type 0 where
   pub from : List ℕ
   pub rest : List ℕ
   pub joined : text ≡ front ++ from
-  pub value_ : Value (length text) from n rest
+  pub value_ : ValueAt (length text) from n rest
   pub ended : begins (more_in ahead (named value)) rest ≡ false
 
 -- a text whose rest this is
@@ -83,44 +83,44 @@ past : {text : List ℕ} {r : Rule Name} {t m : List ℕ} → Reads rules r t m 
 past {text} {t = t} {m = m} x b = let (k, e) = front_of x in record { front = b.front ++ k; joined = b.joined ∙ ap (λ z. b.front ++ z) e ∙ sym (append_assoc b.front k m) }
 
 mutual
-  part_of : {text t u : List ℕ} {root n : Placed} → Value (length text) t root u → Behind text t → begins (more_in ahead (named value)) u ≡ false → IsPart n root → PartAt text n
+  part_of : {text t u : List ℕ} {root n : Placed} → ValueAt (length text) t root u → Behind text t → begins (more_in ahead (named value)) u ≡ false → IsPart n root → PartAt text n
   part_of {text} {t} {u} v f h itself = record { front = f.front; from = t; rest = u; joined = f.joined; value_ = v; ended = h }
-  part_of (value_at s p q) f h (inside i) = part_of_shape s f i
+  part_of (with_span s p q) f h (inside i) = part_of_shape s f i
 
-  part_of_shape : {text t u : List ℕ} {v : Tree} {n : Placed} → Shape (length text) t v u → Behind text t → IsIn n v → PartAt text n
+  part_of_shape : {text t u : List ℕ} {v : Tree} {n : Placed} → Shape (length text) t v u → Behind text t → IsInside n v → PartAt text n
   part_of_shape (null_shape x) f i = elim i [ ]
   part_of_shape (false_shape x) f i = elim i [ ]
   part_of_shape (true_shape x) f i = elim i [ ]
   part_of_shape (number_shape x e) f i = elim i [ ]
   part_of_shape (string_shape x) f i = elim i [ ]
-  part_of_shape (array_shape x y) f (in_array i) = part_of_elements y (past x f) i
-  part_of_shape (object_shape x y) f (in_object i) = part_of_members y (past x f) i
+  part_of_shape (array_shape x y) f (inside_array i) = part_of_elements y (past x f) i
+  part_of_shape (object_shape x y) f (inside_object i) = part_of_members y (past x f) i
 
-  part_of_elements : {text t u : List ℕ} {ns : Elements} {n : Placed} → ElementsAt (length text) t ns u → Behind text t → IsElement n ns → PartAt text n
+  part_of_elements : {text t u : List ℕ} {ns : Elements} {n : Placed} → ElementsAt (length text) t ns u → Behind text t → IsInElements n ns → PartAt text n
   part_of_elements (no_element x) f i = elim i [ ]
-  part_of_elements (first_element v b m) f (this_element i) = part_of v f (after_value b (behind_element (more_elements_read m))) i
-  part_of_elements (first_element v b m) f (later_element i) = part_of_more_elements m (past b (past (value_reads v) f)) i
+  part_of_elements (first_element v b m) f (in_element i) = part_of v f (after_value b (behind_element (more_elements_read m))) i
+  part_of_elements (first_element v b m) f (in_later_element i) = part_of_more_elements m (past b (past (value_reads v) f)) i
 
-  part_of_more_elements : {text t u : List ℕ} {ns : Elements} {n : Placed} → MoreElements (length text) t ns u → Behind text t → IsElement n ns → PartAt text n
+  part_of_more_elements : {text t u : List ℕ} {ns : Elements} {n : Placed} → MoreElements (length text) t ns u → Behind text t → IsInElements n ns → PartAt text n
   part_of_more_elements (last_element x) f i = elim i [ ]
-  part_of_more_elements (next_element c v b m) f (this_element i) = part_of v (past c f) (after_value b (behind_element (more_elements_read m))) i
-  part_of_more_elements (next_element c v b m) f (later_element i) = part_of_more_elements m (past b (past (value_reads v) (past c f))) i
+  part_of_more_elements (next_element c v b m) f (in_element i) = part_of v (past c f) (after_value b (behind_element (more_elements_read m))) i
+  part_of_more_elements (next_element c v b m) f (in_later_element i) = part_of_more_elements m (past b (past (value_reads v) (past c f))) i
 
-  part_of_members : {text t u : List ℕ} {ms : Members} {n : Placed} → MembersAt (length text) t ms u → Behind text t → IsMember n ms → PartAt text n
+  part_of_members : {text t u : List ℕ} {ms : Members} {n : Placed} → MembersAt (length text) t ms u → Behind text t → IsInMembers n ms → PartAt text n
   part_of_members (no_member x) f i = elim i [ ]
-  part_of_members (first_member (member_at k p q a c v) b m) f (this_member i) = part_of v (past c (past a (past k.reads f))) (after_value b (behind_member (more_members_read m))) i
-  part_of_members (first_member (member_at k p q a c v) b m) f (later_member i) = part_of_more_members m (past b (past (value_reads v) (past c (past a (past k.reads f))))) i
+  part_of_members (first_member (member_at k p q a c v) b m) f (in_member i) = part_of v (past c (past a (past k.reads f))) (after_value b (behind_member (more_members_read m))) i
+  part_of_members (first_member (member_at k p q a c v) b m) f (in_later_member i) = part_of_more_members m (past b (past (value_reads v) (past c (past a (past k.reads f))))) i
 
-  part_of_more_members : {text t u : List ℕ} {ms : Members} {n : Placed} → MoreMembers (length text) t ms u → Behind text t → IsMember n ms → PartAt text n
+  part_of_more_members : {text t u : List ℕ} {ms : Members} {n : Placed} → MoreMembers (length text) t ms u → Behind text t → IsInMembers n ms → PartAt text n
   part_of_more_members (last_member x) f i = elim i [ ]
-  part_of_more_members (next_member x (member_at k p q a c v) b m) f (this_member i) = part_of v (past c (past a (past k.reads (past x f)))) (after_value b (behind_member (more_members_read m))) i
-  part_of_more_members (next_member x (member_at k p q a c v) b m) f (later_member i) = part_of_more_members m (past b (past (value_reads v) (past c (past a (past k.reads (past x f)))))) i
+  part_of_more_members (next_member x (member_at k p q a c v) b m) f (in_member i) = part_of v (past c (past a (past k.reads (past x f)))) (after_value b (behind_member (more_members_read m))) i
+  part_of_more_members (next_member x (member_at k p q a c v) b m) f (in_later_member i) = part_of_more_members m (past b (past (value_reads v) (past c (past a (past k.reads (past x f)))))) i
 
-starts_at : {total : ℕ} {t u : List ℕ} {n : Placed} → Value total t n u → BeginsAt total t (start_of n)
-starts_at (value_at s p q) = p
+starts_at : {total : ℕ} {t u : List ℕ} {n : Placed} → ValueAt total t n u → BeginsAt total t (start_of n)
+starts_at (with_span s p q) = p
 
-ends_at : {total : ℕ} {t u : List ℕ} {n : Placed} → Value total t n u → BeginsAt total u (end_of n)
-ends_at (value_at s p q) = q
+ends_at : {total : ℕ} {t u : List ℕ} {n : Placed} → ValueAt total t n u → BeginsAt total u (end_of n)
+ends_at (with_span s p q) = q
 
 drop_front : (text f t : List ℕ) (at : ℕ) → text ≡ f ++ t → at + length t ≡ length text → drop at text ≡ t
 drop_front text f t at e h =
@@ -138,7 +138,7 @@ slices_show text root n (t0, m0, b, v, c) i =
     let (m, w) = value_of (length k) whole (omega arith) in
     let lengths : length p.from ≡ length k + length p.rest = ap length x.joined ∙ length-append k p.rest in
     let total : d + length k + length p.rest ≡ length text = omega (arith, lengths, starts_at p.value_) in
-    let framed : Value (length text) (k ++ p.rest) (moved d m) p.rest = subst (λ z. Value z (k ++ p.rest) (moved d m) p.rest) total (value_frame w d p.rest) in
+    let framed : ValueAt (length text) (k ++ p.rest) (moved d m) p.rest = subst (λ z. ValueAt z (k ++ p.rest) (moved d m) p.rest) total (value_frame w d p.rest) in
     let same : n ≡ moved d m = value_unique p.value_ framed x.joined p.ended p.ended in
     let before : drop d text ≡ p.from = drop_front text p.front p.from d p.joined (starts_at p.value_) in
     let behind : drop (end_of n) text ≡ p.rest = drop_front text (p.front ++ k) p.rest (end_of n) (p.joined ∙ ap (λ z. p.front ++ z) x.joined ∙ sym (append_assoc p.front k p.rest)) (ends_at p.value_) in

@@ -1,25 +1,21 @@
 -- The characters between two places of a text, without and with escapes.
-use Rattle.std.proofs.Common.{◌≡◌, ℕ, ◌+◌, ◌-◌, ◌<◌, ◌≤◌, List, [], ◌∷◌, ◌++◌, length, take, drop, get_or, Bool, true, false, not, refl, sym, ap, ◌∙◌, subst, arith, append_assoc, length-drop, append-nil, take-append-drop, Ok}
+use Rattle.std.proofs.Common.{◌≡◌, ℕ, ◌+◌, ◌-◌, ◌<◌, ◌≤◌, List, [], ◌∷◌, ◌++◌, length, take, drop, get_or, true, false, refl, sym, ap, ◌∙◌, subst, arith, append_assoc, length-drop, append-nil, take-append-drop, Ok}
 use Rattle.std.specs.Prelude.{slice_range}
 use Rattle.std.proofs.lemmas.List.{drop_more, take_rest, drop-drop, append_cancel_right, get_or-drop}
-use Rattle.std.proofs.lemmas.Bool.Decides.{nat_tests}
 use Rattle.std.specs.Char.{encode_utf8}
 use Rattle.std.specs.Str.{IsUtf8, IsCharBoundary}
-use Rattle.std.proofs.lemmas.Str.{IsCharBoundary-before_ascii, IsCharBoundary-after_ascii}
+use Rattle.std.proofs.lemmas.Str.{IsCharBoundary-after_ascii}
 use Rattle.grammar.specs.Grammar.{within, alt, many, named, seq}
 use Rattle.grammar.specs.Predict.{begins, first, Steers, on_end, on_more}
 use Rattle.grammar.proofs.Tables.{steered_from}
 use Rattle.grammar.proofs.Predicts.{reads}
-use Rattle.std.specs.List.{prefix_len}
-use Rattle.lane_scan.specs.Bytes.{is_special}
-use Rattle.json_span.proofs.Runs.{reach_plain}
 use Rattle.json_span.specs.Grammar.{unescaped, char, one, string}
 use Rattle.json_span.specs.Steered.{rules, table, ahead}
-use Rattle.json_span.specs.Characters.{Content, closes, plain, short, scalar, pair}
+use Rattle.json_span.specs.Characters.{CharactersAt, closing_quote, unescaped_byte, short_escape, unicode_escape, surrogate_pair}
 use Rattle.json_span.specs.Reading.{StringAt}
 use Rattle.std.proofs.Math.Logic.{∥∥₁_elim, ∥∥₁_prop}
-use Rattle.json_span.specs.Escapes.{HasContent, BeginsEscape, Stands}
-use Rattle.json_span.specs.Scan.{Reaches, Halts}
+use Rattle.json_span.specs.inner.Escapes.{HasCharacters, BeginsEscape, StandsFor}
+use Rattle.json_span.specs.inner.Scan.{ReadsTo, Halts}
 use Rattle.json_span.specs.declared.bytes.Class.TheVariants.{One}
 use Rattle.json_span.proofs.Steered.{honest_json}
 use Rattle.json_span.proofs.Scans as scan
@@ -47,19 +43,19 @@ not_quote c e h = let b : first ahead unescaped 34 ≡ true = subst (λ z. first
 not_escape : (c : ℕ) → c ≡ 92 → first ahead unescaped c ≡ true → ⊥
 not_escape c e h = let b : first ahead unescaped 92 ≡ true = subst (λ z. first ahead unescaped z ≡ true) e h in cc
 
-plain_inside : {c : ℕ} {t s u : List ℕ} → Content (c ∷ t) s u → first ahead unescaped c ≡ true → (rest : List ℕ) × Content t rest u × (s ≡ c ∷ rest)
-plain_inside (closes {c} e) h = absurd (not_quote c e h)
-plain_inside (plain {s = s} e x) h = (s, x, refl)
-plain_inside (short {b = c} e f x) h = absurd (not_escape c e h)
-plain_inside (scalar {e = c} e f p q x) h = absurd (not_escape c e h)
-plain_inside (pair {e = c} e f p q g i r v x) h = absurd (not_escape c e h)
+plain_inside : {c : ℕ} {t s u : List ℕ} → CharactersAt (c ∷ t) s u → first ahead unescaped c ≡ true → (rest : List ℕ) × CharactersAt t rest u × (s ≡ c ∷ rest)
+plain_inside (closing_quote {c} e) h = absurd (not_quote c e h)
+plain_inside (unescaped_byte {s = s} e x) h = (s, x, refl)
+plain_inside (short_escape {b = c} e f x) h = absurd (not_escape c e h)
+plain_inside (unicode_escape {e = c} e f p q x) h = absurd (not_escape c e h)
+plain_inside (surrogate_pair {e = c} e f p q g i r v x) h = absurd (not_escape c e h)
 
 -- what a run of plain bytes adds to the characters
 pub record Plain (t m : List ℕ) : Type 0 where
   pub front : List ℕ
   pub joined : t ≡ front ++ m
-  pub adds : (s u : List ℕ) → Content m s u → Content t (front ++ s) u
-  pub takes : (s u : List ℕ) → Content t s u → (rest : List ℕ) × Content m rest u × (s ≡ front ++ rest)
+  pub adds : (s u : List ℕ) → CharactersAt m s u → CharactersAt t (front ++ s) u
+  pub takes : (s u : List ℕ) → CharactersAt t s u → (rest : List ℕ) × CharactersAt m rest u × (s ≡ front ++ rest)
 
 plain_run : {t m : List ℕ} → Steers rules ahead (many unescaped) t m → Plain t m
 plain_run (on_end f) = record { front = []; joined = refl; adds = λ s u x. x; takes = λ s u x. (s, x, refl) }
@@ -69,55 +65,55 @@ plain_run (on_more x xs) =
     record {
       front = c ∷ r.front;
       joined = e ∙ ap (λ z. c ∷ z) r.joined;
-      adds = λ s u k. subst (λ z. Content z (c ∷ (r.front ++ s)) u) (sym e) (plain h (r.adds s u k));
+      adds = λ s u k. subst (λ z. CharactersAt z (c ∷ (r.front ++ s)) u) (sym e) (unescaped_byte h (r.adds s u k));
       takes = λ s u k.
-          let (a, k2, p) = plain_inside (subst (λ z. Content z s u) e k) h in
+          let (a, k2, p) = plain_inside (subst (λ z. CharactersAt z s u) e k) h in
           let (rest, k3, q) = r.takes a u k2 in
           (rest, k3, p ∙ ap (λ z. c ∷ z) q);
     }
 
 -- the same between two places
-pub plain_slice : (text : List ℕ) (at end : ℕ) → Reaches (many unescaped) text at end → (p : Plain (drop at text) (drop end text)) × (p.front ≡ slice_range text at end)
+pub plain_slice : (text : List ℕ) (at end : ℕ) → ReadsTo (many unescaped) text at end → (p : Plain (drop at text) (drop end text)) × (p.front ≡ slice_range text at end)
 plain_slice text at end x =
     let p = plain_run x.steers in
     (p, append_cancel_right p.front (slice_range text at end) (drop end text) (sym p.joined ∙ cut_at text at end x.forward))
 
-pub plain_adds : (text : List ℕ) (at end : ℕ) → Reaches (many unescaped) text at end → (s u : List ℕ) → Content (drop end text) s u → Content (drop at text) (slice_range text at end ++ s) u
-plain_adds text at end x s u k = let (p, e) = plain_slice text at end x in subst (λ z. Content (drop at text) (z ++ s) u) e (p.adds s u k)
+pub plain_adds : (text : List ℕ) (at end : ℕ) → ReadsTo (many unescaped) text at end → (s u : List ℕ) → CharactersAt (drop end text) s u → CharactersAt (drop at text) (slice_range text at end ++ s) u
+plain_adds text at end x s u k = let (p, e) = plain_slice text at end x in subst (λ z. CharactersAt (drop at text) (z ++ s) u) e (p.adds s u k)
 
-pub plain_takes : (text : List ℕ) (at end : ℕ) → Reaches (many unescaped) text at end → (s u : List ℕ) → Content (drop at text) s u → (rest : List ℕ) × Content (drop end text) rest u × (s ≡ slice_range text at end ++ rest)
+pub plain_takes : (text : List ℕ) (at end : ℕ) → ReadsTo (many unescaped) text at end → (s u : List ℕ) → CharactersAt (drop at text) s u → (rest : List ℕ) × CharactersAt (drop end text) rest u × (s ≡ slice_range text at end ++ rest)
 plain_takes text at end x s u k =
     let (p, e) = plain_slice text at end x in
     let (rest, k2, q) = p.takes s u k in
     (rest, k2, q ∙ ap (λ z. z ++ rest) e)
 
 -- a string of no escape
-pub plain_string : (text : List ℕ) (at end : ℕ) → at < length text → scan.Sees text (within 34 34) at true → Reaches (many unescaped) text (at + 1) end → end < length text → scan.Sees text (within 34 34) end true →
-    Reaches (named string) text at (end + 1) × StringAt (drop at text) (slice_range text (at + 1) end) (drop (end + 1) text)
+pub plain_string : (text : List ℕ) (at end : ℕ) → at < length text → scan.Sees text (within 34 34) at true → ReadsTo (many unescaped) text (at + 1) end → end < length text → scan.Sees text (within 34 34) end true →
+    ReadsTo (named string) text at (end + 1) × StringAt (drop at text) (slice_range text (at + 1) end) (drop (end + 1) text)
 plain_string text at end lt e x lt2 f =
     let quote = row.reach_class text (One 34) end lt2 f in
     let other : begins (within 92 92) (drop end text) ≡ false = scan.not_other (within 34 34) (within 92 92) (steered_from table (alt (one 34) (one 92)) refl).2 (drop end text) f in
     let rest = characters.run_leads text (at + 1) end x (Ok (end + 1)) (characters.closing text end (Ok (end + 1)) x.within_text (characters.run_ends text (at + 1) end x) other quote) in
     let whole = scan.reach_name text string at (end + 1) (scan.reach_both text (one 34) (seq (many char) (one 34)) at (at + 1) (end + 1) (row.reach_class text (One 34) at lt e) rest) in
-    let empty_rest : Content (drop end text) [] (drop (end + 1) text) = subst (λ z. Content z [] (drop (end + 1) text)) (sym (byte_at text 34 end lt2 f)) (closes refl) in (
+    let empty_rest : CharactersAt (drop end text) [] (drop (end + 1) text) = subst (λ z. CharactersAt z [] (drop (end + 1) text)) (sym (byte_at text 34 end lt2 f)) (closing_quote refl) in (
       whole,
       record {
         reads = reads rules ahead honest_json whole.steers;
         inner = drop (at + 1) text;
         quoted = byte_at text 34 at lt e;
-        content = subst (λ z. Content (drop (at + 1) text) z (drop (end + 1) text)) (append-nil (slice_range text (at + 1) end)) (plain_adds text (at + 1) end x [] (drop (end + 1) text) empty_rest);
+        content = subst (λ z. CharactersAt (drop (at + 1) text) z (drop (end + 1) text)) (append-nil (slice_range text (at + 1) end)) (plain_adds text (at + 1) end x [] (drop (end + 1) text) empty_rest);
       },
     )
 
 -- any string, with the characters that it has
-pub any_string : (text s : List ℕ) (at end : ℕ) → at < length text → scan.Sees text (within 34 34) at true → Reaches (seq (many char) (one 34)) text (at + 1) end → Content (drop (at + 1) text) s (drop end text) →
-    Reaches (named string) text at end × StringAt (drop at text) s (drop end text)
+pub any_string : (text s : List ℕ) (at end : ℕ) → at < length text → scan.Sees text (within 34 34) at true → ReadsTo (seq (many char) (one 34)) text (at + 1) end → CharactersAt (drop (at + 1) text) s (drop end text) →
+    ReadsTo (named string) text at end × StringAt (drop at text) s (drop end text)
 any_string text s at end lt e x k =
     let whole = scan.reach_name text string at end (scan.reach_both text (one 34) (seq (many char) (one 34)) at (at + 1) end (row.reach_class text (One 34) at lt e) x) in
     (whole, record { reads = reads rules ahead honest_json whole.steers; inner = drop (at + 1) text; quoted = byte_at text 34 at lt e; content = k })
 
 -- the characters that a string has
-pub has_content : (text : List ℕ) (at end : ℕ) → Reaches (seq (many char) (one 34)) text at end → (s : List ℕ) × Content (drop at text) s (drop end text)
+pub has_content : (text : List ℕ) (at end : ℕ) → ReadsTo (seq (many char) (one 34)) text at end → (s : List ℕ) × CharactersAt (drop at text) s (drop end text)
 has_content text at end x = content_of_rest (reads rules ahead honest_json x.steers)
 
 -- no string
@@ -134,40 +130,34 @@ behind_byte text c at utf small lt e =
     let same : get_or text at 0 ≡ c = is_value (get_or text at 0) c (subst (λ z. begins (within c c) z ≡ true) cut e) in
     IsCharBoundary-after_ascii text at utf lt (rw same small)
 
-special_small : (c : ℕ) → is_special c ≡ true → c < 128
-special_small c e = grind (arith, nat_tests)
-
-pub before_special : (text : List ℕ) (at : ℕ) → at < length text → is_special (get_or text at 0) ≡ true → IsCharBoundary text at
-before_special text at lt e = IsCharBoundary-before_ascii text at lt (special_small (get_or text at 0) e)
-
 -- a rest of a string is not empty
-pub not_ended : {t s u : List ℕ} → Content t s u → 0 < length t
-not_ended (closes e) = omega arith
-not_ended (plain e x) = omega arith
-not_ended (short e f x) = omega arith
-not_ended (scalar a b c d x) = omega arith
-not_ended (pair a b c d e f g h x) = omega arith
+pub not_ended : {t s u : List ℕ} → CharactersAt t s u → 0 < length t
+not_ended (closing_quote e) = omega arith
+not_ended (unescaped_byte e x) = omega arith
+not_ended (short_escape e f x) = omega arith
+not_ended (unicode_escape a b c d x) = omega arith
+not_ended (surrogate_pair a b c d e f g h x) = omega arith
 
-pub content_within : (text s u : List ℕ) (at : ℕ) → Content (drop at text) s u → at < length text
+pub content_within : (text s u : List ℕ) (at : ℕ) → CharactersAt (drop at text) s u → at < length text
 content_within text s u at x = omega (arith, not_ended x, length-drop at text)
 
 -- behind the run there is a quote, and no more characters, or a backslash
 is_other : (b : ℕ) → b ≡ 92 → within 92 92 b ≡ false → ⊥
 is_other b e f = let g : within 92 92 92 ≡ false = subst (λ z. within 92 92 z ≡ false) e f in cc
 
-pub ends_here : (t s u : List ℕ) → Content t s u → begins (first ahead unescaped) t ≡ false → begins (within 92 92) t ≡ false → s ≡ []
-ends_here _ _ _ (closes e) f g = refl
-ends_here _ _ _ (plain e x) f g = cc
-ends_here _ _ _ (short {b = b} e h x) f g = absurd (is_other b e g)
-ends_here _ _ _ (scalar {e = b} e h p q x) f g = absurd (is_other b e g)
-ends_here _ _ _ (pair {e = b} e h p q i j r v x) f g = absurd (is_other b e g)
+pub ends_here : (t s u : List ℕ) → CharactersAt t s u → begins (first ahead unescaped) t ≡ false → begins (within 92 92) t ≡ false → s ≡ []
+ends_here _ _ _ (closing_quote e) f g = refl
+ends_here _ _ _ (unescaped_byte e x) f g = cc
+ends_here _ _ _ (short_escape {b = b} e h x) f g = absurd (is_other b e g)
+ends_here _ _ _ (unicode_escape {e = b} e h p q x) f g = absurd (is_other b e g)
+ends_here _ _ _ (surrogate_pair {e = b} e h p q i j r v x) f g = absurd (is_other b e g)
 
 -- a slice up to the end of the text
 pub rest_slice : (text bytes : List ℕ) (at : ℕ) → bytes ≡ text → take (length bytes - at) (drop at bytes) ≡ drop at text
 rest_slice text bytes at e = take_rest bytes at ∙ ap (drop at) e
 
 -- behind a run of plain bytes a backslash begins an escape
-pub escape_begins : (text bytes : List ℕ) (from at stop : ℕ) → bytes ≡ text → HasContent (drop from text) → ((s u : List ℕ) → Content (drop from text) s u → (rest : List ℕ) × Content (drop at text) rest u) → Reaches (many unescaped) text at stop → scan.Sees text (within 92 92) stop true →
+pub escape_begins : (text bytes : List ℕ) (from at stop : ℕ) → bytes ≡ text → HasCharacters (drop from text) → ((s u : List ℕ) → CharactersAt (drop from text) s u → (rest : List ℕ) × CharactersAt (drop at text) rest u) → ReadsTo (many unescaped) text at stop → scan.Sees text (within 92 92) stop true →
     BeginsEscape (take (length bytes - stop) (drop stop bytes))
 escape_begins text bytes from at stop e has left x sees = ∥∥₁_elim has ∥∥₁_prop (λ (s, u, k).
     let (rest, k1) = left s u k in
@@ -176,16 +166,10 @@ escape_begins text bytes from at stop e has left x sees = ∥∥₁_elim has ∥
     let first_ : get_or (drop stop text) 0 0 ≡ 92 = ap (λ z. get_or z 0 0) (byte_at text 92 stop lt sees) in
     rw (rest_slice text bytes stop e) (∣ (rest2, u, k2, first_) ∣₁))
 
-pub bytes_reach : (text bytes : List ℕ) (at end : ℕ) → bytes ≡ text → ((i : ℕ) → get_or text i 0 < 256) → end ≡ at + prefix_len (λ x. not (is_special x)) (drop at bytes) → end ≤ length bytes → Reaches (many unescaped) text at end
-bytes_reach text bytes at end e small first_ within_ = reach_plain text at end small (first_ ∙ ap (λ z. at + prefix_len (λ x. not (is_special x)) (drop at z)) e) (subst (λ z. end ≤ length z) e within_)
-
-pub bytes_see : (text bytes : List ℕ) (p : ℕ → Bool) (at : ℕ) (b : Bool) → bytes ≡ text → b ≡ begins p (drop at bytes) → scan.Sees text p at b
-bytes_see text bytes p at b e h = sym (h ∙ ap (λ z. begins p (drop at z)) e)
-
-pub escape_takes : (text escape : List ℕ) (at len character : ℕ) → escape ≡ drop at text → Stands escape character len → (s u : List ℕ) → Content (drop at text) s u → (rest : List ℕ) × Content (drop (at + len) text) rest u × (s ≡ encode_utf8 character ++ rest)
+pub escape_takes : (text escape : List ℕ) (at len character : ℕ) → escape ≡ drop at text → StandsFor escape character len → (s u : List ℕ) → CharactersAt (drop at text) s u → (rest : List ℕ) × CharactersAt (drop (at + len) text) rest u × (s ≡ encode_utf8 character ++ rest)
 escape_takes text escape at len character e st s u k =
-    let (r, k2, q) = st s u (subst (λ z. Content z s u) (sym e) k) in
-    (r, subst (λ z. Content z r u) (ap (drop len) e ∙ drop-drop len at text) k2, q)
+    let (r, k2, q) = st s u (subst (λ z. CharactersAt z s u) (sym e) k) in
+    (r, subst (λ z. CharactersAt z r u) (ap (drop len) e ∙ drop-drop len at text) k2, q)
 
 pub escape_boundary : (text escape : List ℕ) (at len : ℕ) → IsUtf8 text → escape ≡ drop at text → at ≤ length text → 0 < len → len ≤ length escape → get_or escape (len - 1) 0 < 128 → IsCharBoundary text (at + len)
 escape_boundary text escape at len utf e h some le small =
@@ -201,9 +185,3 @@ longer s before run character rest rest2 rest3 e f g =
 
 pub whole_run : (s before run rest rest2 : List ℕ) → s ≡ before ++ rest → rest ≡ run ++ rest2 → rest2 ≡ [] → before ++ run ≡ s
 whole_run s before run rest rest2 e f g = sym (e ∙ ap (λ z. before ++ z) (f ∙ ap (λ z. run ++ z) g ∙ append-nil run))
-
-abbrev pub GoodRest : List ℕ → ℕ → ℕ → Type 0
-GoodRest text at end = Reaches (seq (many char) (one 34)) text at end
-
-abbrev pub BadRest : List ℕ → ℕ → ℕ → Type 0
-BadRest text at stop = Halts (seq (many char) (one 34)) text at stop

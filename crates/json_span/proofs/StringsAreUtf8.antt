@@ -9,7 +9,7 @@ use Rattle.grammar.specs.Predict.{first}
 use Rattle.json_span.specs.Grammar.{hex}
 use Rattle.json_span.specs.Reading.{StringAt}
 use Rattle.json_span.specs.Steered.{ahead}
-use Rattle.json_span.specs.Characters.{Content, closes, plain, short, scalar, pair, unit_of, joined_pair}
+use Rattle.json_span.specs.Characters.{CharactersAt, closing_quote, unescaped_byte, short_escape, unicode_escape, surrogate_pair, code_unit_of, joined_pair}
 use Rattle.json_span.proofs.Boundaries.{one_ascii}
 use Rattle.json_span.proofs.EscapeFacts.{digits_in, hex_ascii, short_small, short_letter, scalar_alone, scalar_joined}
 
@@ -29,7 +29,7 @@ ascii_apart front rest c small utf =
 pub behind_ascii : (c : ℕ) (rest : List ℕ) → c < 128 → IsUtf8 (c ∷ rest) → IsUtf8 rest
 behind_ascii c rest small utf = (ascii_apart [] rest c small utf).1
 
-behind_digits : (a b c d n : ℕ) (rest : List ℕ) → unit_of a b c d ≡ Some n → IsUtf8 (a ∷ b ∷ c ∷ d ∷ rest) → IsUtf8 rest
+behind_digits : (a b c d n : ℕ) (rest : List ℕ) → code_unit_of a b c d ≡ Some n → IsUtf8 (a ∷ b ∷ c ∷ d ∷ rest) → IsUtf8 rest
 behind_digits a b c d n rest e utf =
     let k = digits_in a b c d n e in
     behind_ascii d rest (hex_ascii d k.fourth_hex)
@@ -40,28 +40,28 @@ behind_digits a b c d n rest e utf =
 hex_value : (a : ℕ) → first ahead hex a ≡ true → digit_value a < 16
 hex_value a h = grind (arith, nat_tests)
 
-unit_small : (a b c d n : ℕ) → unit_of a b c d ≡ Some n → n < 65536
+unit_small : (a b c d n : ℕ) → code_unit_of a b c d ≡ Some n → n < 65536
 unit_small a b c d n e =
     let k = digits_in a b c d n e in
     omega (arith, hex_value a k.first_hex, hex_value b k.second_hex, hex_value c k.third_hex, hex_value d k.fourth_hex, k.number)
 
-pub content_utf8 : (front : List ℕ) {t s u : List ℕ} → Content t s u → IsUtf8 (front ++ t) → IsUtf8 (front ++ s) × IsUtf8 u
-content_utf8 front (closes {c = c} {u = u} e) utf = let k = ascii_apart front u c (omega (arith, e)) utf in (subst IsUtf8 (sym (append-nil front)) k.0, k.1)
-content_utf8 front (plain {c = c} {t = t} {s = s} e x) utf =
+pub content_utf8 : (front : List ℕ) {t s u : List ℕ} → CharactersAt t s u → IsUtf8 (front ++ t) → IsUtf8 (front ++ s) × IsUtf8 u
+content_utf8 front (closing_quote {c = c} {u = u} e) utf = let k = ascii_apart front u c (omega (arith, e)) utf in (subst IsUtf8 (sym (append-nil front)) k.0, k.1)
+content_utf8 front (unescaped_byte {c = c} {t = t} {s = s} e x) utf =
     let k = content_utf8 (front ++ c ∷ []) x (subst IsUtf8 (sym (append_assoc front (c ∷ []) t)) utf) in
     (subst IsUtf8 (append_assoc front (c ∷ []) s) k.0, k.1)
-content_utf8 front (short {b = b} {x = letter} {c = c} {t = t} {s = s} e f x) utf =
+content_utf8 front (short_escape {b = b} {x = letter} {c = c} {t = t} {s = s} e f x) utf =
     let q = ascii_apart front (letter ∷ t) b (omega (arith, e)) utf in
     let k = content_utf8 [] x (behind_ascii letter t (short_letter letter c f) q.1) in
     let one : IsUtf8 (c ∷ []) = IsUtf8-from_ascii (c ∷ []) (one_ascii c (short_small letter c f)) in
     (IsUtf8-append front (c ∷ s) q.0 (IsUtf8-append (c ∷ []) s one k.0), k.1)
-content_utf8 front (scalar {e = e} {f = f} {a = a} {b = b} {c = c} {d = d} {n = n} {t = t} {s = s} p q number alone x) utf =
+content_utf8 front (unicode_escape {e = e} {f = f} {a = a} {b = b} {c = c} {d = d} {n = n} {t = t} {s = s} p q number alone x) utf =
     let cut = ascii_apart front (f ∷ a ∷ b ∷ c ∷ d ∷ t) e (omega (arith, p)) utf in
     let digits = behind_ascii f (a ∷ b ∷ c ∷ d ∷ t) (omega (arith, q)) cut.1 in
     let k = content_utf8 [] x (behind_digits a b c d n t number digits) in
     let one : IsUtf8 (encode_utf8 n) = IsUtf8-encode n (scalar_alone n (unit_small a b c d n number) alone) in
     (IsUtf8-append front (encode_utf8 n ++ s) cut.0 (IsUtf8-append (encode_utf8 n) s one k.0), k.1)
-content_utf8 front (pair {e = e} {f = f} {a = a} {b = b} {c = c} {d = d} {h = high} {g = g} {i = i} {j = j} {k = k} {l = l} {m = m} {low = low} {t = t} {s = s} p q number is_high r v other is_low x) utf =
+content_utf8 front (surrogate_pair {e = e} {f = f} {a = a} {b = b} {c = c} {d = d} {h = high} {g = g} {i = i} {j = j} {k = k} {l = l} {m = m} {low = low} {t = t} {s = s} p q number is_high r v other is_low x) utf =
     let behind = j ∷ k ∷ l ∷ m ∷ t in
     let cut = ascii_apart front (f ∷ a ∷ b ∷ c ∷ d ∷ g ∷ i ∷ behind) e (omega (arith, p)) utf in
     let digits = behind_ascii f (a ∷ b ∷ c ∷ d ∷ g ∷ i ∷ behind) (omega (arith, q)) cut.1 in

@@ -32,13 +32,13 @@ abbrev pub ShowsOnly : List ℕ → Placed → Type 0
 ShowsOnly text n = (m : Placed) → Shows text m → m ≡ n
 
 -- each refusal with its cause; memory may always run out
-abbrev pub IsRefusal : List ℕ → JsonFault → Type 0
-IsRefusal text (Syntax at) = IsAnswer text (stops at)
-IsRefusal text (Dup start end) = IsAnswer text (flawed (equal_names start end))
-IsRefusal text (Deep start end) = IsAnswer text (flawed (too_deep start end))
-IsRefusal text NoMemory = Unit {0}
+abbrev pub IsJsonFault : List ℕ → JsonFault → Type 0
+IsJsonFault text (Syntax at) = IsAnswer text (stops at)
+IsJsonFault text (Dup start end) = IsAnswer text (flawed (equal_names start end))
+IsJsonFault text (Deep start end) = IsAnswer text (flawed (too_deep start end))
+IsJsonFault text NoMemory = Unit {0}
 
--- what a call of `read` answered; want of memory is no answer
+-- what a call of `read` answered; out of memory is no answer
 abbrev pub answer_of : Result Node JsonFault → Option Answer
 answer_of (Ok n) = Some (shows (node_view n))
 answer_of (Err (Syntax at)) = Some (stops at)

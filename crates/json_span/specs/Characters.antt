@@ -9,14 +9,16 @@ use Rattle.json_span.specs.Steered.{ahead}
 abbrev pub short_of : ℕ → Option ℕ
 short_of x =
     cond ((x == 34) || (x == 92) || (x == 47)) (Some x)
-    (cond (x == 98) (Some 8) (cond (x == 102) (Some 12) (cond (x == 110) (Some 10) (cond (x == 114) (Some 13) (cond (x == 116) (Some 9) None)))))
+    (cond (x == 98) (Some 8) (cond (x == 102) (Some 12) (cond (x == 110) (Some 10)
+    (cond (x == 114) (Some 13) (cond (x == 116) (Some 9) None)))))
 
 -- the number of four hexadecimal digits
-abbrev pub unit : ℕ → ℕ → ℕ → ℕ → ℕ
-unit a b c d = digit_value a * 4096 + digit_value b * 256 + digit_value c * 16 + digit_value d
+abbrev pub code_unit : ℕ → ℕ → ℕ → ℕ → ℕ
+code_unit a b c d = digit_value a * 4096 + digit_value b * 256 + digit_value c * 16 + digit_value d
 
-abbrev pub unit_of : ℕ → ℕ → ℕ → ℕ → Option ℕ
-unit_of a b c d = cond (first ahead hex a && first ahead hex b && first ahead hex c && first ahead hex d) (Some (unit a b c d)) None
+abbrev pub code_unit_of : ℕ → ℕ → ℕ → ℕ → Option ℕ
+code_unit_of a b c d =
+    cond (first ahead hex a && first ahead hex b && first ahead hex c && first ahead hex d) (Some (code_unit a b c d)) None
 
 abbrev pub is_high : ℕ → Bool
 is_high n = nat_le 0xd800 n && nat_lt n 0xdc00
@@ -29,10 +31,16 @@ abbrev pub joined_pair : ℕ → ℕ → ℕ
 joined_pair high low = 0x10000 + (high - 0xd800) * 1024 + (low - 0xdc00)
 
 -- The text begins with the rest of a string, up to its closing quote; then its characters, and what follows.
-pub data Content : List ℕ → List ℕ → List ℕ → Type 0 where
-  closes : {c : ℕ} {u : List ℕ} → c ≡ 34 → Content (c ∷ u) [] u
-  plain : {c : ℕ} {t s u : List ℕ} → first ahead unescaped c ≡ true → Content t s u → Content (c ∷ t) (c ∷ s) u
-  short : {b x c : ℕ} {t s u : List ℕ} → b ≡ 92 → short_of x ≡ Some c → Content t s u → Content (b ∷ x ∷ t) (c ∷ s) u
-  scalar : {e f a b c d n : ℕ} {t s u : List ℕ} → e ≡ 92 → f ≡ 117 → unit_of a b c d ≡ Some n → (is_high n || is_low n) ≡ false → Content t s u → Content (e ∷ f ∷ a ∷ b ∷ c ∷ d ∷ t) (encode_utf8 n ++ s) u
-  pair : {e f a b c d h g i j k l m low : ℕ} {t s u : List ℕ} → e ≡ 92 → f ≡ 117 → unit_of a b c d ≡ Some h → is_high h ≡ true → g ≡ 92 → i ≡ 117 → unit_of j k l m ≡ Some low → is_low low ≡ true →
-      Content t s u → Content (e ∷ f ∷ a ∷ b ∷ c ∷ d ∷ g ∷ i ∷ j ∷ k ∷ l ∷ m ∷ t) (encode_utf8 (joined_pair h low) ++ s) u
+pub data CharactersAt : List ℕ → List ℕ → List ℕ → Type 0 where
+  closing_quote : {c : ℕ} {u : List ℕ} → c ≡ 34 → CharactersAt (c ∷ u) [] u
+  unescaped_byte : {c : ℕ} {t s u : List ℕ} → first ahead unescaped c ≡ true → CharactersAt t s u →
+      CharactersAt (c ∷ t) (c ∷ s) u
+  short_escape : {b x c : ℕ} {t s u : List ℕ} → b ≡ 92 → short_of x ≡ Some c → CharactersAt t s u →
+      CharactersAt (b ∷ x ∷ t) (c ∷ s) u
+  unicode_escape : {e f a b c d n : ℕ} {t s u : List ℕ} → e ≡ 92 → f ≡ 117 → code_unit_of a b c d ≡ Some n →
+      (is_high n || is_low n) ≡ false → CharactersAt t s u →
+      CharactersAt (e ∷ f ∷ a ∷ b ∷ c ∷ d ∷ t) (encode_utf8 n ++ s) u
+  surrogate_pair : {e f a b c d h g i j k l m low : ℕ} {t s u : List ℕ} → e ≡ 92 → f ≡ 117 →
+      code_unit_of a b c d ≡ Some h → is_high h ≡ true → g ≡ 92 → i ≡ 117 → code_unit_of j k l m ≡ Some low →
+      is_low low ≡ true → CharactersAt t s u →
+      CharactersAt (e ∷ f ∷ a ∷ b ∷ c ∷ d ∷ g ∷ i ∷ j ∷ k ∷ l ∷ m ∷ t) (encode_utf8 (joined_pair h low) ++ s) u

@@ -5,7 +5,7 @@ use Rattle.grammar.specs.Grammar.{Derives}
 use Rattle.json_span.specs.Grammar.{ws}
 use Rattle.json_span.specs.Steered.{rules}
 use Rattle.json_span.specs.Reading.{StringAt}
-use Rattle.json_span.specs.Plain.{Plain, PlainEntry, plain_array, plain_object, plains_of, plain_members_of}
+use Rattle.json_span.specs.Plain.{PlainValue, PlainEntry, plain_array, plain_object, plains_of, plain_members_of}
 use Rattle.json_span.specs.Says.{Says, SaysText}
 
 -- blanks, or nothing
@@ -13,18 +13,19 @@ abbrev pub Blanks : List ℕ → Type 0
 Blanks t = Derives rules ws t
 
 -- each text says its own value
-pub data Each {V : Type 0} (R : List ℕ → V → Type 0) : List (List ℕ) → List V → Type 0 where
-  no_texts : Each R [] []
-  one_more : {t : List ℕ} {v : V} {ts : List (List ℕ)} {vs : List V} → R t v → Each R ts vs → Each R (t ∷ ts) (v ∷ vs)
+pub data Pointwise {V : Type 0} (R : List ℕ → V → Type 0) : List (List ℕ) → List V → Type 0 where
+  no_texts : Pointwise R [] []
+  one_more : {t : List ℕ} {v : V} {ts : List (List ℕ)} {vs : List V} → R t v → Pointwise R ts vs →
+      Pointwise R (t ∷ ts) (v ∷ vs)
 
 -- the texts, with this between each two
-abbrev pub joined : List ℕ → List (List ℕ) → List ℕ
-joined between ts = join_by (λ t. t) between ts
+abbrev pub separated : List ℕ → List (List ℕ) → List ℕ
+separated between ts = join_by (λ t. t) between ts
 
 -- what stands between two brackets: such texts with a comma between each two, or blanks
 pub data Listed {V : Type 0} (R : List ℕ → V → Type 0) : List ℕ → List V → Type 0 where
-  blank : {t : List ℕ} → Blanks t → Listed R t []
-  by_commas : {ts : List (List ℕ)} {vs : List V} → Each R ts vs → Listed R (joined (44 ∷ []) ts) vs
+  only_blanks : {t : List ℕ} → Blanks t → Listed R t []
+  by_commas : {ts : List (List ℕ)} {vs : List V} → Pointwise R ts vs → Listed R (separated (44 ∷ []) ts) vs
 
 -- a text of a member: the string of its name, a colon, and a text of its value, with blanks around the string
 pub record MemberText {K : Type 0} (num : List ℕ → K) (text : List ℕ) (e : PlainEntry K) : Type 0 where
@@ -47,7 +48,7 @@ pub record Between (opens closes : ℕ) (text inside : List ℕ) : Type 0 where
   pub made : text ≡ lead ++ (opens ∷ (inside ++ (closes ∷ trail)))
 
 -- brackets around texts that say the values, or around texts of the members
-abbrev pub IsArrayText : {K : Type 0} → (List ℕ → K) → List ℕ → List (Plain K) → Type 0
+abbrev pub IsArrayText : {K : Type 0} → (List ℕ → K) → List ℕ → List (PlainValue K) → Type 0
 IsArrayText num text vs = (inside : List ℕ) × Between 91 93 text inside × Listed (SaysText num) inside vs
 
 abbrev pub IsObjectText : {K : Type 0} → (List ℕ → K) → List ℕ → List (PlainEntry K) → Type 0
@@ -55,22 +56,28 @@ IsObjectText num text es = (inside : List ℕ) × Between 123 125 text inside ×
 
 -- a text says an array exactly where it is put together so from texts that say its values
 abbrev pub ArraysAreJoined : Type 0 → Type 0
-ArraysAreJoined K = (num : List ℕ → K) (text : List ℕ) (vs : List (Plain K)) → SaysText num text (plain_array (plains_of vs)) ↔ IsArrayText num text vs
+ArraysAreJoined K = (num : List ℕ → K) (text : List ℕ) (vs : List (PlainValue K)) →
+    SaysText num text (plain_array (plains_of vs)) ↔ IsArrayText num text vs
 
 -- the same of objects and the texts of their members
 abbrev pub ObjectsAreJoined : Type 0 → Type 0
-ObjectsAreJoined K = (num : List ℕ → K) (text : List ℕ) (es : List (PlainEntry K)) → SaysText num text (plain_object (plain_members_of es)) ↔ IsObjectText num text es
+ObjectsAreJoined K = (num : List ℕ → K) (text : List ℕ) (es : List (PlainEntry K)) →
+    SaysText num text (plain_object (plain_members_of es)) ↔ IsObjectText num text es
 
 -- what is put together so says the array or the object before whatever follows
 abbrev pub ArraysSayBefore : Type 0 → Type 0
-ArraysSayBefore K = (num : List ℕ → K) (inside : List ℕ) (vs : List (Plain K)) → Listed (SaysText num) inside vs → (rest : List ℕ) → Says num (91 ∷ (inside ++ (93 ∷ rest))) (plain_array (plains_of vs)) rest
+ArraysSayBefore K = (num : List ℕ → K) (inside : List ℕ) (vs : List (PlainValue K)) → Listed (SaysText num) inside vs →
+    (rest : List ℕ) → Says num (91 ∷ (inside ++ (93 ∷ rest))) (plain_array (plains_of vs)) rest
 
 abbrev pub ObjectsSayBefore : Type 0 → Type 0
-ObjectsSayBefore K = (num : List ℕ → K) (inside : List ℕ) (es : List (PlainEntry K)) → Listed (MemberText num) inside es → (rest : List ℕ) → Says num (123 ∷ (inside ++ (125 ∷ rest))) (plain_object (plain_members_of es)) rest
+ObjectsSayBefore K = (num : List ℕ → K) (inside : List ℕ) (es : List (PlainEntry K)) →
+    Listed (MemberText num) inside es → (rest : List ℕ) →
+    Says num (123 ∷ (inside ++ (125 ∷ rest))) (plain_object (plain_members_of es)) rest
 
 -- blanks may stand before the first text, behind each comma, and behind the last text
 abbrev pub ListsMayBeSpaced : {V : Type 0} → (List ℕ → V → Type 0) → Type 0
-ListsMayBeSpaced {V} R = (first comma last : List ℕ) (ts : List (List ℕ)) (vs : List V) → Blanks first → Blanks comma → Blanks last → Each R ts vs → Listed R (first ++ (joined (44 ∷ comma) ts ++ last)) vs
+ListsMayBeSpaced {V} R = (first comma last : List ℕ) (ts : List (List ℕ)) (vs : List V) → Blanks first → Blanks comma →
+    Blanks last → Pointwise R ts vs → Listed R (first ++ (separated (44 ∷ comma) ts ++ last)) vs
 
 abbrev pub ArraysMayBeSpaced : Type 0 → Type 0
 ArraysMayBeSpaced K = (num : List ℕ → K) → ListsMayBeSpaced (SaysText num)
@@ -78,6 +85,7 @@ ArraysMayBeSpaced K = (num : List ℕ → K) → ListsMayBeSpaced (SaysText num)
 abbrev pub ObjectsMayBeSpaced : Type 0 → Type 0
 ObjectsMayBeSpaced K = (num : List ℕ → K) → ListsMayBeSpaced (MemberText num)
 
--- what a text begins with is said by its front alone
+-- the prefix that says what a text begins with says it alone
 abbrev pub FrontsSay : Type 0 → Type 0
-FrontsSay K = (num : List ℕ → K) (t u : List ℕ) (v : Plain K) → Says num t v u → (front : List ℕ) × (t ≡ front ++ u) × Says num front v []
+FrontsSay K = (num : List ℕ → K) (t u : List ℕ) (v : PlainValue K) → Says num t v u →
+    (front : List ℕ) × (t ≡ front ++ u) × Says num front v []

@@ -1,12 +1,12 @@
 -- Values whose texts are UTF-8 and whose lists are not long.
 use Rattle.std.specs.Prelude.{◌≡◌, ◌≤◌, ℕ, List, length}
 use Rattle.std.specs.Str.{IsUtf8}
-use Rattle.json_span.specs.Plain.{Plain, plain_null, plain_boolean, plain_number, plain_string, plain_array, plain_object, Plains, no_plains, plains, PlainMembers, no_plain_members, plain_members, plains_in, plain_entries_in}
+use Rattle.json_span.specs.Plain.{PlainValue, plain_null, plain_boolean, plain_number, plain_string, plain_array, plain_object, Plains, no_plains, plains, PlainMembers, no_plain_members, plain_members, plains_in, plain_entries_in}
 use Rattle.json_span.specs.Says.{SaysText}
 
 abbrev mutual
   -- each string and each name is UTF-8, and each array and each object has at most n parts
-  pub FitsIn : {K : Type 0} → ℕ → Plain K → Type 0
+  pub FitsIn : {K : Type 0} → ℕ → PlainValue K → Type 0
   FitsIn n plain_null = Unit {0}
   FitsIn n (plain_boolean b) = Unit {0}
   FitsIn n (plain_number k) = Unit {0}
@@ -24,4 +24,5 @@ abbrev mutual
 
 -- what a text of UTF-8 says has strings and names of UTF-8, and no list in it has more parts than the text has bytes
 abbrev pub SaidFits : Type 0 → Type 0
-SaidFits K = (num : List ℕ → K) (text : List ℕ) (v : Plain K) (n : ℕ) → IsUtf8 text → length text ≤ n → SaysText num text v → FitsIn n v
+SaidFits K = (num : List ℕ → K) (text : List ℕ) (v : PlainValue K) (n : ℕ) → IsUtf8 text → length text ≤ n →
+    SaysText num text v → FitsIn n v

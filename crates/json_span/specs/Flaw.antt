@@ -2,7 +2,7 @@
 use Rattle.std.specs.Prelude.{ℕ, zero, suc, ◌+◌, List, [], ◌∷◌, Bool, Option, Some, None, if◌then◌else◌}
 use Rattle.std.specs.List.{list_any}
 use Rattle.std.specs.Str.{bytes_eq}
-use Rattle.json_span.specs.Tree.{Tree, a_null, a_boolean, a_number, a_string, an_array, an_object, Placed, placed, Elements, no_elements, element, Members, no_members, member}
+use Rattle.json_span.specs.Tree.{Tree, a_null, a_boolean, a_number, a_string, an_array, an_object, Placed, placed, Elements, no_elements, an_element, Members, no_members, a_member}
 
 -- each with the offsets of the name's string, or of the bracket
 pub data Flaw : Type 0 where
@@ -38,13 +38,14 @@ abbrev mutual
 
   pub flaw_in_elements : ℕ → Elements → Option Flaw
   flaw_in_elements room no_elements = None
-  flaw_in_elements room (element n ns) = or_else (flaw_in room n) (flaw_in_elements room ns)
+  flaw_in_elements room (an_element n ns) = or_else (flaw_in room n) (flaw_in_elements room ns)
 
   -- with the names that stand before
   pub flaw_in_members : ℕ → List (List ℕ) → Members → Option Flaw
   flaw_in_members room names no_members = None
-  flaw_in_members room names (member s start end n ms) =
-      if is_seen names s then Some (equal_names start end) else or_else (flaw_in room n) (flaw_in_members room (s ∷ names) ms)
+  flaw_in_members room names (a_member s start end n ms) =
+      if is_seen names s then Some (equal_names start end)
+      else or_else (flaw_in room n) (flaw_in_members room (s ∷ names) ms)
 
 -- the first flaw of a text's value
 abbrev pub first_flaw : Placed → Option Flaw

@@ -6,7 +6,7 @@ use Rattle.json_span.specs.Grammar.{grammar, json_text}
 use Rattle.json_span.specs.Tree.{Placed, start_of, end_of}
 use Rattle.json_span.specs.Reading.{Shows}
 use Rattle.json_span.specs.Answer.{Answer, IsAnswer}
-use Rattle.json_span.specs.Plain.{Plain}
+use Rattle.json_span.specs.Plain.{PlainValue}
 use Rattle.json_span.specs.Parts.{IsPart}
 use Rattle.json_span.specs.Says.{Says, SaysText, plain_of}
 
@@ -15,8 +15,9 @@ abbrev pub TextsShow : Type 0
 TextsShow = (text : List ℕ) → Derives grammar json_text text ↔ ((n : Placed) × Shows text n)
 
 -- a text is a front of a JSON text exactly where some text goes on from it to a JSON text
-abbrev pub FrontsArePrefixes : Type 0
-FrontsArePrefixes = (text : List ℕ) → IsFront grammar json_text text ↔ ((rest : List ℕ) × Derives grammar json_text (text ++ rest))
+abbrev pub TextFrontsArePrefixes : Type 0
+TextFrontsArePrefixes = (text : List ℕ) →
+    IsFront grammar json_text text ↔ ((rest : List ℕ) × Derives grammar json_text (text ++ rest))
 
 -- a front goes on by ASCII alone, to a JSON text that is UTF-8 where the front is
 pub record GoesOn (text : List ℕ) : Type 0 where
@@ -45,15 +46,18 @@ abbrev pub ShowsSay : Type 0 → Type 0
 ShowsSay K = (num : List ℕ → K) (text : List ℕ) (n : Placed) → Shows text n → SaysText num text (plain_of num n)
 
 abbrev pub SaysBefore : Type 0 → Type 0
-SaysBefore K = (num : List ℕ → K) (t u : List ℕ) (v : Plain K) → Says num t v u → (rest : List ℕ) → Says num (t ++ rest) v (u ++ rest)
+SaysBefore K = (num : List ℕ → K) (t u : List ℕ) (v : PlainValue K) → Says num t v u → (rest : List ℕ) →
+    Says num (t ++ rest) v (u ++ rest)
 
 -- what a text says it shows, and it says one value
 abbrev pub SaysShow : Type 0 → Type 0
-SaysShow K = (num : List ℕ → K) (text : List ℕ) (v : Plain K) → SaysText num text v → (n : Placed) × Shows text n × (plain_of num n ≡ v)
+SaysShow K = (num : List ℕ → K) (text : List ℕ) (v : PlainValue K) → SaysText num text v →
+    (n : Placed) × Shows text n × (plain_of num n ≡ v)
 
 abbrev pub SaysOne : Type 0 → Type 0
-SaysOne K = (num : List ℕ → K) (text : List ℕ) (v w : Plain K) → SaysText num text v → SaysText num text w → v ≡ w
+SaysOne K = (num : List ℕ → K) (text : List ℕ) (v w : PlainValue K) → SaysText num text v → SaysText num text w → v ≡ w
 
 -- the slice of a part says what the part is without places
 abbrev pub SlicesSay : Type 0 → Type 0
-SlicesSay K = (num : List ℕ → K) (text : List ℕ) (root n : Placed) → Shows text root → IsPart n root → SaysText num (slice_range text (start_of n) (end_of n)) (plain_of num n)
+SlicesSay K = (num : List ℕ → K) (text : List ℕ) (root n : Placed) → Shows text root → IsPart n root →
+    SaysText num (slice_range text (start_of n) (end_of n)) (plain_of num n)

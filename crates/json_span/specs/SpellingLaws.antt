@@ -3,7 +3,7 @@ use Rattle.std.specs.Prelude.{◌≡◌, ℕ, List, ◌∷◌, ◌++◌, true}
 use Rattle.std.specs.List.{join_by, list_all}
 use Rattle.json_span.specs.Reading.{StringAt}
 use Rattle.json_span.specs.Spelling.{inside_text, string_text, are_bytes, are_plain}
-use Rattle.json_span.specs.Composing.{joined}
+use Rattle.json_span.specs.Composing.{separated}
 
 -- what is written for a string reads back as this string, whatever follows
 abbrev pub StringsReadBack : Type 0
@@ -19,9 +19,11 @@ InsidesFollow = (s t : List ℕ) → inside_text (s ++ t) ≡ inside_text s ++ i
 
 -- insides with plain bytes between each two are that of the joined strings
 abbrev pub InsidesJoin : Type 0
-InsidesJoin = (between : List ℕ) (names : List (List ℕ)) → are_plain between ≡ true → join_by inside_text between names ≡ inside_text (joined between names)
+InsidesJoin = (between : List ℕ) (names : List (List ℕ)) → are_plain between ≡ true →
+    join_by inside_text between names ≡ inside_text (separated between names)
 
 -- and so they read back, between quotes, as the joined strings
 abbrev pub JoinedReadBack : Type 0
-JoinedReadBack = (between : List ℕ) (names : List (List ℕ)) (u : List ℕ) → are_plain between ≡ true → are_bytes between ≡ true → list_all are_bytes names ≡ true →
-    StringAt (34 ∷ (join_by inside_text between names ++ (34 ∷ u))) (joined between names) u
+JoinedReadBack = (between : List ℕ) (names : List (List ℕ)) (u : List ℕ) → are_plain between ≡ true →
+    are_bytes between ≡ true → list_all are_bytes names ≡ true →
+    StringAt (34 ∷ (join_by inside_text between names ++ (34 ∷ u))) (separated between names) u

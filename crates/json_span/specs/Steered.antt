@@ -18,30 +18,32 @@ abbrev pub close_of : Bracket → ℕ
 close_of square = 93
 close_of curly = 125
 
-abbrev pub token : ℕ → Rule Name
-token c = seq (one c) ws
+abbrev pub symbol : ℕ → Rule Name
+symbol c = seq (one c) ws
 
 -- what stands before a value of the list: in an object a name and a colon
 abbrev pub before_of : Bracket → Rule Name
 before_of square = empty
-before_of curly = seq (named string) (seq ws (token 58))
+before_of curly = seq (named string) (seq ws (symbol 58))
 
-abbrev pub item_of : Bracket → Rule Name
-item_of b = seq (before_of b) (seq (named value) ws)
+abbrev pub list_item_of : Bracket → Rule Name
+list_item_of b = seq (before_of b) (seq (named value) ws)
 
 -- behind a value of the list
 abbrev pub more_of : Bracket → Rule Name
-more_of b = seq (many (seq (token 44) (item_of b))) (one (close_of b))
+more_of b = seq (many (seq (symbol 44) (list_item_of b))) (one (close_of b))
 
 -- behind the open bracket
 abbrev pub inside_of : Bracket → Rule Name
-inside_of b = alt (one (close_of b)) (seq (item_of b) (more_of b))
+inside_of b = alt (one (close_of b)) (seq (list_item_of b) (more_of b))
 
 abbrev pub list_of : Bracket → Rule Name
-list_of b = seq (token (open_of b)) (inside_of b)
+list_of b = seq (symbol (open_of b)) (inside_of b)
 
 abbrev pub rules : Name → Rule Name
-rules value = alt false_word (alt null_word (alt true_word (alt (list_of curly) (alt (list_of square) (alt (named number) (named string))))))
+rules value =
+    alt false_word (alt null_word (alt true_word (alt (list_of curly) (alt (list_of square)
+    (alt (named number) (named string))))))
 rules number = number_rule
 rules string = string_rule
 
@@ -50,7 +52,8 @@ json = seq ws (seq (named value) ws)
 
 -- the bytes with which each named rule begins
 abbrev pub firsts_of : Name → Ranges
-firsts_of value = (102, 102) ∷ (110, 110) ∷ (116, 116) ∷ (123, 123) ∷ (91, 91) ∷ (45, 45) ∷ (48, 48) ∷ (49, 57) ∷ (34, 34) ∷ []
+firsts_of value =
+    (102, 102) ∷ (110, 110) ∷ (116, 116) ∷ (123, 123) ∷ (91, 91) ∷ (45, 45) ∷ (48, 48) ∷ (49, 57) ∷ (34, 34) ∷ []
 firsts_of number = (45, 45) ∷ (48, 48) ∷ (49, 57) ∷ []
 firsts_of string = (34, 34) ∷ []
 

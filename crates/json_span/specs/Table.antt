@@ -2,8 +2,9 @@
 use Rattle.std.specs.Prelude.{◌≡◌, ℕ, ◌+◌, ◌≤◌, List, [], ◌∷◌, ◌++◌, take, drop, slice_get, slice_range, Bool, Some, option_map, cond}
 use Rattle.std.specs.Str.{IsCharBoundary}
 use Rattle.json_span.specs.Reading.{StringAt}
-use Rattle.json_span.specs.Tree.{Tree, a_null, a_boolean, a_number, a_string, an_array, an_object, Placed, placed, Elements, no_elements, element, Members, no_members, member, Entry}
+use Rattle.json_span.specs.Tree.{Tree, a_null, a_boolean, a_number, a_string, an_array, an_object, Placed, placed, Elements, no_elements, an_element, Members, no_members, a_member, Entry}
 use Rattle.json_span.specs.Types.{type_of, type_of_byte}
+use Rattle.json_span.specs.declared.table.Document.{Document}
 use Rattle.json_span.specs.declared.table.Span.{Span}
 
 -- how many values there are, with the value itself
@@ -21,11 +22,11 @@ abbrev mutual
 
   pub sizes : Elements → ℕ
   sizes no_elements = 0
-  sizes (element n ns) = size n + sizes ns
+  sizes (an_element n ns) = size n + sizes ns
 
   pub member_sizes : Members → ℕ
   member_sizes no_members = 0
-  member_sizes (member s a z n ms) = size n + member_sizes ms
+  member_sizes (a_member s a z n ms) = size n + member_sizes ms
 
 abbrev pub span : ℕ → ℕ → ℕ → ℕ → ℕ → Span
 span name name_end start end next = record { name = name; name_end = name_end; start = start; end = end; next = next }
@@ -45,11 +46,11 @@ abbrev mutual
 
   pub spans_of : ℕ → Elements → List Span
   spans_of i no_elements = []
-  spans_of i (element n ns) = spans 0 0 i n ++ spans_of (i + size n) ns
+  spans_of i (an_element n ns) = spans 0 0 i n ++ spans_of (i + size n) ns
 
   pub member_spans : ℕ → Members → List Span
   member_spans i no_members = []
-  member_spans i (member s a z n ms) = spans a z i n ++ member_spans (i + size n) ms
+  member_spans i (a_member s a z n ms) = spans a z i n ++ member_spans (i + size n) ms
 
 abbrev pub truth_byte : Bool → ℕ
 truth_byte b = cond b 116 102
@@ -57,8 +58,9 @@ truth_byte b = cond b 116 102
 abbrev pub HasType : List ℕ → ℕ → Tree → Type 0
 HasType text start v = option_map type_of_byte (slice_get text start) ≡ Some (type_of v)
 
-abbrev pub IsNumber : List ℕ → ℕ → ℕ → List ℕ → Type 0
-IsNumber text start end k = (slice_range text start end ≡ k) × (start ≤ end) × (IsCharBoundary text start × IsCharBoundary text end)
+abbrev pub IsNumberSlice : List ℕ → ℕ → ℕ → List ℕ → Type 0
+IsNumberSlice text start end k =
+    (slice_range text start end ≡ k) × (start ≤ end) × (IsCharBoundary text start × IsCharBoundary text end)
 
 abbrev pub IsString : List ℕ → ℕ → List ℕ → ℕ → Type 0
 IsString text start s end = ∥ StringAt (drop start text) s (drop end text) ∥₁
@@ -74,18 +76,18 @@ abbrev mutual
   pub FitsAt : List ℕ → ℕ → ℕ → Tree → Type 0
   FitsAt text start end a_null = Unit {0}
   FitsAt text start end (a_boolean b) = slice_get text start ≡ Some (truth_byte b)
-  FitsAt text start end (a_number k) = IsNumber text start end k
+  FitsAt text start end (a_number k) = IsNumberSlice text start end k
   FitsAt text start end (a_string s) = IsString text start s end
   FitsAt text start end (an_array ns) = AllFit text ns
   FitsAt text start end (an_object ms) = MembersFit text ms
 
   pub AllFit : List ℕ → Elements → Type 0
   AllFit text no_elements = Unit {0}
-  AllFit text (element n ns) = Fits text n × AllFit text ns
+  AllFit text (an_element n ns) = Fits text n × AllFit text ns
 
   pub MembersFit : List ℕ → Members → Type 0
   MembersFit text no_members = Unit {0}
-  MembersFit text (member s a z n ms) = IsString text a s z × Fits text n × MembersFit text ms
+  MembersFit text (a_member s a z n ms) = IsString text a s z × Fits text n × MembersFit text ms
 
 -- The value stands in the table from this place on, under the name at these offsets.
 abbrev pub Lies : List ℕ → List Span → ℕ → ℕ → ℕ → Placed → Type 0
@@ -95,7 +97,8 @@ abbrev pub AllLie : List ℕ → List Span → ℕ → ℕ → Elements → Type
 AllLie text table i stop ns = (take (sizes ns) (drop i table) ≡ spans_of i ns) × (stop ≡ i + sizes ns) × AllFit text ns
 
 abbrev pub MembersLie : List ℕ → List Span → ℕ → ℕ → Members → Type 0
-MembersLie text table i stop ms = (take (member_sizes ms) (drop i table) ≡ member_spans i ms) × (stop ≡ i + member_sizes ms) × MembersFit text ms
+MembersLie text table i stop ms =
+    (take (member_sizes ms) (drop i table) ≡ member_spans i ms) × (stop ≡ i + member_sizes ms) × MembersFit text ms
 
 -- A member whose value stands at this place.
 abbrev pub MemberLies : List ℕ → List Span → ℕ → Entry → Type 0
@@ -113,3 +116,28 @@ AllStanding text table i stop = (ns : Elements) × AllLie text table i stop ns
 
 abbrev pub MembersStanding : List ℕ → List Span → ℕ → ℕ → Type 0
 MembersStanding text table i stop = (ms : Members) × MembersLie text table i stop ms
+
+-- The same in a document: its text, and its table.
+abbrev pub LiesIn : Document → ℕ → ℕ → ℕ → Placed → Type 0
+LiesIn d a z at t = Lies d.text.now d.nodes.items a z at t
+
+abbrev pub MemberLiesIn : Document → ℕ → Entry → Type 0
+MemberLiesIn d at e = MemberLies d.text.now d.nodes.items at e
+
+abbrev pub AllLieIn : Document → ℕ → ℕ → Elements → Type 0
+AllLieIn d at stop ns = AllLie d.text.now d.nodes.items at stop ns
+
+abbrev pub MembersLieIn : Document → ℕ → ℕ → Members → Type 0
+MembersLieIn d at stop ms = MembersLie d.text.now d.nodes.items at stop ms
+
+abbrev pub ValueIn : Document → ℕ → Type 0
+ValueIn d at = Standing d.text.now d.nodes.items at
+
+abbrev pub MemberIn : Document → ℕ → Type 0
+MemberIn d at = MemberStanding d.text.now d.nodes.items at
+
+abbrev pub ElementsIn : Document → ℕ → ℕ → Type 0
+ElementsIn d at stop = AllStanding d.text.now d.nodes.items at stop
+
+abbrev pub MembersIn : Document → ℕ → ℕ → Type 0
+MembersIn d at stop = MembersStanding d.text.now d.nodes.items at stop

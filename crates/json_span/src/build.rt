@@ -5,14 +5,14 @@ ghost use Rattle.grammar.specs.Grammar.{named};
 ghost use Rattle.grammar.specs.Predict.{begins, first};
 ghost use Rattle.json_span.specs.Grammar.{value};
 ghost use Rattle.json_span.specs.Steered.{ahead, list_of, square, curly};
-ghost use Rattle.json_span.specs.Kinds.{bracket_of};
-ghost use Rattle.json_span.specs.Scan.{Reaches};
-ghost use Rattle.json_span.specs.Skipping.{StopsAt};
-ghost use Rattle.json_span.specs.Building.{GoesOn, Gives, Opens, HaltsBehind, IsSmall, IsClosed, end_of_built};
+ghost use Rattle.json_span.specs.inner.Alternatives.{bracket_of};
+ghost use Rattle.json_span.specs.inner.Scan.{ReadsTo};
+ghost use Rattle.json_span.specs.inner.Skipping.{StopsAt};
+ghost use Rattle.json_span.specs.inner.Building.{IsNext, IsBuilt, Opens, HaltsBehind, IsSmall, IsClosed, end_of_built};
 
+use crate::alternative::{Alternative, Bracket, alternative_at};
 use crate::bytes::{Class, has, row_end};
 use crate::flaw::Flaw;
-use crate::kind::{Bracket, Kind, kind_at};
 use crate::names::{NameSpan, close_names, read_name};
 use crate::scan::{blanks_end, number_end};
 use crate::skip::{colon_end, list_end, scalar_end, value_end};
@@ -52,7 +52,7 @@ enum Next {
 // Reads on behind a value of a list.
 fn next_of(text: &str, at: usize, bracket: Bracket) -> Result<Next, usize>
     requires { at ≤ length text.now }
-    ensures ok { IfOk result (λ n. GoesOn (bracket_of bracket) text.now at n) }
+    ensures ok { IfOk result (λ n. IsNext (bracket_of bracket) text.now at n) }
     ensures stop { IfErr result (λ s. HaltsBehind (bracket_of bracket) text.now at s) }
 {
     let behind = blanks_end(text, at);
@@ -93,12 +93,12 @@ pub(crate) fn build_value(
 ) -> Result<Built, Stop>
     requires within { at ≤ length text.now }
     requires small { IsSmall text.now at nodes.old.items }
-    ensures ok { IfOk result (λ b. Gives text.now at room name name_end nodes.old.items nodes.new.items b) }
+    ensures ok { IfOk result (λ b. IsBuilt text.now at room name name_end nodes.old.items nodes.new.items b) }
     ensures names { OnOk result (names.new.items ≡ names.old.items) }
     ensures stop { IfErr result (λ e. StopsAt (named value) text.now at e) }
 {
-    match kind_at(text, at) {
-        Some(Kind::Scalar(scalar)) => {
+    match alternative_at(text, at) {
+        Some(Alternative::Scalar(scalar)) => {
             let end = scalar_end(text, at, scalar)?;
             let next = (nodes.len() + 1) as u32;
             nodes.push(Span {
@@ -110,7 +110,7 @@ pub(crate) fn build_value(
             })?;
             Ok(Built::Whole(end))
         }
-        Some(Kind::List(bracket)) => {
+        Some(Alternative::List(bracket)) => {
             build_list(alloc, text, at, bracket, room, name, name_end, nodes, names)
         }
         None => Err(Stop::Syntax(at)),
@@ -133,7 +133,7 @@ fn build_list(
     requires within { at < length text.now }
     requires opens { begins (first ahead (list_of (bracket_of bracket))) (drop at text.now) ≡ true }
     requires small { IsSmall text.now at nodes.old.items }
-    ensures ok { IfOk result (λ b. Gives text.now at room name name_end nodes.old.items nodes.new.items b) }
+    ensures ok { IfOk result (λ b. IsBuilt text.now at room name name_end nodes.old.items nodes.new.items b) }
     ensures names { OnOk result (names.new.items ≡ names.old.items) }
     ensures stop { IfErr result (λ e. StopsAt (named value) text.now at e) }
 {
@@ -199,7 +199,7 @@ fn build_array(
 ) -> Result<Built, Stop>
     requires opens { Opens square text.now at inner }
     requires small { IsSmall text.now at nodes.old.items }
-    ensures ok { IfOk result (λ b. Gives text.now at (room + 1) name name_end nodes.old.items nodes.new.items b) }
+    ensures ok { IfOk result (λ b. IsBuilt text.now at (room + 1) name name_end nodes.old.items nodes.new.items b) }
     ensures names { OnOk result (names.new.items ≡ names.old.items) }
     ensures stop { IfErr result (λ e. StopsAt (named value) text.now at e) }
 {
@@ -245,7 +245,7 @@ fn build_object(
 ) -> Result<Built, Stop>
     requires opens { Opens curly text.now at inner }
     requires small { IsSmall text.now at nodes.old.items }
-    ensures ok { IfOk result (λ b. Gives text.now at (room + 1) name name_end nodes.old.items nodes.new.items b) }
+    ensures ok { IfOk result (λ b. IsBuilt text.now at (room + 1) name name_end nodes.old.items nodes.new.items b) }
     ensures names { OnOk result (names.new.items ≡ names.old.items) }
     ensures stop { IfErr result (λ e. StopsAt (named value) text.now at e) }
 {

@@ -4,7 +4,7 @@ ghost use Rattle.std.specs.Prelude.{◌≡◌, ◌<◌, ◌≤◌, length, drop,
 ghost use Rattle.std.specs.Bool.{OnTrue};
 ghost use Rattle.grammar.specs.Predict.{first, begins};
 ghost use Rattle.json_span.specs.Steered.{ahead};
-ghost use Rattle.json_span.specs.Scan.{rule_of, row_of, Scans};
+ghost use Rattle.json_span.specs.inner.Scan.{rule_of, row_of, Scans};
 
 /// A class of bytes.
 #[derive(Clone, Copy, Debug)]

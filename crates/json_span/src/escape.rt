@@ -1,12 +1,14 @@
 //! What the escapes of a string stand for (RFC 8259 section 7).
 
-ghost use Rattle.std.specs.Prelude.{◌≡◌, ◌+◌, ◌-◌, ◌^◌, ◌<◌, ◌≤◌, ℕ, List, Some, true, false, length, get_or};
+ghost use Rattle.std.specs.Prelude.{◌≡◌, ◌+◌, ◌-◌, ◌^◌, ◌<◌, ◌≤◌, ℕ, List, Some, true, false};
+ghost use Rattle.std.specs.Prelude.{length, get_or};
 ghost use Rattle.std.specs.Char.{digit_value, IsScalar};
 ghost use Rattle.grammar.specs.Predict.{first};
 ghost use Rattle.json_span.specs.Grammar.{hex};
 ghost use Rattle.json_span.specs.Steered.{ahead};
-ghost use Rattle.json_span.specs.Characters.{short_of, unit_of, is_high, is_low, joined_pair, Content};
-ghost use Rattle.json_span.specs.Escapes.{BeginsEscape, Stands};
+ghost use Rattle.json_span.specs.Characters.{short_of, code_unit_of, is_high, is_low, joined_pair};
+ghost use Rattle.json_span.specs.Characters.{CharactersAt};
+ghost use Rattle.json_span.specs.inner.Escapes.{BeginsEscape, StandsFor};
 
 /// A character, and how many bytes its escape takes.
 #[derive(Clone, Copy, Debug)]
@@ -31,7 +33,7 @@ fn hex_value(byte: u8) -> u32
 // The number of four hexadecimal digits.
 fn unit_at(text: &[u8], at: usize) -> u32
     requires { at + 4 ≤ length text.now }
-    ensures value { (n : ℕ) → unit_of (get_or text.now at 0) (get_or text.now (at + 1) 0) (get_or text.now (at + 2) 0) (get_or text.now (at + 3) 0) ≡ Some n → result ≡ n }
+    ensures value { (n : ℕ) → code_unit_of (get_or text.now at 0) (get_or text.now (at + 1) 0) (get_or text.now (at + 2) 0) (get_or text.now (at + 3) 0) ≡ Some n → result ≡ n }
     ensures small { result < 65536 }
 {
     let first = hex_value(text[at]);
@@ -74,7 +76,7 @@ fn character(code: u32) -> char
 /// What the escape stands for with which the text begins.
 pub(crate) fn read_escape(text: &[u8]) -> Escaped
     requires { BeginsEscape text.now }
-    ensures stands { Stands text.now result.character result.len }
+    ensures stands { StandsFor text.now result.character result.len }
     ensures within { result.len ≤ length text.now }
     ensures some { 0 < result.len }
     ensures ascii { get_or text.now (result.len - 1) 0 < 128 }

@@ -1,8 +1,8 @@
 //! The members of objects.
 
 ghost use Rattle.std.specs.Prelude.{◌≡◌, length, IfOk, option_map};
-ghost use Rattle.json_span.specs.Table.{MembersStanding, MembersLie, MemberStanding, MemberLies};
-ghost use Rattle.json_span.specs.Once.{members_standing_prop, member_standing_prop};
+ghost use Rattle.json_span.specs.Table.{MembersIn, MembersLieIn, MemberIn, MemberLiesIn};
+ghost use Rattle.json_span.specs.inner.Once.{members_once, member_once};
 
 use crate::node_ref::{NodeRef, span_at};
 use crate::table::Document;
@@ -17,7 +17,7 @@ pub struct Fields<'d, 's> {
     document: &'d Rc<Document<'s>>,
     at: usize,
     stop: usize,
-    pub ghost stand: { MembersStanding document.now.value.text.now document.now.value.nodes.items at stop } by { members_standing_prop document.now.value.text.now document.now.value.nodes.items at stop },
+    pub ghost stand: { MembersIn document.now.value at stop } by { members_once _ _ at stop },
 }
 
 /// A member: its name, the byte offsets of the name's string, and its value.
@@ -25,17 +25,17 @@ pub struct Fields<'d, 's> {
 pub struct Field<'d, 's> {
     document: &'d Rc<Document<'s>>,
     at: usize,
-    pub ghost stands: { MemberStanding document.now.value.text.now document.now.value.nodes.items at } by { member_standing_prop document.now.value.text.now document.now.value.nodes.items at },
+    pub ghost stands: { MemberIn document.now.value at } by { member_once _ _ at },
 }
 
 impl<'d, 's> Fields<'d, 's> {
-    ghost use Rattle.json_span.specs.Tree.{Members, entries_in, under};
+    ghost use Rattle.json_span.specs.Tree.{Members, entries_in, value_of_name};
     ghost use Rattle.json_span.specs.View.{ref_view, fields_view};
 
     // The members from this place to the other.
     pub(crate) fn new(document: &'d Rc<Document<'s>>, at: usize, stop: usize) -> Fields<'d, 's>
-        requires { MembersStanding document.now.value.text.now document.now.value.nodes.items at stop }
-        ensures { (ms : Members) → MembersLie document.entry.now.value.text.now document.entry.now.value.nodes.items at stop ms → fields_view result ≡ entries_in ms }
+        requires { MembersIn document.now.value at stop }
+        ensures { (ms : Members) → MembersLieIn document.entry.now.value at stop ms → fields_view result ≡ entries_in ms }
     {
         Fields { document, at, stop }
     }
@@ -53,7 +53,7 @@ impl<'d, 's> Fields<'d, 's> {
 
     /// The value of the first member of this name; none where there is no such member.
     pub fn get(&self, name: &str) -> Option<NodeRef<'d, 's>>
-        ensures { option_map ref_view result ≡ under name.now (fields_view self.now) }
+        ensures { option_map ref_view result ≡ value_of_name name.now (fields_view self.now) }
     {
         for field in *self {
             if field.is_named(name) {
@@ -93,8 +93,8 @@ impl<'d, 's> Field<'d, 's> {
 
     // The member whose value stands at this place.
     fn new(document: &'d Rc<Document<'s>>, at: usize) -> Field<'d, 's>
-        requires { MemberStanding document.now.value.text.now document.now.value.nodes.items at }
-        ensures { (e : Entry) → MemberLies document.entry.now.value.text.now document.entry.now.value.nodes.items at e → field_view result ≡ e }
+        requires { MemberIn document.now.value at }
+        ensures { (e : Entry) → MemberLiesIn document.entry.now.value at e → field_view result ≡ e }
     {
         Field { document, at }
     }

@@ -1,8 +1,8 @@
 //! The elements of arrays.
 
 ghost use Rattle.std.specs.Prelude.{◌≡◌, length};
-ghost use Rattle.json_span.specs.Table.{AllStanding, AllLie};
-ghost use Rattle.json_span.specs.Once.{all_standing_prop};
+ghost use Rattle.json_span.specs.Table.{ElementsIn, AllLieIn};
+ghost use Rattle.json_span.specs.inner.Once.{elements_once};
 
 use crate::node_ref::{NodeRef, span_at};
 use crate::table::Document;
@@ -14,7 +14,7 @@ pub struct Items<'d, 's> {
     document: &'d Rc<Document<'s>>,
     at: usize,
     stop: usize,
-    pub ghost stand: { AllStanding document.now.value.text.now document.now.value.nodes.items at stop } by { all_standing_prop document.now.value.text.now document.now.value.nodes.items at stop },
+    pub ghost stand: { ElementsIn document.now.value at stop } by { elements_once _ _ at stop },
 }
 
 impl<'d, 's> Items<'d, 's> {
@@ -23,8 +23,8 @@ impl<'d, 's> Items<'d, 's> {
 
     // The values from this place to the other.
     pub(crate) fn new(document: &'d Rc<Document<'s>>, at: usize, stop: usize) -> Items<'d, 's>
-        requires { AllStanding document.now.value.text.now document.now.value.nodes.items at stop }
-        ensures { (ns : Elements) → AllLie document.entry.now.value.text.now document.entry.now.value.nodes.items at stop ns → items_view result ≡ elements_in ns }
+        requires { ElementsIn document.now.value at stop }
+        ensures { (ns : Elements) → AllLieIn document.entry.now.value at stop ns → items_view result ≡ elements_in ns }
     {
         Items { document, at, stop }
     }

@@ -1,13 +1,14 @@
 //! JSON texts as trees with spans (RFC 8259).
 #![tactic(auto)]
 
+mod alternative;
 mod build;
 mod bytes;
+mod copying;
 mod escape;
 mod fields;
 mod flaw;
 mod items;
-mod kind;
 mod laws;
 mod names;
 mod node;

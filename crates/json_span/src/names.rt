@@ -1,14 +1,15 @@
 //! The names of an object, and the first one that repeats another.
 
-ghost use Rattle.std.specs.Prelude.{◌≡◌, ◌≤◌, ◌<◌, ◌^◌, List, [], length, take, drop, slice_get, Some, IfOk, IfErr, OnOk};
+ghost use Rattle.std.specs.Prelude.{◌≡◌, ◌≤◌, ◌<◌, ◌^◌, List, [], length, take, drop, slice_get};
+ghost use Rattle.std.specs.Prelude.{Some, IfOk, IfErr, OnOk};
 ghost use Rattle.std.specs.Str.{bytes_eq};
 ghost use Rattle.grammar.specs.Grammar.{named};
 ghost use Rattle.json_span.specs.Grammar.{string};
 ghost use Rattle.json_span.specs.Tree.{Entry};
 ghost use Rattle.json_span.specs.Flaw.{equal_names, is_seen};
-ghost use Rattle.json_span.specs.Scan.{Halts};
-ghost use Rattle.json_span.specs.Names.{IsNameAt, IsName, AreNames, names_of};
-ghost use Rattle.json_span.specs.Building.{flaw_view};
+ghost use Rattle.json_span.specs.inner.Scan.{Halts};
+ghost use Rattle.json_span.specs.inner.Names.{IsNameSpan, IsNameOf, AreNamesOf, reversed_names};
+ghost use Rattle.json_span.specs.inner.Building.{flaw_view};
 ghost use Rattle.json_span.specs.inner.NameOrder.{SortsNames, TellsSecond, again_in, least};
 
 use crate::bytes::{Class, has};
@@ -57,7 +58,7 @@ const MOST_PAIRED: usize = 8;
 pub(crate) fn read_name(text: &str, at: usize) -> Result<NameSpan, usize>
     requires within { at ≤ length text.now }
     requires short { length text.now < 2 ^ 32 }
-    ensures ok { IfOk result (λ n. IsNameAt text.now at n) }
+    ensures ok { IfOk result (λ n. IsNameSpan text.now at n) }
     ensures stop { IfErr result (λ e. Halts (named string) text.now at e) }
 {
     if !has(text, at, Class::One(b'"')) {
@@ -82,9 +83,9 @@ pub(crate) fn read_name(text: &str, at: usize) -> Result<NameSpan, usize>
 
 // Whether two names are the same.
 fn are_same(alloc: Global, text: &str, a: NameSpan, b: NameSpan) -> Result<bool, NoMemory>
-    requires first { (e : Entry) × IsName text.now a e }
-    requires second { (e : Entry) × IsName text.now b e }
-    ensures { IfOk result (λ r. (e f : Entry) → IsName text.now a e → IsName text.now b f → r ≡ bytes_eq e.name f.name) }
+    requires first { (e : Entry) × IsNameOf text.now a e }
+    requires second { (e : Entry) × IsNameOf text.now b e }
+    ensures { IfOk result (λ r. (e f : Entry) → IsNameOf text.now a e → IsNameOf text.now b f → r ≡ bytes_eq e.name f.name) }
 {
     if a.is_plain && b.is_plain {
         let bytes = text.as_bytes();
@@ -98,8 +99,8 @@ fn are_same(alloc: Global, text: &str, a: NameSpan, b: NameSpan) -> Result<bool,
 // Whether the i-th name stands before it.
 fn is_before(alloc: Global, text: &str, names: &[NameSpan], i: usize) -> Result<bool, NoMemory>
     requires within { i < length names.now }
-    requires are { (es : List Entry) × AreNames text.now names.now es }
-    ensures { IfOk result (λ b. (es : List Entry) (e : Entry) → AreNames text.now names.now es → slice_get es i ≡ Some e → b ≡ is_seen (names_of (take i es) []) e.name) }
+    requires are { (es : List Entry) × AreNamesOf text.now names.now es }
+    ensures { IfOk result (λ b. (es : List Entry) (e : Entry) → AreNamesOf text.now names.now es → slice_get es i ≡ Some e → b ≡ is_seen (reversed_names (take i es) []) e.name) }
 {
     for k in 0..i {
         if are_same(alloc, text, names[k], names[i])? {
@@ -111,7 +112,7 @@ fn is_before(alloc: Global, text: &str, names: &[NameSpan], i: usize) -> Result<
 
 // The first name that repeats another, each compared with all before it.
 fn flaw_in_pairs(alloc: Global, text: &str, names: &[NameSpan]) -> Result<Option<Flaw>, NoMemory>
-    requires { (es : List Entry) × AreNames text.now names.now es }
+    requires { (es : List Entry) × AreNamesOf text.now names.now es }
     ensures { IfOk result (TellsSecond text.now names.now) }
 {
     for i in 0..names.len() {
@@ -128,7 +129,7 @@ fn sort_names<'s>(
     text: &'s str,
     names: &[NameSpan],
 ) -> Result<Vec<PlacedName<'s>>, NoMemory>
-    requires { (es : List Entry) × AreNames text.now names.now es }
+    requires { (es : List Entry) × AreNamesOf text.now names.now es }
     ensures { IfOk result (λ v. SortsNames text.entry.now names.now v.items) }
 {
     let mut sorted = Vec::with_capacity(alloc, names.len())?;
@@ -169,7 +170,7 @@ fn first_again(sorted: &[PlacedName<'_>]) -> Option<usize>
 
 // The first name that repeats another, by names in order.
 fn flaw_in_order(alloc: Global, text: &str, names: &[NameSpan]) -> Result<Option<Flaw>, NoMemory>
-    requires { (es : List Entry) × AreNames text.now names.now es }
+    requires { (es : List Entry) × AreNamesOf text.now names.now es }
     ensures { IfOk result (TellsSecond text.now names.now) }
 {
     let sorted = sort_names(alloc, text, names)?;
@@ -181,7 +182,7 @@ fn flaw_in_order(alloc: Global, text: &str, names: &[NameSpan]) -> Result<Option
 
 // The first name that repeats another.
 fn flaw_of_names(alloc: Global, text: &str, names: &[NameSpan]) -> Result<Option<Flaw>, NoMemory>
-    requires { (es : List Entry) × AreNames text.now names.now es }
+    requires { (es : List Entry) × AreNamesOf text.now names.now es }
     ensures { IfOk result (TellsSecond text.now names.now) }
 {
     if names.len() <= MOST_PAIRED {
@@ -190,7 +191,7 @@ fn flaw_of_names(alloc: Global, text: &str, names: &[NameSpan]) -> Result<Option
     flaw_in_order(alloc, text, names)
 }
 
-/// Takes off the names from a place on, those of an object, and tells the first one that repeats another.
+/// Takes off the names from a place on, those of an object, and answers the first one that repeats another.
 pub(crate) fn close_names(
     alloc: Global,
     text: &str,
@@ -198,7 +199,7 @@ pub(crate) fn close_names(
     names: &mut Vec<NameSpan>,
 ) -> Result<Option<Flaw>, NoMemory>
     requires within { base ≤ length names.old.items }
-    requires are { (es : List Entry) × AreNames text.now (drop base names.old.items) es }
+    requires are { (es : List Entry) × AreNamesOf text.now (drop base names.old.items) es }
     ensures flaw { IfOk result (TellsSecond text.now (drop base names.old.items)) }
     ensures left { OnOk result (names.new.items ≡ take base names.old.items) }
 {

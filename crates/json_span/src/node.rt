@@ -1,13 +1,15 @@
 //! Values of JSON texts.
 
 ghost use Rattle.std.specs.Prelude.{◌≡◌, ℕ, IfOk, option_map};
-ghost use Rattle.json_span.specs.Tree.{Placed, tree_of, start_of, end_of, is_null, boolean_in, number_in, string_in, array_in, object_in};
-ghost use Rattle.json_span.specs.Table.{Standing, Lies};
-ghost use Rattle.json_span.specs.Once.{standing_prop};
+ghost use Rattle.json_span.specs.Tree.{Placed, tree_of, start_of, end_of, is_null, boolean_in};
+ghost use Rattle.json_span.specs.Tree.{number_in, string_in, array_in, object_in};
+ghost use Rattle.json_span.specs.Table.{ValueIn, LiesIn};
+ghost use Rattle.json_span.specs.inner.Once.{value_once};
 
 use crate::fields::Fields;
 use crate::items::Items;
 use crate::node_ref::NodeRef;
+use crate::plain::Plain;
 use crate::table::Document;
 use crate::value_type::ValueType;
 use std::alloc::Global;
@@ -20,17 +22,19 @@ use tk_io::{NoMemory, Text};
 pub struct Node<'s> {
     document: Rc<Document<'s>>,
     at: usize,
-    pub ghost stands: { Standing document.value.text.now document.value.nodes.items at } by { standing_prop document.value.text.now document.value.nodes.items at },
+    pub ghost stands: { ValueIn document.value at } by { value_once _ _ at },
 }
 
 impl<'s> Node<'s> {
     ghost use Rattle.json_span.specs.Types.{type_of};
     ghost use Rattle.json_span.specs.View.{node_view, ref_view, items_view, fields_view};
+    ghost use Rattle.json_span.specs.Says.{plain_of};
+    ghost use Rattle.json_span.specs.PlainView.{plain_view, as_spelled};
 
     // The value that stands at this place.
     pub(crate) fn new(document: Rc<Document<'s>>, at: usize) -> Node<'s>
-        requires { Standing document.value.text.now document.value.nodes.items at }
-        ensures { (a z : ℕ) (t : Placed) → Lies document.entry.value.text.now document.entry.value.nodes.items a z at t → node_view result ≡ t }
+        requires { ValueIn document.value at }
+        ensures { (a z : ℕ) (t : Placed) → LiesIn document.entry.value a z at t → node_view result ≡ t }
     {
         Node { document, at }
     }
@@ -111,5 +115,12 @@ impl<'s> Node<'s> {
         ensures { option_map fields_view result ≡ object_in (tree_of (node_view self.now)) }
     {
         self.as_ref().as_object()
+    }
+
+    /// The same value without the places where its parts stand.
+    pub fn to_plain(&self, alloc: Global) -> Result<Plain<'s>, NoMemory>
+        ensures { IfOk result (λ p. plain_view p ≡ plain_of as_spelled (node_view self.now)) }
+    {
+        self.as_ref().to_plain(alloc)
     }
 }

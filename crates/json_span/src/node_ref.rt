@@ -1,13 +1,16 @@
 //! Values of JSON texts, borrowed.
 
 ghost use Rattle.std.specs.Prelude.{◌≡◌, ℕ, ◌+◌, Some, IfOk, option_map, slice_get};
-ghost use Rattle.json_span.specs.Tree.{Placed, tree_of, start_of, end_of, is_null, boolean_in, number_in, string_in, array_in, object_in};
-ghost use Rattle.json_span.specs.Table.{Standing, Lies, size, span};
-ghost use Rattle.json_span.specs.Once.{standing_prop};
+ghost use Rattle.json_span.specs.Tree.{Placed, tree_of, start_of, end_of, is_null, boolean_in};
+ghost use Rattle.json_span.specs.Tree.{number_in, string_in, array_in, object_in};
+ghost use Rattle.json_span.specs.Table.{ValueIn, LiesIn, size, span};
+ghost use Rattle.json_span.specs.inner.Once.{value_once};
 
+use crate::copying::plain_value;
 use crate::fields::Fields;
 use crate::items::Items;
 use crate::node::Node;
+use crate::plain::Plain;
 use crate::table::{Document, Span};
 use crate::text::string_text;
 use crate::value_type::{ValueType, type_of_byte};
@@ -21,13 +24,13 @@ use tk_io::{NoMemory, Text};
 pub struct NodeRef<'d, 's> {
     document: &'d Rc<Document<'s>>,
     at: usize,
-    pub ghost stands: { Standing document.now.value.text.now document.now.value.nodes.items at } by { standing_prop document.now.value.text.now document.now.value.nodes.items at },
+    pub ghost stands: { ValueIn document.now.value at } by { value_once _ _ at },
 }
 
 /// The span of the value that stands at this place.
 pub(crate) fn span_at(document: &Rc<Document<'_>>, at: usize) -> Span
-    requires { Standing document.now.value.text.now document.now.value.nodes.items at }
-    ensures { (a z : ℕ) (t : Placed) → Lies document.now.value.text.now document.now.value.nodes.items a z at t → result ≡ span a z (start_of t) (end_of t) (at + size t) }
+    requires { ValueIn document.now.value at }
+    ensures { (a z : ℕ) (t : Placed) → LiesIn document.now.value a z at t → result ≡ span a z (start_of t) (end_of t) (at + size t) }
 {
     document.nodes[at]
 }
@@ -35,11 +38,13 @@ pub(crate) fn span_at(document: &Rc<Document<'_>>, at: usize) -> Span
 impl<'d, 's> NodeRef<'d, 's> {
     ghost use Rattle.json_span.specs.Types.{type_of};
     ghost use Rattle.json_span.specs.View.{node_view, ref_view, json_view, items_view, fields_view};
+    ghost use Rattle.json_span.specs.Says.{plain_of};
+    ghost use Rattle.json_span.specs.PlainView.{plain_view, as_spelled};
 
     // The value that stands at this place.
     pub(crate) fn new(document: &'d Rc<Document<'s>>, at: usize) -> NodeRef<'d, 's>
-        requires { Standing document.now.value.text.now document.now.value.nodes.items at }
-        ensures { (a z : ℕ) (t : Placed) → Lies document.entry.now.value.text.now document.entry.now.value.nodes.items a z at t → ref_view result ≡ t }
+        requires { ValueIn document.now.value at }
+        ensures { (a z : ℕ) (t : Placed) → LiesIn document.entry.now.value a z at t → ref_view result ≡ t }
     {
         NodeRef { document, at }
     }
@@ -147,5 +152,12 @@ impl<'d, 's> NodeRef<'d, 's> {
         }
         let stop = self.span().next as usize;
         Some(Fields::new(self.document, self.at + 1, stop))
+    }
+
+    /// The same value without the places where its parts stand.
+    pub fn to_plain(self, alloc: Global) -> Result<Plain<'s>, NoMemory>
+        ensures { IfOk result (λ p. plain_view p ≡ plain_of as_spelled (ref_view self.entry)) }
+    {
+        plain_value(alloc, self)
     }
 }

@@ -1,6 +1,8 @@
 //! JSON values without the places where they stand.
 
 ghost use Rattle.std.specs.Prelude.{◌≡◌, ◌==◌, length, map, slice_get, option_map, [], OnOk, OnErr};
+ghost use Rattle.json_span.specs.Plain.{plain_boolean_in, plain_number_in, plain_string_in};
+ghost use Rattle.json_span.specs.Plain.{plain_array_in, plain_object_in};
 ghost use Rattle.json_span.specs.PlainView.{plain_view, plain_field_view, plain_items_view, plain_fields_view};
 ghost use Rattle.json_span.specs.PlainView.{lent_plain, lent_field, IsItemAdded, IsFieldAdded};
 
@@ -8,7 +10,7 @@ use std::alloc::Global;
 use tk_io::{NoMemory, Text};
 
 /// A value of RFC 8259. Numbers are kept as they are spelled.
-#[derive(Drop)]
+#[derive(Debug, Drop)]
 #[cycle(plain)]
 pub enum Plain<'s> {
     Null,
@@ -20,21 +22,21 @@ pub enum Plain<'s> {
 }
 
 /// The elements of an array, in written order.
-#[derive(Drop)]
+#[derive(Debug, Drop)]
 #[cycle(plain)]
 pub struct PlainItems<'s> {
     list: Vec<Plain<'s>>,
 }
 
 /// The members of an object, in written order.
-#[derive(Drop)]
+#[derive(Debug, Drop)]
 #[cycle(plain)]
 pub struct PlainFields<'s> {
     list: Vec<PlainField<'s>>,
 }
 
 /// A member: its name and its value.
-#[derive(Drop)]
+#[derive(Debug, Drop)]
 #[cycle(plain)]
 pub struct PlainField<'s> {
     pub name: Text<'s>,
@@ -46,6 +48,60 @@ fn item_at<T>(items: &[T], i: usize) -> Option<&T>
     ensures { option_map (λ x. x.now) result ≡ slice_get items.now i }
 {
     items.get(i)
+}
+
+impl<'s> Plain<'s> {
+    /// The truth value, where it is one.
+    pub fn as_bool(&self) -> Option<bool>
+        ensures { result ≡ plain_boolean_in (plain_view self.now) }
+    {
+        match self {
+            Plain::Bool(truth) => Some(*truth),
+            _ => None,
+        }
+    }
+
+    /// The spelling of the number, where it is one.
+    pub fn as_number(&self) -> Option<&'s str>
+        ensures { option_map (λ d. d.now) result ≡ plain_number_in (plain_view self.now) }
+    {
+        match self {
+            Plain::Num(spelling) => Some(spelling),
+            _ => None,
+        }
+    }
+
+    /// The characters, where it is a string.
+    pub fn as_text(&self) -> Option<&Text<'s>>
+        ensures { option_map (λ t. t.now) result ≡ plain_string_in (plain_view self.now) }
+    {
+        match self {
+            Plain::Str(text) => Some(text),
+            _ => None,
+        }
+    }
+
+    /// The elements, where it is an array.
+    pub fn as_array(&self) -> Option<&PlainItems<'s>>
+        ensures { option_map (λ i. plain_items_view i.now) result
+            ≡ plain_array_in (plain_view self.now) }
+    {
+        match self {
+            Plain::Arr(items) => Some(items),
+            _ => None,
+        }
+    }
+
+    /// The members, where it is an object.
+    pub fn as_object(&self) -> Option<&PlainFields<'s>>
+        ensures { option_map (λ f. plain_fields_view f.now) result
+            ≡ plain_object_in (plain_view self.now) }
+    {
+        match self {
+            Plain::Obj(members) => Some(members),
+            _ => None,
+        }
+    }
 }
 
 impl<'s> PlainItems<'s> {

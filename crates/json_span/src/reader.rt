@@ -2,8 +2,9 @@
 
 ghost use Rattle.std.specs.Prelude.{◌≡◌, ◌+◌, ◌<◌, ◌^◌, length, IfOk, IfErr};
 ghost use Rattle.json_span.specs.View.{node_view};
-ghost use Rattle.json_span.specs.Answer.{Answers, IsAnswer, IsRefusal, ShowsOnly, fault_of, shows};
-ghost use Rattle.json_span.specs.Building.{IsTableOf};
+ghost use Rattle.json_span.specs.Answer.{Answers, IsAnswer, IsJsonFault, ShowsOnly, fault_of};
+ghost use Rattle.json_span.specs.Answer.{shows};
+ghost use Rattle.json_span.specs.inner.Building.{IsTableOf};
 
 use crate::build::{Built, build_value};
 use crate::flaw::Flaw;
@@ -60,7 +61,7 @@ fn fault_of(flaw: Flaw) -> JsonFault
 fn root<'s>(alloc: Global, text: &'s str, nodes: Vec<Span>) -> Result<Node<'s>, JsonFault>
     requires { IsTableOf text.now nodes.items }
     ensures found { IfOk result (λ n. IsAnswer text.entry.now (shows (node_view n))) }
-    ensures refused { IfErr result (λ e. IsRefusal text.entry.now e) }
+    ensures refused { IfErr result (λ e. IsJsonFault text.entry.now e) }
 {
     match Rc::new(alloc, Document { text, nodes }) {
         Ok(document) => Ok(Node::new(document, 0)),
@@ -71,7 +72,7 @@ fn root<'s>(alloc: Global, text: &'s str, nodes: Vec<Span>) -> Result<Node<'s>, 
 fn read_short<'s>(alloc: Global, text: &'s str) -> Result<Node<'s>, JsonFault>
     requires { length text.now < 2 ^ 32 }
     ensures found { IfOk result (λ n. IsAnswer text.entry.now (shows (node_view n))) }
-    ensures refused { IfErr result (λ e. IsRefusal text.entry.now e) }
+    ensures refused { IfErr result (λ e. IsJsonFault text.entry.now e) }
 {
     let start = blanks_end(text, 0);
     let mut nodes = Vec::new(alloc);
@@ -89,7 +90,7 @@ fn read_short<'s>(alloc: Global, text: &'s str) -> Result<Node<'s>, JsonFault>
 
 fn read_text<'s>(alloc: Global, text: &'s str) -> Result<Node<'s>, JsonFault>
     ensures found { IfOk result (λ n. IsAnswer text.entry.now (shows (node_view n))) }
-    ensures refused { IfErr result (λ e. IsRefusal text.entry.now e) }
+    ensures refused { IfErr result (λ e. IsJsonFault text.entry.now e) }
 {
     if text.len() > LONGEST {
         return Err(JsonFault::NoMemory);
@@ -111,13 +112,13 @@ pub fn read<'s, L: Ledger>(
     parses: &mut Steps<L>,
 ) -> Result<Node<'s>, JsonFault>
     ensures step { parses.new ≡ parses.old + 1 }
-    // Whatever is answered is the one answer of the text; want of memory is none.
+    // Whatever is answered is the one answer of the text; out of memory is none.
     ensures answer { Answers text.entry.now result }
     // The node is the value that the text shows, without a flaw.
     ensures found { IfOk result (λ n. IsAnswer text.entry.now (shows (node_view n))) }
     // No other node is.
     ensures only { IfOk result (λ n. ShowsOnly text.entry.now (node_view n)) }
-    ensures refused { IfErr result (λ e. IsRefusal text.entry.now e) }
+    ensures refused { IfErr result (λ e. IsJsonFault text.entry.now e) }
 {
     parses.tick();
     read_text(alloc, text)

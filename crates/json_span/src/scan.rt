@@ -3,8 +3,9 @@
 ghost use Rattle.std.specs.Prelude.{◌≡◌, ◌≤◌, length};
 ghost use Rattle.std.specs.Str.{IsCharBoundary};
 ghost use Rattle.grammar.specs.Grammar.{many, named};
-ghost use Rattle.json_span.specs.Grammar.{ws, digit, digits, int, frac, exp, optional, one, either, number, unescaped};
-ghost use Rattle.json_span.specs.Scan.{Reaches, Scans};
+ghost use Rattle.json_span.specs.Grammar.{ws, digit, digits, int, frac, exp, optional, one};
+ghost use Rattle.json_span.specs.Grammar.{either_byte, number, unescaped};
+ghost use Rattle.json_span.specs.inner.Scan.{ReadsTo, Scans};
 
 use crate::bytes::{Class, has};
 use lane_scan::{first_special, skip_blank};
@@ -12,7 +13,7 @@ use lane_scan::{first_special, skip_blank};
 /// The end of the blanks.
 pub(crate) fn blanks_end(text: &str, at: usize) -> usize
     requires { at ≤ length text.now }
-    ensures { Reaches ws text.now at result }
+    ensures { ReadsTo ws text.now at result }
 {
     skip_blank(text.as_bytes(), at)
 }
@@ -20,7 +21,7 @@ pub(crate) fn blanks_end(text: &str, at: usize) -> usize
 /// The end of the characters of a string that stand for themselves.
 pub(crate) fn plain_end(text: &str, at: usize) -> usize
     requires { at ≤ length text.now }
-    ensures plain { Reaches (many unescaped) text.now at result }
+    ensures plain { ReadsTo (many unescaped) text.now at result }
     ensures boundary { IsCharBoundary text.now result }
 {
     first_special(text.as_bytes(), at)
@@ -39,7 +40,7 @@ pub(crate) fn number_end(text: &str, at: usize) -> Result<usize, usize>
 
 fn minus_end(text: &str, at: usize) -> usize
     requires { at ≤ length text.now }
-    ensures { Reaches (optional (one 45)) text.now at result }
+    ensures { ReadsTo (optional (one 45)) text.now at result }
 {
     if has(text, at, Class::One(b'-')) {
         at + 1
@@ -48,7 +49,7 @@ fn minus_end(text: &str, at: usize) -> usize
     }
 }
 
-// 0, or digits without a zero in front.
+// 0, or digits without a leading zero.
 fn whole_end(text: &str, at: usize) -> Result<usize, usize>
     requires { at ≤ length text.now }
     ensures { Scans int text.now at result }
@@ -86,7 +87,7 @@ fn exponent_end(text: &str, at: usize) -> Result<usize, usize>
 
 fn sign_end(text: &str, at: usize) -> usize
     requires { at ≤ length text.now }
-    ensures { Reaches (optional (either 43 45)) text.now at result }
+    ensures { ReadsTo (optional (either_byte 43 45)) text.now at result }
 {
     if has(text, at, Class::Sign) {
         at + 1
@@ -108,7 +109,7 @@ fn some_digits_end(text: &str, at: usize) -> Result<usize, usize>
 
 fn digits_end(text: &str, at: usize) -> usize
     requires { at ≤ length text.now }
-    ensures { Reaches (many digit) text.now at result }
+    ensures { ReadsTo (many digit) text.now at result }
 {
     let mut end = at;
     while has(text, end, Class::Digit) {

@@ -4,17 +4,18 @@ ghost use Rattle.std.specs.Prelude.{◌≡◌, ◌≤◌, ◌<◌, ◌++◌, [],
 ghost use Rattle.grammar.specs.Grammar.{named, seq};
 ghost use Rattle.grammar.specs.Predict.{begins, first};
 ghost use Rattle.json_span.specs.Grammar.{value, ws, one};
-ghost use Rattle.json_span.specs.Steered.{ahead, token, before_of, more_of, close_of, list_of};
-ghost use Rattle.json_span.specs.Scan.{Reaches, Scans, rule_of};
-ghost use Rattle.json_span.specs.Kinds.{bracket_of, rule_of_scalar};
-ghost use Rattle.json_span.specs.Skipping.{left_of, Leads, StopsAt};
+ghost use Rattle.json_span.specs.Steered.{ahead, symbol, before_of, more_of, close_of, list_of};
+ghost use Rattle.json_span.specs.inner.Scan.{ReadsTo, Scans, rule_of};
+ghost use Rattle.json_span.specs.inner.Alternatives.{bracket_of, rule_of_scalar};
+ghost use Rattle.json_span.specs.inner.Skipping.{left_of, ContinuesAs, StopsAt};
 
+use crate::alternative::{Alternative, Bracket, Scalar, alternative_at};
 use crate::bytes::{Class, has, row_end};
-use crate::kind::{Bracket, Kind, Scalar, kind_at};
 use crate::scan::{blanks_end, number_end};
 use crate::stop::Stop;
 use crate::string::string_end;
 use std::alloc::Global;
+use tk_io::NoMemory;
 
 /// Where reading goes on, and whether a value is to come there.
 #[derive(Clone, Copy, Debug)]
@@ -52,7 +53,7 @@ pub(crate) fn before_end(text: &str, at: usize, bracket: Bracket) -> Result<usiz
 /// The end of the colon behind a name, and of the blanks around it.
 pub(crate) fn colon_end(text: &str, at: usize) -> Result<usize, usize>
     requires { at ≤ length text.now }
-    ensures { Scans (seq ws (token 58)) text.now at result }
+    ensures { Scans (seq ws (symbol 58)) text.now at result }
 {
     let colon = blanks_end(text, at);
     let end = row_end(text, colon, &[Class::One(b':')])?;
@@ -104,20 +105,20 @@ pub(crate) fn scalar_end(text: &str, at: usize, scalar: Scalar) -> Result<usize,
 // Reads on where a value is to come.
 fn begin(text: &str, at: usize, brackets: &mut Vec<Bracket>) -> Result<Place, Stop>
     requires { at ≤ length text.now }
-    ensures leads { IfOk result (λ p. Leads text.now (left_of true brackets.old.items) at (left_of p.wants brackets.new.items) p.at) }
+    ensures leads { IfOk result (λ p. ContinuesAs text.now (left_of true brackets.old.items) at (left_of p.wants brackets.new.items) p.at) }
     ensures forward { IfOk result (λ p. at < p.at) }
     ensures within { IfOk result (λ p. p.at ≤ length text.now) }
     ensures stop { IfErr result (λ e. StopsAt (left_of true brackets.old.items) text.now at e) }
 {
-    match kind_at(text, at) {
-        Some(Kind::Scalar(scalar)) => {
+    match alternative_at(text, at) {
+        Some(Alternative::Scalar(scalar)) => {
             let end = scalar_end(text, at, scalar)?;
             Ok(Place {
                 at: end,
                 wants: false,
             })
         }
-        Some(Kind::List(bracket)) => open(text, at, bracket, brackets),
+        Some(Alternative::List(bracket)) => open(text, at, bracket, brackets),
         None => Err(Stop::Syntax(at)),
     }
 }
@@ -126,7 +127,7 @@ fn begin(text: &str, at: usize, brackets: &mut Vec<Bracket>) -> Result<Place, St
 fn open(text: &str, at: usize, bracket: Bracket, brackets: &mut Vec<Bracket>) -> Result<Place, Stop>
     requires within { at < length text.now }
     requires opens { begins (first ahead (list_of (bracket_of bracket))) (drop at text.now) ≡ true }
-    ensures leads { IfOk result (λ p. Leads text.now (left_of true brackets.old.items) at (left_of p.wants brackets.new.items) p.at) }
+    ensures leads { IfOk result (λ p. ContinuesAs text.now (left_of true brackets.old.items) at (left_of p.wants brackets.new.items) p.at) }
     ensures forward { IfOk result (λ p. at < p.at) }
     ensures within { IfOk result (λ p. p.at ≤ length text.now) }
     ensures stop { IfErr result (λ e. StopsAt (left_of true brackets.old.items) text.now at e) }
@@ -140,10 +141,29 @@ fn open(text: &str, at: usize, bracket: Bracket, brackets: &mut Vec<Bracket>) ->
     }
     let next = before_end(text, inner, bracket)?;
     brackets.push(bracket)?;
+    let last = open_row(text, next, brackets)?;
     Ok(Place {
-        at: next,
+        at: last,
         wants: true,
     })
+}
+
+// Opens each square bracket from there on that has another right after it.
+fn open_row(text: &str, from: usize, brackets: &mut Vec<Bracket>) -> Result<usize, NoMemory>
+    requires { from ≤ length text.now }
+    ensures leads { IfOk result (λ e. ContinuesAs text.now (left_of true brackets.old.items) from (left_of true brackets.new.items) e) }
+    ensures forward { IfOk result (λ e. from ≤ e) }
+    ensures within { IfOk result (λ e. e ≤ length text.now) }
+{
+    if !has(text, from, Class::One(b'[')) {
+        return Ok(from);
+    }
+    let mut at = from;
+    while has(text, at + 1, Class::One(b'[')) {
+        brackets.push(Bracket::Square)?;
+        at += 1;
+    }
+    Ok(at)
 }
 
 // Reads on behind a value of a list, whose bracket was taken off the open ones.
@@ -154,7 +174,7 @@ fn go_on(
     brackets: &mut Vec<Bracket>,
 ) -> Result<Place, Stop>
     requires { at ≤ length text.now }
-    ensures leads { IfOk result (λ p. Leads text.now (left_of false (brackets.old.items ++ bracket ∷ [])) at (left_of p.wants brackets.new.items) p.at) }
+    ensures leads { IfOk result (λ p. ContinuesAs text.now (left_of false (brackets.old.items ++ bracket ∷ [])) at (left_of p.wants brackets.new.items) p.at) }
     ensures forward { IfOk result (λ p. at < p.at) }
     ensures within { IfOk result (λ p. p.at ≤ length text.now) }
     ensures stop { IfErr result (λ e. StopsAt (left_of false (brackets.old.items ++ bracket ∷ [])) text.now at e) }
@@ -184,7 +204,7 @@ fn skip(
     mut brackets: Vec<Bracket>,
 ) -> Result<usize, Stop>
     requires { from ≤ length text.now }
-    ensures end { IfOk result (λ e. Reaches (left_of wants_first brackets.items) text.now from e) }
+    ensures end { IfOk result (λ e. ReadsTo (left_of wants_first brackets.items) text.now from e) }
     ensures stop { IfErr result (λ e. StopsAt (left_of wants_first brackets.items) text.now from e) }
 {
     let mut at = from;
@@ -206,7 +226,7 @@ fn skip(
 /// The end of a value.
 pub(crate) fn value_end(alloc: Global, text: &str, at: usize) -> Result<usize, Stop>
     requires { at ≤ length text.now }
-    ensures end { IfOk result (λ e. Reaches (named value) text.now at e) }
+    ensures end { IfOk result (λ e. ReadsTo (named value) text.now at e) }
     ensures stop { IfErr result (λ e. StopsAt (named value) text.now at e) }
 {
     skip(text, at, true, Vec::new(alloc))
@@ -220,7 +240,7 @@ pub(crate) fn list_end(
     bracket: Bracket,
 ) -> Result<usize, Stop>
     requires { at ≤ length text.now }
-    ensures end { IfOk result (λ e. Reaches (seq ws (more_of (bracket_of bracket))) text.now at e) }
+    ensures end { IfOk result (λ e. ReadsTo (seq ws (more_of (bracket_of bracket))) text.now at e) }
     ensures stop { IfErr result (λ e. StopsAt (seq ws (more_of (bracket_of bracket))) text.now at e) }
 {
     let mut brackets = Vec::new(alloc);

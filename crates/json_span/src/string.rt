@@ -3,7 +3,7 @@
 ghost use Rattle.std.specs.Prelude.{◌≡◌, ◌≤◌, length};
 ghost use Rattle.grammar.specs.Grammar.{many, named, seq};
 ghost use Rattle.json_span.specs.Grammar.{behind_d, unicode, escape, char, one, string};
-ghost use Rattle.json_span.specs.Scan.{Scans};
+ghost use Rattle.json_span.specs.inner.Scan.{Scans};
 
 use crate::bytes::{Class, has, row_end};
 use crate::scan::plain_end;

@@ -4,7 +4,7 @@ ghost use Rattle.std.specs.Prelude.{◌≡◌, ◌<◌};
 
 use crate::objects::MANY;
 use crate::spanned::{FIFTH, FIRST, FOURTH, SECOND, SIXTH, THIRD};
-use crate::texts::{DEEP, DUP, READ, SYNTAX};
+use crate::texts::{DUP, LEVELS, READ, SYNTAX};
 use crate::{
     JsonFault, Node, NodeRef, Plain, PlainField, PlainFields, PlainItems, ValueType, read,
     write_string, write_string_bytes, write_string_inside,
@@ -32,6 +32,13 @@ fn root(alloc: Global, text: &[u8]) -> Result<Node<'_>, JsonFault> {
 
 fn fault(alloc: Global, text: &[u8]) -> Option<JsonFault> {
     root(alloc, text).err()
+}
+
+fn push_times(piece: &str, times: usize, text: &mut Vec<u8>) -> Result<(), Fail> {
+    for _ in 0..times {
+        text.extend_from_slice(piece.as_bytes())?;
+    }
+    Ok(())
 }
 
 #[test]
@@ -75,26 +82,31 @@ fn equal_names_of_many(rt: HostRuntime) {
 }
 
 #[test]
-fn levels(rt: HostRuntime) {
-    for (text, start, end) in &DEEP {
+fn levels(rt: HostRuntime) -> Result<(), Fail> {
+    for (first, open, inside, close, last, expected) in &LEVELS {
+        let mut text = Vec::new(rt.alloc());
+        text.extend_from_slice(first.as_bytes())?;
+        push_times(open.0, open.1, &mut text)?;
+        text.extend_from_slice(inside.as_bytes())?;
+        push_times(close.0, close.1, &mut text)?;
+        text.extend_from_slice(last.as_bytes())?;
         assert_eq!(rt;
-            fault(rt.alloc(), text.as_bytes()),
-            Some(JsonFault::Deep(*start, *end)),
-            "{text}"
+            fault(rt.alloc(), &text),
+            *expected,
+            "{first}{}{inside}{}{last}",
+            open.1,
+            close.1
         );
     }
+    Ok(())
 }
 
 #[test]
 fn open_brackets(rt: HostRuntime) -> Result<(), Fail> {
     let mut text = Vec::new(rt.alloc());
-    for _ in 0..100000u32 {
-        text.push(b'[')?;
-    }
+    push_times("[", 100000, &mut text)?;
     assert_eq!(rt; fault(rt.alloc(), &text), Some(JsonFault::Syntax(100000)));
-    for _ in 0..100000u32 {
-        text.push(b']')?;
-    }
+    push_times("]", 100000, &mut text)?;
     assert_eq!(rt; fault(rt.alloc(), &text), Some(JsonFault::Deep(64, 65)));
     Ok(())
 }
@@ -109,13 +121,13 @@ fn many_members(rt: HostRuntime) -> Result<(), Fail> {
         for tens in [1, 10, 100, 1000, 10000, 100000] {
             text.push(b'0' + (i / tens % 10) as u8)?;
         }
-        text.extend_from_slice(b"\":0,")?;
+        text.extend_from_slice(br#"":0,"#)?;
     }
-    text.extend_from_slice(b"\"\":0}")?;
+    text.extend_from_slice(br#""":0}"#)?;
     assert_eq!(rt; fault(rt.alloc(), &text), None);
     // A name again, by an escape.
     text.pop();
-    text.extend_from_slice(b",\"99999\\u0034\":0}")?;
+    text.extend_from_slice(br#","99999\u0034":0}"#)?;
     let end = text.len().saturating_sub(3);
     let start = end.saturating_sub(13);
     assert_eq!(rt; fault(rt.alloc(), &text), Some(JsonFault::Dup(start, end)));
@@ -328,17 +340,45 @@ fn handles(rt: HostRuntime) {
     }
 }
 
+/// Each call on a plain value once.
+fn plain_parts(alloc: Global) -> Option<(usize, bool, usize)> {
+    let text = r#" { "b" : null , "é" : [ 1.50, true, "x\n\ud83d\ude00" ], "\u00e9\u0065": {} } "#;
+    let plain = root(alloc, text.as_bytes()).ok()?.to_plain(alloc).ok()?;
+    let members = plain.as_object()?;
+    let (first, list, last) = (members.at(0)?, members.at(1)?, members.at(2)?);
+    if !matches!(first.value, Plain::Null) || last.name.as_str() != "ée" || members.len() != 3 {
+        return None;
+    }
+    let items = list.value.as_array()?;
+    let (number, truth, characters) = (items.at(0)?, items.at(1)?, items.at(2)?);
+    if number.as_number()? != "1.50" || characters.as_text()?.as_str() != "x\n😀" {
+        return None;
+    }
+    if number.as_text().is_some() || truth.as_number().is_some() || number.as_bool().is_some() {
+        return None;
+    }
+    if plain.as_array().is_some() || list.value.as_object().is_some() {
+        return None;
+    }
+    Some((items.len(), truth.as_bool()?, last.value.as_object()?.len()))
+}
+
+#[test]
+fn plain_values(rt: HostRuntime) {
+    assert_eq!(rt; plain_parts(rt.alloc()), Some((3, true, 0)));
+}
+
 #[test]
 fn written_strings(rt: HostRuntime) {
     let mut out = Bytes::new(rt.alloc());
     assert!(rt; write_string("a\"\\\u{1}\u{1f}é", &mut out).is_ok());
     assert_eq!(rt; out.as_slice(), r#""a\"\\\u0001\u001fé""#.as_bytes());
-    assert!(rt; write_string_bytes(b"/\"", &mut out).is_ok());
+    assert!(rt; write_string_bytes(br#"/""#, &mut out).is_ok());
     assert_eq!(rt; out.as_slice(), r#""a\"\\\u0001\u001fé""/\"""#.as_bytes());
     let mut inside = Bytes::new(rt.alloc());
     assert!(rt; write_string_inside("\u{1f}a", &mut inside).is_ok());
     assert!(rt; inside.append(b".").is_ok());
-    assert!(rt; write_string_inside("\"é", &mut inside).is_ok());
+    assert!(rt; write_string_inside(r#""é"#, &mut inside).is_ok());
     assert_eq!(rt; inside.as_slice(), r#"\u001fa.\"é"#.as_bytes());
 }
 

@@ -3,8 +3,8 @@
 ghost use Rattle.std.specs.Prelude.{◌≡◌, ◌≤◌, ℕ, List, length, drop, IfOk};
 ghost use Rattle.std.specs.String.{string_bytes};
 ghost use Rattle.std.specs.Str.{IsCharBoundary, bytes_eq};
-ghost use Rattle.json_span.specs.Characters.{Content};
-ghost use Rattle.json_span.specs.Escapes.{HasContent};
+ghost use Rattle.json_span.specs.Characters.{CharactersAt};
+ghost use Rattle.json_span.specs.inner.Escapes.{HasCharacters};
 ghost use Rattle.json_span.specs.Table.{IsString, StandsString};
 
 use crate::bytes::{Class, has};
@@ -43,8 +43,8 @@ pub(crate) fn is_string_of(text: &str, at: usize, characters: &str) -> bool
 fn decode(alloc: Global, text: &str, from: usize) -> Result<String, NoMemory>
     requires within { from ≤ length text.now }
     requires boundary { IsCharBoundary text.now from }
-    requires content { HasContent (drop from text.now) }
-    ensures { IfOk result (λ t. (s u : List ℕ) → Content (drop from text.now) s u → string_bytes t ≡ s) }
+    requires content { HasCharacters (drop from text.now) }
+    ensures { IfOk result (λ t. (s u : List ℕ) → CharactersAt (drop from text.now) s u → string_bytes t ≡ s) }
 {
     let mut characters = String::new(alloc);
     let mut at = from;
@@ -63,8 +63,8 @@ fn decode(alloc: Global, text: &str, from: usize) -> Result<String, NoMemory>
 // Whether these are the characters from there up to the closing quote.
 fn are_characters(text: &str, from: usize, characters: &[u8]) -> bool
     requires within { from ≤ length text.now }
-    requires content { HasContent (drop from text.now) }
-    ensures { (s u : List ℕ) → Content (drop from text.now) s u → result ≡ bytes_eq s characters.now }
+    requires content { HasCharacters (drop from text.now) }
+    ensures { (s u : List ℕ) → CharactersAt (drop from text.now) s u → result ≡ bytes_eq s characters.now }
 {
     let mut rest = characters;
     let mut at = from;

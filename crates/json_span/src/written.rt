@@ -2,7 +2,8 @@
 ghost use Rattle.std.specs.Prelude.{◌≡◌, ◌∷◌, List, ℕ, true, ◌++◌, ◌<◌, OnOk, OnErr};
 ghost use Rattle.lane_scan.specs.Bytes.{is_special};
 ghost use Rattle.tk_io.specs.Writing.{Extends};
-ghost use Rattle.json_span.specs.Spelling.{hex_digit, escaped, inside_text, string_text, are_bytes};
+ghost use Rattle.json_span.specs.Spelling.{hex_digit, byte_text, inside_text, string_text};
+ghost use Rattle.json_span.specs.Spelling.{are_bytes};
 ghost use Rattle.json_span.specs.Reading.{StringAt};
 
 use lane_scan::first_special;
@@ -18,7 +19,7 @@ fn hex_digit(n: u8) -> u8
 // The escape of a byte that cannot stand for itself.
 fn write_escape(byte: u8, out: &mut Bytes) -> Result<(), NoMemory>
     requires special { is_special byte ≡ true }
-    ensures ok { OnOk result (out.new ≡ out.old ++ escaped byte) }
+    ensures ok { OnOk result (out.new ≡ out.old ++ byte_text byte) }
     ensures err { OnErr result (Extends out.old out.new) }
 {
     if byte == b'"' || byte == b'\\' {

@@ -5,8 +5,8 @@ use Rattle.std.specs.Ordering.{is_lt}
 use Rattle.std.specs.Str.{bytes_eq}
 use Rattle.tk_io.specs.Order.{text_cmp}
 use Rattle.json_span.specs.Tree.{Entry}
-use Rattle.json_span.specs.Names.{AreNames, names_flaw}
-use Rattle.json_span.specs.Building.{flaw_view}
+use Rattle.json_span.specs.inner.Names.{AreNamesOf, names_flaw}
+use Rattle.json_span.specs.inner.Building.{flaw_view}
 use Rattle.json_span.specs.declared.flaw.Flaw as declared
 use Rattle.json_span.specs.declared.names.NameSpan.{NameSpan}
 use Rattle.json_span.specs.declared.names.PlacedName.{PlacedName}
@@ -40,9 +40,9 @@ abbrev pub again_in : List PlacedName → Option ℕ
 again_in [] = None
 again_in (x ∷ ys) = again_behind x ys
 
--- The names of an object as a builder keeps them: in their order, and with the flaw that is told of them.
+-- The names of an object as a builder keeps them: in their order, and with the flaw that is reported of them.
 abbrev pub SortsNames : List ℕ → List NameSpan → List PlacedName → Type 0
-SortsNames text names sorted = (es : List Entry) → AreNames text names es → AreSorted es sorted
+SortsNames text names sorted = (es : List Entry) → AreNamesOf text names es → AreSorted es sorted
 
 abbrev pub TellsSecond : List ℕ → List NameSpan → Option declared.Flaw → Type 0
-TellsSecond text names f = (es : List Entry) → AreNames text names es → option_map flaw_view f ≡ names_flaw [] es
+TellsSecond text names f = (es : List Entry) → AreNamesOf text names es → option_map flaw_view f ≡ names_flaw [] es

@@ -1,15 +1,14 @@
-use Rattle.std.proofs.Common.{◌≡◌, [], ◌∷◌, ◌++◌, true, false, refl, sym, ◌∙◌, subst, arith, rules, append-nil, Ok, option_map}
-use Rattle.json_span.specs.Names.{AreNames, names_flaw}
+use Rattle.std.proofs.Common.{[], true, false, refl, sym, ◌∙◌, subst, arith, rules, append-nil, Ok}
 use Rattle.std.proofs.lemmas.Result.{err_from_is_err_and}
 use Rattle.json_span.specs.Steered.{square, curly}
-use Rattle.json_span.specs.Kinds.{bracket_of}
-use Rattle.json_span.specs.Scan.{rule_of}
-use Rattle.json_span.specs.Building.{Opens, Gives, GoesOn, flaw_view}
-use Rattle.json_span.specs.declared.kind.Bracket.TheVariants.{Square, Curly}
-use Rattle.json_span.specs.declared.kind.Kind.TheVariants.{Scalar}
+use Rattle.json_span.specs.inner.Alternatives.{bracket_of}
+use Rattle.json_span.specs.inner.Scan.{rule_of}
+use Rattle.json_span.specs.inner.Building.{Opens}
+use Rattle.json_span.specs.declared.alternative.Bracket.TheVariants.{Square, Curly}
+use Rattle.json_span.specs.declared.alternative.Alternative.TheVariants.{Scalar}
 use Rattle.json_span.specs.declared.stop.Stop.TheVariants.{Syntax}
 use Rattle.json_span.proofs.Skips as skip
-use Rattle.json_span.proofs.KindFacts.{value_scan, value_stops, no_value}
+use Rattle.json_span.proofs.AlternativesRead.{value_scan, value_stops, no_value}
 use Rattle.json_span.proofs.Lists as list
 use Rattle.json_span.proofs.MemberLists as members
 use Rattle.json_span.proofs.Gives as gives
@@ -30,64 +29,76 @@ pub build_array-returns-in_err-end-clause-stop : goal.build_array-returns-in_err
 build_array-returns-in_err-end-clause-stop t c =
     let T = c.args.text.now in
     let l = c.loop-end in
-    let nothing = skip.reach_nothing T l.next l.invariant.within in
+    let held = l.invariant in
+    let nothing = skip.reach_nothing T l.next held.within in
     let p = err_from_is_err_and c.from_residual-in_err-end.result c.from_residual-in_err-end.ensures.1 in
-    rw (p.1, p.2) (list.bad_value T square c.args.at l.next l.invariant.leads l.next c.in_err-end.field-0.0 nothing c.in_err-end.ensures.stop)
+    rw (p.1, p.2) (list.bad_value T square c.args.at l.next held.leads l.next c.in_err-end.field-0.0 nothing c.in_err-end.ensures.stop)
 
 pub build_array-returns-in_err-end-in-Flawed-clause-stop : goal.build_array-returns-in_err-end-in-Flawed-clause-stop
 build_array-returns-in_err-end-in-Flawed-clause-stop t c =
     let T = c.args.text.now in
     let l = c.loop-end in
-    let nothing = skip.reach_nothing T l.next l.invariant.within in
-    let b = subst (Gives T l.next c.args.room 0 0 l.nodes.items c.build_value.new.nodes.items) c.in-Flawed.is c.in_ok-end.ensures.ok in
-    let p = err_from_is_err_and c.from_residual-in_err-end-in-Flawed.result c.from_residual-in_err-end-in-Flawed.ensures.1 in
-    rw (p.1, p.2) (list.bad_rest T square c.args.at l.next l.invariant.leads l.next c.in-Flawed.end c.in_err-end-in-Flawed.field-0.0 nothing b.reads c.in_err-end-in-Flawed.ensures.stop)
+    let held = l.invariant in
+    let nothing = skip.reach_nothing T l.next held.within in
+    let b = gives.built_as c.in-Flawed.is c.in_ok-end.ensures.ok in
+    let failed = c.from_residual-in_err-end-in-Flawed in
+    let p = err_from_is_err_and failed.result failed.ensures.1 in
+    rw (p.1, p.2) (list.bad_rest T square c.args.at l.next held.leads l.next c.in-Flawed.end c.in_err-end-in-Flawed.field-0.0 nothing b.reads c.in_err-end-in-Flawed.ensures.stop)
 
 pub build_array-returns-in-Flawed-clause-ok : goal.build_array-returns-in-Flawed-clause-ok
 build_array-returns-in-Flawed-clause-ok t c =
     let T = c.args.text.now in
     let l = c.loop-end in
-    let nothing = skip.reach_nothing T l.next l.invariant.within in
-    let b = subst (Gives T l.next c.args.room 0 0 l.nodes.items c.build_value.new.nodes.items) c.in-Flawed.is c.in_ok-end.ensures.ok in
-    gives.array_flawed T c.args.at c.args.inner c.args.room c.args.name c.args.name_end c.args.nodes.now.items l.nodes.items c.build_value.new.nodes.items c.requires.1.1.0 l.next l.invariant.leads l.invariant.elements.items l.invariant.elements.left l.invariant.within c.in-Flawed.flaw c.in-Flawed.end c.in_ok-end-in-Flawed.end b c.in_ok-end-in-Flawed.ensures.end
+    let held = l.invariant in
+    let nothing = skip.reach_nothing T l.next held.within in
+    let b = gives.built_as c.in-Flawed.is c.in_ok-end.ensures.ok in
+    gives.array_flawed c.requires.1.1.0 held.leads held.elements held.within b c.in_ok-end-in-Flawed.ensures.end
 
 pub build_array-returns-in_err-item-clause-stop : goal.build_array-returns-in_err-item-clause-stop
 build_array-returns-in_err-item-clause-stop t c =
     let T = c.args.text.now in
     let l = c.loop-end in
-    let nothing = skip.reach_nothing T l.next l.invariant.within in
-    let b = subst (Gives T l.next c.args.room 0 0 l.nodes.items c.build_value.new.nodes.items) c.in-Whole.is c.in_ok-end.ensures.ok in
-    let p = err_from_is_err_and c.from_residual-in_err-item.result c.from_residual-in_err-item.ensures.1 in
-    rw (p.1, p.2) (list.bad_rest T square c.args.at l.next l.invariant.leads l.next c.in-Whole.end (Syntax c.in_err-item.field-0.0) nothing b.reads c.in_err-item.ensures.stop)
+    let held = l.invariant in
+    let nothing = skip.reach_nothing T l.next held.within in
+    let b = gives.built_as c.in-Whole.is c.in_ok-end.ensures.ok in
+    let failed = c.from_residual-in_err-item in
+    let p = err_from_is_err_and failed.result failed.ensures.1 in
+    rw (p.1, p.2) (list.bad_rest T square c.args.at l.next held.leads l.next c.in-Whole.end (Syntax c.in_err-item.field-0.0) nothing b.reads c.in_err-item.ensures.stop)
 
 pub build_array-loop-end-preserved : goal.build_array-loop-end-preserved
 build_array-loop-end-preserved t c =
     let T = c.args.text.now in
     let l = c.loop-end in
-    let nothing = skip.reach_nothing T l.next l.invariant.within in
-    let b = subst (Gives T l.next c.args.room 0 0 l.nodes.items c.build_value.new.nodes.items) c.in-Whole.is c.in_ok-end.ensures.ok in
-    let comma = subst (GoesOn square T c.in-Whole.end) c.in-Item.is c.in_ok-item.ensures.ok in
-    let (h, leads, left, more) = gives.array_next T c.args.at c.args.inner c.args.room c.args.name c.args.name_end c.args.nodes.now.items l.nodes.items c.build_value.new.nodes.items c.requires.1.1.0 l.next l.invariant.leads l.invariant.elements.items l.invariant.elements.left l.invariant.within l.invariant.elements.made c.in-Whole.end b c.in-Item.item comma in
-    record { within = h; leads = leads; elements = left; index = search rules; same = c.in_ok-end.ensures.names ∙ l.invariant.same; small = record { short = l.invariant.small.short; places = omega (arith, b.kept.1, list.past_comma T c.in-Whole.end c.in-Item.item comma) } }
+    let held = l.invariant in
+    let nothing = skip.reach_nothing T l.next held.within in
+    let b = gives.built_as c.in-Whole.is c.in_ok-end.ensures.ok in
+    let goes_on = c.in_ok-item.ensures.ok in
+    let comma = gives.next_as square T c.in-Whole.end c.in-Item.is goes_on in
+    let (h, leads, left, more) = gives.array_next c.requires.1.1.0 held.leads held.elements held.within b comma in
+    record { within = h; leads = leads; elements = left; index = search rules; same = c.in_ok-end.ensures.names ∙ held.same; small = record { short = held.small.short; places = omega (arith, b.kept.1, list.past_comma T c.in-Whole.end c.in-Item.item comma) } }
 
 pub build_array-loop-end-smaller : goal.build_array-loop-end-smaller
 build_array-loop-end-smaller t c =
     let T = c.args.text.now in
     let l = c.loop-end in
-    let nothing = skip.reach_nothing T l.next l.invariant.within in
-    let b = subst (Gives T l.next c.args.room 0 0 l.nodes.items c.build_value.new.nodes.items) c.in-Whole.is c.in_ok-end.ensures.ok in
-    let comma = subst (GoesOn square T c.in-Whole.end) c.in-Item.is c.in_ok-item.ensures.ok in
-    let (h, leads, left, more) = gives.array_next T c.args.at c.args.inner c.args.room c.args.name c.args.name_end c.args.nodes.now.items l.nodes.items c.build_value.new.nodes.items c.requires.1.1.0 l.next l.invariant.leads l.invariant.elements.items l.invariant.elements.left l.invariant.within l.invariant.elements.made c.in-Whole.end b c.in-Item.item comma in
+    let held = l.invariant in
+    let nothing = skip.reach_nothing T l.next held.within in
+    let b = gives.built_as c.in-Whole.is c.in_ok-end.ensures.ok in
+    let goes_on = c.in_ok-item.ensures.ok in
+    let comma = gives.next_as square T c.in-Whole.end c.in-Item.is goes_on in
+    let more = (gives.array_next c.requires.1.1.0 held.leads held.elements held.within b comma).3 in
     omega arith
 
 pub build_array-returns-in-Closed-clause-ok : goal.build_array-returns-in-Closed-clause-ok
 build_array-returns-in-Closed-clause-ok t c =
     let T = c.args.text.now in
     let l = c.loop-end in
-    let nothing = skip.reach_nothing T l.next l.invariant.within in
-    let b = subst (Gives T l.next c.args.room 0 0 l.nodes.items c.build_value.new.nodes.items) c.in-Whole.is c.in_ok-end.ensures.ok in
-    let close = subst (GoesOn square T c.in-Whole.end) c.in-Closed.is c.in_ok-item.ensures.ok in
-    gives.array_whole T c.args.at c.args.inner c.args.room c.args.name c.args.name_end c.args.nodes.now.items l.nodes.items c.build_value.new.nodes.items c.requires.1.1.0 l.next l.invariant.leads l.invariant.elements.items l.invariant.elements.left l.invariant.within l.invariant.elements.made c.in-Whole.end b _ c.in-Closed.end close (search rules)
+    let held = l.invariant in
+    let nothing = skip.reach_nothing T l.next held.within in
+    let b = gives.built_as c.in-Whole.is c.in_ok-end.ensures.ok in
+    let goes_on = c.in_ok-item.ensures.ok in
+    let close = gives.next_as square T c.in-Whole.end c.in-Closed.is goes_on in
+    gives.array_whole c.requires.1.1.0 held.leads held.elements held.within b close (search rules)
 
 pub build_list-returns-then-room-eq0-clause-ok : goal.build_list-returns-then-room-eq0-clause-ok
 build_list-returns-then-room-eq0-clause-ok t c = gives.gives_deep (bracket_of c.args.bracket) c.args.text.now c.args.at c.args.room c.args.name c.args.name_end c.in_ok-end.end c.args.nodes.now.items c.args.nodes.now.items c.if-room-eq0.true (omega (arith, c.requires.1.1.0)) c.requires.1.1.1.0 c.in_ok-end.ensures.end
@@ -151,135 +162,159 @@ pub build_object-returns-in_err-own-clause-stop : goal.build_object-returns-in_e
 build_object-returns-in_err-own-clause-stop t c =
     let T = c.args.text.now in
     let l = c.loop-own in
+    let held = l.invariant in
     let p = err_from_is_err_and c.from_residual-in_err-own.result c.from_residual-in_err-own.ensures.1 in
-    rw (p.1, p.2) (list.bad_name T c.args.at l.next l.invariant.leads (Syntax c.in_err-own.field-0.0) c.in_err-own.ensures.stop)
+    rw (p.1, p.2) (list.bad_name T c.args.at l.next held.leads (Syntax c.in_err-own.field-0.0) c.in_err-own.ensures.stop)
 
 pub build_object-returns-in_err-value-clause-stop : goal.build_object-returns-in_err-value-clause-stop
 build_object-returns-in_err-value-clause-stop t c =
     let T = c.args.text.now in
     let l = c.loop-own in
+    let held = l.invariant in
     let n = c.in_ok-own.own in
-    let own = naming.named_at T l.next n c.in_ok-own.ensures.ok in
+    let read = c.in_ok-own.ensures.ok in
+    let own = naming.named_at T l.next n read in
     let p = err_from_is_err_and c.from_residual-in_err-value.result c.from_residual-in_err-value.ensures.1 in
-    rw (p.1, p.2) (list.bad_colon T c.args.at l.next n.end l.invariant.leads c.in_err-value.field-0.0 c.in_ok-own.ensures.ok.reads c.in_err-value.ensures)
+    rw (p.1, p.2) (list.bad_colon T c.args.at l.next n.end held.leads c.in_err-value.field-0.0 c.in_ok-own.ensures.ok.reads c.in_err-value.ensures)
 
 pub build_object-returns-in_err-built-clause-stop : goal.build_object-returns-in_err-built-clause-stop
 build_object-returns-in_err-built-clause-stop t c =
     let T = c.args.text.now in
     let l = c.loop-own in
+    let held = l.invariant in
     let n = c.in_ok-own.own in
-    let own = naming.named_at T l.next n c.in_ok-own.ensures.ok in
-    let before = gives.name_before T c.args.at c.args.inner c.args.room c.args.name c.args.name_end c.args.nodes.now.items l.nodes.items l.nodes.items c.requires.1.1.0 l.next l.invariant.leads l.invariant.members.fields l.invariant.members.left l.invariant.within own.name n.end c.in_ok-value.value c.in_ok-own.ensures.ok.reads own.stands c.in_ok-value.ensures in
+    let read = c.in_ok-own.ensures.ok in
+    let own = naming.named_at T l.next n read in
+    let before = gives.name_before read.reads c.in_ok-value.ensures in
     let p = err_from_is_err_and c.from_residual-in_err-built.result c.from_residual-in_err-built.ensures.1 in
-    rw (p.1, p.2) (list.bad_value T curly c.args.at l.next l.invariant.leads c.in_ok-value.value c.in_err-built.field-0.0 before c.in_err-built.ensures.stop)
+    rw (p.1, p.2) (list.bad_value T curly c.args.at l.next held.leads c.in_ok-value.value c.in_err-built.field-0.0 before c.in_err-built.ensures.stop)
 
 pub build_object-returns-in_err-end-in-Flawed-clause-stop : goal.build_object-returns-in_err-end-in-Flawed-clause-stop
 build_object-returns-in_err-end-in-Flawed-clause-stop t c =
     let T = c.args.text.now in
     let l = c.loop-own in
+    let held = l.invariant in
     let n = c.in_ok-own.own in
-    let own = naming.named_at T l.next n c.in_ok-own.ensures.ok in
-    let before = gives.name_before T c.args.at c.args.inner c.args.room c.args.name c.args.name_end c.args.nodes.now.items l.nodes.items c.build_value.new.nodes.items c.requires.1.1.0 l.next l.invariant.leads l.invariant.members.fields l.invariant.members.left l.invariant.within own.name n.end c.in_ok-value.value c.in_ok-own.ensures.ok.reads own.stands c.in_ok-value.ensures in
-    let b = subst (Gives T c.in_ok-value.value c.args.room l.next n.end l.nodes.items c.build_value.new.nodes.items) c.in-Flawed.is (rw c.in_ok-own.ensures.ok.start at c.in_ok-built.ensures.ok) in
-    let p = err_from_is_err_and c.from_residual-in_err-end-in-Flawed.result c.from_residual-in_err-end-in-Flawed.ensures.1 in
-    rw (p.1, p.2) (list.bad_rest T curly c.args.at l.next l.invariant.leads c.in_ok-value.value c.in-Flawed.end c.in_err-end-in-Flawed.field-0.0 before b.reads c.in_err-end-in-Flawed.ensures.stop)
+    let read = c.in_ok-own.ensures.ok in
+    let own = naming.named_at T l.next n read in
+    let before = gives.name_before read.reads c.in_ok-value.ensures in
+    let b = gives.built_at read.start c.in-Flawed.is c.in_ok-built.ensures.ok in
+    let failed = c.from_residual-in_err-end-in-Flawed in
+    let p = err_from_is_err_and failed.result failed.ensures.1 in
+    rw (p.1, p.2) (list.bad_rest T curly c.args.at l.next held.leads c.in_ok-value.value c.in-Flawed.end c.in_err-end-in-Flawed.field-0.0 before b.reads c.in_err-end-in-Flawed.ensures.stop)
 
 pub build_object-returns-in-Flawed-clause-ok : goal.build_object-returns-in-Flawed-clause-ok
 build_object-returns-in-Flawed-clause-ok t c =
     let T = c.args.text.now in
     let l = c.loop-own in
+    let held = l.invariant in
     let n = c.in_ok-own.own in
-    let own = naming.named_at T l.next n c.in_ok-own.ensures.ok in
-    let b = subst (Gives T c.in_ok-value.value c.args.room l.next n.end l.nodes.items c.build_value.new.nodes.items) c.in-Flawed.is (rw c.in_ok-own.ensures.ok.start at c.in_ok-built.ensures.ok) in
+    let read = c.in_ok-own.ensures.ok in
+    let own = naming.named_at T l.next n read in
+    let b = gives.built_at read.start c.in-Flawed.is c.in_ok-built.ensures.ok in
     let pushed = c.in_ok-built.ensures.names ∙ c.in_ok-push-2.ensures.items in
-    let es = l.invariant.members.fields ++ record { name = own.name; start = l.next; end = n.end; value = b.tree } ∷ [] in
-    let are = subst (λ z. AreNames T z es) (sym (naming.own_behind c.args.names.now.items l.invariant.members.own l.names.items c.build_value.new.names.items n _ l.invariant.members.behind pushed l.invariant.base)) (naming.are_push T l.invariant.members.own l.invariant.members.fields n (record { name = own.name; start = l.next; end = n.end; value = b.tree }) l.invariant.members.are (own.is b.tree)) in
-    let told = c.in_ok-first-in-Flawed.ensures.flaw es are in
-    rw c.unwrap_or.ensures (gives.object_flawed T c.args.at c.args.inner c.args.room c.args.name c.args.name_end c.args.nodes.now.items l.nodes.items c.build_value.new.nodes.items c.requires.1.1.0 l.next l.invariant.leads l.invariant.members.fields l.invariant.members.left l.invariant.within own.name n.end c.in_ok-value.value c.in_ok-own.ensures.ok.reads own.stands c.in_ok-value.ensures c.in-Flawed.flaw c.in_ok-first-in-Flawed.first c.in-Flawed.end c.in_ok-end-in-Flawed.end b told c.in_ok-end-in-Flawed.ensures.end)
+    let are = gives.names_read held.members pushed held.base (own.is b.tree) in
+    let told = c.in_ok-first-in-Flawed.ensures.flaw _ are in
+    rw c.unwrap_or.ensures (gives.object_flawed c.requires.1.1.0 held.leads held.members held.within read.reads own.stands c.in_ok-value.ensures c.in_ok-first-in-Flawed.first b told c.in_ok-end-in-Flawed.ensures.end)
 
 pub build_object-returns-in_err-item-clause-stop : goal.build_object-returns-in_err-item-clause-stop
 build_object-returns-in_err-item-clause-stop t c =
     let T = c.args.text.now in
     let l = c.loop-own in
+    let held = l.invariant in
     let n = c.in_ok-own.own in
-    let own = naming.named_at T l.next n c.in_ok-own.ensures.ok in
-    let before = gives.name_before T c.args.at c.args.inner c.args.room c.args.name c.args.name_end c.args.nodes.now.items l.nodes.items c.build_value.new.nodes.items c.requires.1.1.0 l.next l.invariant.leads l.invariant.members.fields l.invariant.members.left l.invariant.within own.name n.end c.in_ok-value.value c.in_ok-own.ensures.ok.reads own.stands c.in_ok-value.ensures in
-    let b = subst (Gives T c.in_ok-value.value c.args.room l.next n.end l.nodes.items c.build_value.new.nodes.items) c.in-Whole.is (rw c.in_ok-own.ensures.ok.start at c.in_ok-built.ensures.ok) in
-    let p = err_from_is_err_and c.from_residual-in_err-item.result c.from_residual-in_err-item.ensures.1 in
-    rw (p.1, p.2) (list.bad_rest T curly c.args.at l.next l.invariant.leads c.in_ok-value.value c.in-Whole.end (Syntax c.in_err-item.field-0.0) before b.reads c.in_err-item.ensures.stop)
+    let read = c.in_ok-own.ensures.ok in
+    let own = naming.named_at T l.next n read in
+    let before = gives.name_before read.reads c.in_ok-value.ensures in
+    let b = gives.built_at read.start c.in-Whole.is c.in_ok-built.ensures.ok in
+    let failed = c.from_residual-in_err-item in
+    let p = err_from_is_err_and failed.result failed.ensures.1 in
+    rw (p.1, p.2) (list.bad_rest T curly c.args.at l.next held.leads c.in_ok-value.value c.in-Whole.end (Syntax c.in_err-item.field-0.0) before b.reads c.in_err-item.ensures.stop)
 
 pub build_object-loop-own-preserved : goal.build_object-loop-own-preserved
 build_object-loop-own-preserved t c =
     let T = c.args.text.now in
     let l = c.loop-own in
+    let held = l.invariant in
     let n = c.in_ok-own.own in
-    let own = naming.named_at T l.next n c.in_ok-own.ensures.ok in
-    let b = subst (Gives T c.in_ok-value.value c.args.room l.next n.end l.nodes.items c.build_value.new.nodes.items) c.in-Whole.is (rw c.in_ok-own.ensures.ok.start at c.in_ok-built.ensures.ok) in
+    let read = c.in_ok-own.ensures.ok in
+    let own = naming.named_at T l.next n read in
+    let b = gives.built_at read.start c.in-Whole.is c.in_ok-built.ensures.ok in
     let pushed = c.in_ok-built.ensures.names ∙ c.in_ok-push-2.ensures.items in
-    let comma = subst (GoesOn curly T c.in-Whole.end) c.in-Item.is c.in_ok-item.ensures.ok in
-    let (h, leads, left, more) = gives.object_next T c.args.at c.args.inner c.args.room c.args.name c.args.name_end c.args.nodes.now.items l.nodes.items c.build_value.new.nodes.items c.requires.1.1.0 l.next l.invariant.leads l.invariant.members.fields l.invariant.members.left l.invariant.within own.name n.end c.in_ok-value.value c.in_ok-own.ensures.ok.reads own.stands c.in_ok-value.ensures l.invariant.members.made c.in-Whole.end b c.in-Item.item comma c.args.names.now.items l.invariant.members.own l.names.items c.build_value.new.names.items n l.invariant.members.behind l.invariant.members.are (own.is b.tree) pushed in
-    record { within = h; leads = leads; members = left; base = l.invariant.base; index = search rules; small = record { short = l.invariant.small.short; places = omega (arith, b.kept.1, list.past_comma T c.in-Whole.end c.in-Item.item comma) } }
+    let goes_on = c.in_ok-item.ensures.ok in
+    let comma = gives.next_as curly T c.in-Whole.end c.in-Item.is goes_on in
+    let (h, leads, left, more) = gives.object_next c.requires.1.1.0 held.leads held.members held.within read.reads own.stands c.in_ok-value.ensures b comma (own.is b.tree) pushed in
+    record { within = h; leads = leads; members = left; base = held.base; index = search rules; small = record { short = held.small.short; places = omega (arith, b.kept.1, list.past_comma T c.in-Whole.end c.in-Item.item comma) } }
 
 pub build_object-loop-own-smaller : goal.build_object-loop-own-smaller
 build_object-loop-own-smaller t c =
     let T = c.args.text.now in
     let l = c.loop-own in
+    let held = l.invariant in
     let n = c.in_ok-own.own in
-    let own = naming.named_at T l.next n c.in_ok-own.ensures.ok in
-    let b = subst (Gives T c.in_ok-value.value c.args.room l.next n.end l.nodes.items c.build_value.new.nodes.items) c.in-Whole.is (rw c.in_ok-own.ensures.ok.start at c.in_ok-built.ensures.ok) in
+    let read = c.in_ok-own.ensures.ok in
+    let own = naming.named_at T l.next n read in
+    let b = gives.built_at read.start c.in-Whole.is c.in_ok-built.ensures.ok in
     let pushed = c.in_ok-built.ensures.names ∙ c.in_ok-push-2.ensures.items in
-    let comma = subst (GoesOn curly T c.in-Whole.end) c.in-Item.is c.in_ok-item.ensures.ok in
-    let (h, leads, left, more) = gives.object_next T c.args.at c.args.inner c.args.room c.args.name c.args.name_end c.args.nodes.now.items l.nodes.items c.build_value.new.nodes.items c.requires.1.1.0 l.next l.invariant.leads l.invariant.members.fields l.invariant.members.left l.invariant.within own.name n.end c.in_ok-value.value c.in_ok-own.ensures.ok.reads own.stands c.in_ok-value.ensures l.invariant.members.made c.in-Whole.end b c.in-Item.item comma c.args.names.now.items l.invariant.members.own l.names.items c.build_value.new.names.items n l.invariant.members.behind l.invariant.members.are (own.is b.tree) pushed in
+    let goes_on = c.in_ok-item.ensures.ok in
+    let comma = gives.next_as curly T c.in-Whole.end c.in-Item.is goes_on in
+    let more = (gives.object_next c.requires.1.1.0 held.leads held.members held.within read.reads own.stands c.in_ok-value.ensures b comma (own.is b.tree) pushed).3 in
     omega arith
 
 pub build_object-close_names-requires-clause-are : goal.build_object-close_names-requires-clause-are
 build_object-close_names-requires-clause-are t c =
     let T = c.args.text.now in
     let l = c.loop-own in
+    let held = l.invariant in
     let n = c.in_ok-own.own in
-    let own = naming.named_at T l.next n c.in_ok-own.ensures.ok in
-    let b = subst (Gives T c.in_ok-value.value c.args.room l.next n.end l.nodes.items c.build_value.new.nodes.items) c.in-Flawed.is (rw c.in_ok-own.ensures.ok.start at c.in_ok-built.ensures.ok) in
+    let read = c.in_ok-own.ensures.ok in
+    let own = naming.named_at T l.next n read in
+    let b = gives.built_at read.start c.in-Flawed.is c.in_ok-built.ensures.ok in
     let pushed = c.in_ok-built.ensures.names ∙ c.in_ok-push-2.ensures.items in
-    let es = l.invariant.members.fields ++ record { name = own.name; start = l.next; end = n.end; value = b.tree } ∷ [] in
-    let are = subst (λ z. AreNames T z es) (sym (naming.own_behind c.args.names.now.items l.invariant.members.own l.names.items c.build_value.new.names.items n _ l.invariant.members.behind pushed l.invariant.base)) (naming.are_push T l.invariant.members.own l.invariant.members.fields n (record { name = own.name; start = l.next; end = n.end; value = b.tree }) l.invariant.members.are (own.is b.tree)) in
-    (es, are)
+    let are = gives.names_read held.members pushed held.base (own.is b.tree) in
+    (_, are)
 
 pub build_object-close_names-requires-in-Closed-clause-are : goal.build_object-close_names-requires-in-Closed-clause-are
 build_object-close_names-requires-in-Closed-clause-are t c =
     let T = c.args.text.now in
     let l = c.loop-own in
+    let held = l.invariant in
     let n = c.in_ok-own.own in
-    let own = naming.named_at T l.next n c.in_ok-own.ensures.ok in
-    let b = subst (Gives T c.in_ok-value.value c.args.room l.next n.end l.nodes.items c.build_value.new.nodes.items) c.in-Whole.is (rw c.in_ok-own.ensures.ok.start at c.in_ok-built.ensures.ok) in
+    let read = c.in_ok-own.ensures.ok in
+    let own = naming.named_at T l.next n read in
+    let b = gives.built_at read.start c.in-Whole.is c.in_ok-built.ensures.ok in
     let pushed = c.in_ok-built.ensures.names ∙ c.in_ok-push-2.ensures.items in
-    let es = l.invariant.members.fields ++ record { name = own.name; start = l.next; end = n.end; value = b.tree } ∷ [] in
-    let are = subst (λ z. AreNames T z es) (sym (naming.own_behind c.args.names.now.items l.invariant.members.own l.names.items c.build_value.new.names.items n _ l.invariant.members.behind pushed l.invariant.base)) (naming.are_push T l.invariant.members.own l.invariant.members.fields n (record { name = own.name; start = l.next; end = n.end; value = b.tree }) l.invariant.members.are (own.is b.tree)) in
-    (es, are)
+    let are = gives.names_read held.members pushed held.base (own.is b.tree) in
+    (_, are)
 
 pub build_object-returns-in-Some-clause-ok : goal.build_object-returns-in-Some-clause-ok
 build_object-returns-in-Some-clause-ok t c =
     let T = c.args.text.now in
     let l = c.loop-own in
+    let held = l.invariant in
     let n = c.in_ok-own.own in
-    let own = naming.named_at T l.next n c.in_ok-own.ensures.ok in
-    let b = subst (Gives T c.in_ok-value.value c.args.room l.next n.end l.nodes.items c.build_value.new.nodes.items) c.in-Whole.is (rw c.in_ok-own.ensures.ok.start at c.in_ok-built.ensures.ok) in
+    let read = c.in_ok-own.ensures.ok in
+    let own = naming.named_at T l.next n read in
+    let b = gives.built_at read.start c.in-Whole.is c.in_ok-built.ensures.ok in
     let pushed = c.in_ok-built.ensures.names ∙ c.in_ok-push-2.ensures.items in
-    let es = l.invariant.members.fields ++ record { name = own.name; start = l.next; end = n.end; value = b.tree } ∷ [] in
-    let are = subst (λ z. AreNames T z es) (sym (naming.own_behind c.args.names.now.items l.invariant.members.own l.names.items c.build_value.new.names.items n _ l.invariant.members.behind pushed l.invariant.base)) (naming.are_push T l.invariant.members.own l.invariant.members.fields n (record { name = own.name; start = l.next; end = n.end; value = b.tree }) l.invariant.members.are (own.is b.tree)) in
-    let close = subst (GoesOn curly T c.in-Whole.end) c.in-Closed.is c.in_ok-item.ensures.ok in
-    let told = subst (λ z. option_map flaw_view z ≡ names_flaw [] es) c.in-Some.is (c.in_ok-again-in-Closed.ensures.flaw es are) in
-    gives.object_again T c.args.at c.args.inner c.args.room c.args.name c.args.name_end c.args.nodes.now.items l.nodes.items c.build_value.new.nodes.items c.requires.1.1.0 l.next l.invariant.leads l.invariant.members.fields l.invariant.members.left l.invariant.within own.name n.end c.in_ok-value.value c.in_ok-own.ensures.ok.reads own.stands c.in_ok-value.ensures l.invariant.members.made c.in-Whole.end b c.in-Some.flaw c.in-Closed.end close told _
+    let are = gives.names_read held.members pushed held.base (own.is b.tree) in
+    let goes_on = c.in_ok-item.ensures.ok in
+    let close = gives.next_as curly T c.in-Whole.end c.in-Closed.is goes_on in
+    let told = gives.told_as c.in-Some.is (c.in_ok-again-in-Closed.ensures.flaw _ are) in
+    gives.object_again c.requires.1.1.0 held.leads held.members held.within read.reads own.stands c.in_ok-value.ensures b close told
 
 pub build_object-returns-in-Closed-clause-ok : goal.build_object-returns-in-Closed-clause-ok
 build_object-returns-in-Closed-clause-ok t c =
     let T = c.args.text.now in
     let l = c.loop-own in
+    let held = l.invariant in
     let n = c.in_ok-own.own in
-    let own = naming.named_at T l.next n c.in_ok-own.ensures.ok in
-    let b = subst (Gives T c.in_ok-value.value c.args.room l.next n.end l.nodes.items c.build_value.new.nodes.items) c.in-Whole.is (rw c.in_ok-own.ensures.ok.start at c.in_ok-built.ensures.ok) in
+    let read = c.in_ok-own.ensures.ok in
+    let own = naming.named_at T l.next n read in
+    let b = gives.built_at read.start c.in-Whole.is c.in_ok-built.ensures.ok in
     let pushed = c.in_ok-built.ensures.names ∙ c.in_ok-push-2.ensures.items in
-    let es = l.invariant.members.fields ++ record { name = own.name; start = l.next; end = n.end; value = b.tree } ∷ [] in
-    let are = subst (λ z. AreNames T z es) (sym (naming.own_behind c.args.names.now.items l.invariant.members.own l.names.items c.build_value.new.names.items n _ l.invariant.members.behind pushed l.invariant.base)) (naming.are_push T l.invariant.members.own l.invariant.members.fields n (record { name = own.name; start = l.next; end = n.end; value = b.tree }) l.invariant.members.are (own.is b.tree)) in
-    let close = subst (GoesOn curly T c.in-Whole.end) c.in-Closed.is c.in_ok-item.ensures.ok in
-    let told = subst (λ z. option_map flaw_view z ≡ names_flaw [] es) c.in_default.is (c.in_ok-again-in-Closed.ensures.flaw es are) in
-    gives.object_whole T c.args.at c.args.inner c.args.room c.args.name c.args.name_end c.args.nodes.now.items l.nodes.items c.build_value.new.nodes.items c.requires.1.1.0 l.next l.invariant.leads l.invariant.members.fields l.invariant.members.left l.invariant.within own.name n.end c.in_ok-value.value c.in_ok-own.ensures.ok.reads own.stands c.in_ok-value.ensures l.invariant.members.made c.in-Whole.end b _ c.in-Closed.end close told (search rules)
+    let are = gives.names_read held.members pushed held.base (own.is b.tree) in
+    let goes_on = c.in_ok-item.ensures.ok in
+    let close = gives.next_as curly T c.in-Whole.end c.in-Closed.is goes_on in
+    let told = gives.told_as c.in_default.is (c.in_ok-again-in-Closed.ensures.flaw _ are) in
+    gives.object_whole c.requires.1.1.0 held.leads held.members held.within read.reads own.stands c.in_ok-value.ensures b close told (search rules)

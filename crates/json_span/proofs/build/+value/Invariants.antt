@@ -1,8 +1,8 @@
 use Rattle.std.proofs.Common.{◌≡◌, ◌≤◌, ◌+◌, ◌-◌, ◌*◌, [], length, true}
 use Rattle.json_span.specs.Steered.{square, curly}
-use Rattle.json_span.specs.Skipping.{left_of, Leads}
-use Rattle.json_span.specs.Building.{IsSmall}
-use Rattle.json_span.specs.ListsLeft.{list_left, ArrayLeft, ObjectLeft}
+use Rattle.json_span.specs.inner.Skipping.{left_of, ContinuesAs}
+use Rattle.json_span.specs.inner.Building.{IsSmall}
+use Rattle.json_span.specs.inner.ListsLeft.{list_left, ArrayLeft, ObjectLeft}
 use Rattle.json_span.proofs.build.+value.Given as goal
 
 abbrev pub decreases-build_value : goal.decreases-build_value
@@ -21,7 +21,7 @@ decreases-build_object l = 3 * l.room + 3
 abbrev pub invariant-build_array-loop-end : goal.invariant-build_array-loop-end
 invariant-build_array-loop-end l = record {
   within : l.next ≤ length l.text;
-  leads : Leads l.text (left_of true []) l.at (list_left square) l.next;
+  leads : ContinuesAs l.text (left_of true []) l.at (list_left square) l.next;
   same : l.names.items ≡ l.fn.names.items;
   elements : ArrayLeft l.text l.room l.at l.inner l.next l.name l.name_end l.fn.nodes.items l.nodes.items;
   index : l.index ≡ length l.fn.nodes.items;
@@ -34,7 +34,7 @@ decreases-build_array-loop-end l = length l.text - l.next
 abbrev pub invariant-build_object-loop-own : goal.invariant-build_object-loop-own
 invariant-build_object-loop-own l = record {
   within : l.next ≤ length l.text;
-  leads : Leads l.text (left_of true []) l.at (list_left curly) l.next;
+  leads : ContinuesAs l.text (left_of true []) l.at (list_left curly) l.next;
   members : ObjectLeft l.text l.room l.at l.inner l.next l.name l.name_end l.fn.nodes.items l.nodes.items l.fn.names.items l.names.items;
   base : l.base ≡ length l.fn.names.items;
   index : l.index ≡ length l.fn.nodes.items;

@@ -2,8 +2,8 @@ use Rattle.std.proofs.Common.{sym, subst}
 use Rattle.std.proofs.lemmas.Result.{err_from_is_err_and}
 use Rattle.json_span.specs.Grammar.{ws}
 use Rattle.json_span.specs.Steered.{more_of}
-use Rattle.json_span.specs.Kinds.{bracket_of}
-use Rattle.json_span.specs.Scan.{Halts}
+use Rattle.json_span.specs.inner.Alternatives.{bracket_of}
+use Rattle.json_span.specs.inner.Scan.{Halts}
 use Rattle.json_span.proofs.Scans as scan
 use Rattle.json_span.proofs.Skips as skip
 use Rattle.json_span.proofs.build.next_of.Goals as goal

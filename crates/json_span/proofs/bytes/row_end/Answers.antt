@@ -1,6 +1,6 @@
 use Rattle.std.proofs.Common.{◌+◌, ◌<◌, length, drop, get_or, sym, subst, arith, Ok, Err, ◌≤◌}
 use Rattle.std.proofs.lemmas.List.{drop_more, drop_all}
-use Rattle.json_span.specs.Scan.{Scans, row_of}
+use Rattle.json_span.specs.inner.Scan.{Scans, row_of}
 use Rattle.json_span.specs.declared.bytes.Class.TheVariants.{One}
 use Rattle.json_span.proofs.Classes as row
 use Rattle.json_span.proofs.bytes.row_end.Goals as goal

@@ -1,6 +1,6 @@
 use Rattle.std.proofs.Common.{ℕ, ◌≤◌, length, drop}
 use Rattle.std.specs.Prelude.{Result}
-use Rattle.json_span.specs.Scan.{Scans, row_of}
+use Rattle.json_span.specs.inner.Scan.{Scans, row_of}
 use Rattle.json_span.proofs.bytes.row_end.Given as goal
 
 -- what the rest of the row answers from here is the answer from the start

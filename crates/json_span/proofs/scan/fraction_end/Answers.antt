@@ -2,7 +2,7 @@ use Rattle.std.proofs.Common.{◌≡◌, ◌+◌, ℕ, ◌<◌, length, drop, tr
 use Rattle.grammar.specs.Grammar.{empty, within}
 use Rattle.grammar.specs.Predict.{begins}
 use Rattle.json_span.specs.Grammar.{digits, frac, optional, one}
-use Rattle.json_span.specs.Scan.{Scans}
+use Rattle.json_span.specs.inner.Scan.{Scans}
 use Rattle.json_span.specs.declared.bytes.Class.TheVariants.{One}
 use Rattle.json_span.proofs.Scans as scan
 use Rattle.json_span.proofs.Classes as row

@@ -2,11 +2,11 @@ use Rattle.std.proofs.Common.{ℕ, List, Result, Ok, Err}
 use Rattle.std.proofs.lemmas.Result.{err_from_is_err_and}
 use Rattle.grammar.specs.Grammar.{named, seq}
 use Rattle.json_span.specs.Grammar.{int, frac, exp, optional, one, number}
-use Rattle.json_span.specs.Scan.{Reaches, Scans}
+use Rattle.json_span.specs.inner.Scan.{ReadsTo, Scans}
 use Rattle.json_span.proofs.Scans as scan
 use Rattle.json_span.proofs.scan.number_end.Goals as goal
 
-last : (text : List ℕ) (at a b : ℕ) (r : Result ℕ ℕ) → Reaches (optional (one 45)) text at a → Reaches int text a b → (e : ℕ) → Reaches (optional frac) text b e → Scans (optional exp) text e r → Scans (named number) text at r
+last : (text : List ℕ) (at a b : ℕ) (r : Result ℕ ℕ) → ReadsTo (optional (one 45)) text at a → ReadsTo int text a b → (e : ℕ) → ReadsTo (optional frac) text b e → Scans (optional exp) text e r → Scans (named number) text at r
 last text at a b (Ok end) m w e f x = scan.reach_name text number at end (scan.reach_both text (optional (one 45)) (seq int (seq (optional frac) (optional exp))) at a end m
     (scan.reach_both text int (seq (optional frac) (optional exp)) a b end w (scan.reach_both text (optional frac) (optional exp) b e end f x)))
 last text at a b (Err stop) m w e f x = scan.halt_name text number at stop (scan.halt_second text (optional (one 45)) (seq int (seq (optional frac) (optional exp))) at a stop m

@@ -1,6 +1,6 @@
 use Rattle.std.proofs.Common.{sym}
 use Rattle.std.proofs.lemmas.Result.{err_from_is_err_and}
-use Rattle.json_span.specs.Scan.{rule_of}
+use Rattle.json_span.specs.inner.Scan.{rule_of}
 use Rattle.json_span.proofs.Skips as skip
 use Rattle.json_span.proofs.skip.go_on.Goals as goal
 

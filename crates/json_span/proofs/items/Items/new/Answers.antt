@@ -1,6 +1,6 @@
 use Rattle.std.proofs.Common.{rules, ap}
 use Rattle.json_span.specs.Tree.{elements_in}
-use Rattle.json_span.specs.Once.{one_list}
+use Rattle.json_span.specs.inner.Once.{one_list}
 use Rattle.json_span.proofs.items.Items.new.Goals as goal
 
 pub returns : goal.returns

@@ -1,18 +1,18 @@
--- What is read of a kind is read of a value.
+-- What is read of an alternative is read of a value.
 use Rattle.std.proofs.Common.{◌≡◌, ℕ, ◌≤◌, List, length, drop, true, false, refl, Result, Ok, Err}
-use Rattle.grammar.specs.Grammar.{Rule, alt, seq, named}
-use Rattle.grammar.specs.Predict.{begins, first, nullable, Steers, on_both, on_left, on_right, on_name, Stuck, at_second, at_left, only_right, at_neither, at_named}
+use Rattle.grammar.specs.Grammar.{Rule, alt, named}
+use Rattle.grammar.specs.Predict.{begins, first, nullable, Steers, on_left, on_right, on_name, Stuck, at_left, only_right, at_neither, at_named}
 use Rattle.grammar.specs.Ranges.{is_steered}
 use Rattle.grammar.proofs.Tables.{steered_from}
 use Rattle.json_span.specs.Grammar.{Name, value, number, string, false_word, null_word, true_word}
 use Rattle.json_span.specs.Steered.{rules, table, ahead, list_of, curly, square}
-use Rattle.json_span.specs.Scan.{Halts, Scans}
-use Rattle.json_span.specs.Kinds.{rule_of_kind}
-use Rattle.json_span.specs.declared.kind.Bracket.TheVariants.{Square, Curly}
-use Rattle.json_span.specs.declared.kind.Scalar.TheVariants.{False, Null, True, Number, String}
-use Rattle.json_span.specs.declared.kind.Kind.{Kind}
-use Rattle.json_span.specs.declared.kind.Kind.TheVariants.{Scalar, List as Listed}
-use Rattle.json_span.specs.Skipping.{StopsAt}
+use Rattle.json_span.specs.inner.Scan.{Halts, Scans}
+use Rattle.json_span.specs.inner.Alternatives.{rule_of_alternative}
+use Rattle.json_span.specs.declared.alternative.Bracket.TheVariants.{Square, Curly}
+use Rattle.json_span.specs.declared.alternative.Scalar.TheVariants.{False, Null, True, Number, String}
+use Rattle.json_span.specs.declared.alternative.Alternative.{Alternative}
+use Rattle.json_span.specs.declared.alternative.Alternative.TheVariants.{Scalar, List as Listed}
+use Rattle.json_span.specs.inner.Skipping.{StopsAt}
 use Rattle.json_span.specs.declared.stop.Stop.{Stop}
 use Rattle.json_span.specs.declared.stop.Stop.TheVariants.{Syntax, NoMemory}
 use Rattle.json_span.proofs.Scans as scan
@@ -21,10 +21,6 @@ use Rattle.json_span.proofs.Scans as scan
 abbrev pub Walks : Rule Name → List ℕ → Result (List ℕ) (List ℕ) → Type 0
 Walks r t (Ok u) = Steers rules ahead r t u
 Walks r t (Err u) = Stuck rules ahead r t u
-
-pub walk_then : (r s : Rule Name) (t u : List ℕ) (res : Result (List ℕ) (List ℕ)) → Steers rules ahead r t u → Walks s u res → Walks (seq r s) t res
-walk_then r s t u (Ok v) x y = on_both x y
-walk_then r s t u (Err v) x y = at_second x y
 
 abbrev behind_false : Rule Name
 behind_false = alt null_word (alt true_word (alt (list_of curly) (alt (list_of square) (alt (named number) (named string)))))
@@ -73,7 +69,7 @@ module _ (t : List ℕ) where
   past_square : (r : Rule Name) (res : Result (List ℕ) (List ℕ)) → is_steered table (alt r (list_of square)) ≡ true → begins (first ahead r) t ≡ true → Walks behind_square t res → Walks behind_curly t res
   past_square r res st e x = walk_right (list_of square) behind_square res refl (miss r (list_of square) st e) x
 
-  pub value_walk : (k : Kind) (res : Result (List ℕ) (List ℕ)) → begins (first ahead (rule_of_kind k)) t ≡ true → Walks (rule_of_kind k) t res → Walks (named value) t res
+  pub value_walk : (k : Alternative) (res : Result (List ℕ) (List ℕ)) → begins (first ahead (rule_of_alternative k)) t ≡ true → Walks (rule_of_alternative k) t res → Walks (named value) t res
   value_walk (Scalar False) res e x = walk_name value res (walk_left false_word behind_false res refl e x)
   value_walk (Scalar Null) res e x = past_false null_word res refl e (walk_left null_word behind_null res refl e x)
   value_walk (Scalar True) res e x = past_false true_word res refl e (past_null true_word res refl e (walk_left true_word behind_true res refl e x))
@@ -88,7 +84,7 @@ module _ (t : List ℕ) where
 
 module _ (text : List ℕ) (at : ℕ) where
   -- a scan of the kind that begins there is a scan of a value
-  pub value_scan : (k : Kind) (res : Result ℕ ℕ) → scan.Sees text (first ahead (rule_of_kind k)) at true → Scans (rule_of_kind k) text at res → Scans (named value) text at res
+  pub value_scan : (k : Alternative) (res : Result ℕ ℕ) → scan.Sees text (first ahead (rule_of_alternative k)) at true → Scans (rule_of_alternative k) text at res → Scans (named value) text at res
   value_scan k (Ok e) h x = record { forward = x.forward; within_text = x.within_text; steers = value_walk (drop at text) k (Ok (drop e text)) h x.steers }
   value_scan k (Err e) h x = record { within_text = x.within_text; stuck = value_walk (drop at text) k (Err (drop e text)) h x.stuck }
 
@@ -96,6 +92,6 @@ module _ (text : List ℕ) (at : ℕ) where
   pub no_value : at ≤ length text → scan.Sees text (first ahead (rules value)) at false → Halts (named value) text at at
   no_value h e = record { within_text = h; stuck = at_named (at_neither (scan.miss_left (first ahead false_word) (first ahead behind_false) (drop at text) e) (scan.miss_right (first ahead false_word) (first ahead behind_false) (drop at text) e) refl refl) }
 
-  pub value_stops : (k : Kind) (e : Stop) → scan.Sees text (first ahead (rule_of_kind k)) at true → StopsAt (rule_of_kind k) text at e → StopsAt (named value) text at e
+  pub value_stops : (k : Alternative) (e : Stop) → scan.Sees text (first ahead (rule_of_alternative k)) at true → StopsAt (rule_of_alternative k) text at e → StopsAt (named value) text at e
   value_stops k (Syntax stop) h x = value_scan k (Err stop) h x
   value_stops k NoMemory h x = tt

@@ -2,13 +2,13 @@
 use Rattle.std.specs.Prelude.{ℕ, ◌≤◌, List, [], ◌∷◌, length, drop, Result, Ok, Err}
 use Rattle.grammar.specs.Grammar.{Rule, empty, byte, seq}
 use Rattle.grammar.specs.Predict.{Steers, Stuck}
-use Rattle.json_span.specs.Grammar.{Name, one, either, digit, hex, short, letter_d, not_d, high_digit, low_digit}
+use Rattle.json_span.specs.Grammar.{Name, one, either_byte, digit, hex, short, letter_d, not_d, high_digit, low_digit}
 use Rattle.json_span.specs.Steered.{rules, ahead}
 use Rattle.json_span.specs.declared.bytes.Class.{Class}
 use Rattle.json_span.specs.declared.bytes.Class.TheVariants.{One, Digit, FirstDigit, Sign, Exponent, Hex, NotD, D, BelowHigh, High, Low, Short}
 
 -- from one place to another the text reads so
-pub record Reaches (r : Rule Name) (text : List ℕ) (at end : ℕ) : Type 0 where
+pub record ReadsTo (r : Rule Name) (text : List ℕ) (at end : ℕ) : Type 0 where
   pub forward : at ≤ end
   pub within_text : end ≤ length text
   pub steers : Steers rules ahead r (drop at text) (drop end text)
@@ -19,7 +19,7 @@ pub record Halts (r : Rule Name) (text : List ℕ) (at stop : ℕ) : Type 0 wher
   pub stuck : Stuck rules ahead r (drop at text) (drop stop text)
 
 abbrev pub Scans : Rule Name → List ℕ → ℕ → Result ℕ ℕ → Type 0
-Scans r text at (Ok end) = Reaches r text at end
+Scans r text at (Ok end) = ReadsTo r text at end
 Scans r text at (Err stop) = Halts r text at stop
 
 -- the rule of a class of bytes
@@ -27,8 +27,8 @@ abbrev pub rule_of : Class → Rule Name
 rule_of (One c) = one c
 rule_of Digit = digit
 rule_of FirstDigit = byte 49 57
-rule_of Sign = either 43 45
-rule_of Exponent = either 69 101
+rule_of Sign = either_byte 43 45
+rule_of Exponent = either_byte 69 101
 rule_of Hex = hex
 rule_of NotD = not_d
 rule_of D = letter_d

@@ -1,15 +1,15 @@
--- Kinds of values, by the byte with which each begins.
+-- The alternatives of a value, by the byte with which each begins.
 use Rattle.std.specs.Prelude.{ℕ, ◌||◌, Option, Some, None, if◌then◌else◌}
 use Rattle.grammar.specs.Grammar.{Rule, named, within}
 use Rattle.json_span.specs.Grammar.{Name, number, string, false_word, null_word, true_word}
 use Rattle.json_span.specs.Steered as steered
 use Rattle.json_span.specs.Steered.{list_of}
-use Rattle.json_span.specs.declared.kind.Bracket.{Bracket}
-use Rattle.json_span.specs.declared.kind.Bracket.TheVariants.{Square, Curly}
-use Rattle.json_span.specs.declared.kind.Kind.{Kind}
-use Rattle.json_span.specs.declared.kind.Kind.TheVariants.{Scalar as AScalar, List}
-use Rattle.json_span.specs.declared.kind.Scalar.{Scalar}
-use Rattle.json_span.specs.declared.kind.Scalar.TheVariants.{False, Null, True, Number, String}
+use Rattle.json_span.specs.declared.alternative.Bracket.{Bracket}
+use Rattle.json_span.specs.declared.alternative.Bracket.TheVariants.{Square, Curly}
+use Rattle.json_span.specs.declared.alternative.Alternative.{Alternative}
+use Rattle.json_span.specs.declared.alternative.Alternative.TheVariants.{Scalar as AScalar, List}
+use Rattle.json_span.specs.declared.alternative.Scalar.{Scalar}
+use Rattle.json_span.specs.declared.alternative.Scalar.TheVariants.{False, Null, True, Number, String}
 
 abbrev pub bracket_of : Bracket → steered.Bracket
 bracket_of Square = steered.square
@@ -22,12 +22,12 @@ rule_of_scalar True = true_word
 rule_of_scalar Number = named number
 rule_of_scalar String = named string
 
-abbrev pub rule_of_kind : Kind → Rule Name
-rule_of_kind (AScalar s) = rule_of_scalar s
-rule_of_kind (List b) = list_of (bracket_of b)
+abbrev pub rule_of_alternative : Alternative → Rule Name
+rule_of_alternative (AScalar s) = rule_of_scalar s
+rule_of_alternative (List b) = list_of (bracket_of b)
 
-abbrev pub kind_of : ℕ → Option Kind
-kind_of c =
+abbrev pub alternative_of : ℕ → Option Alternative
+alternative_of c =
     if within 102 102 c then Some (AScalar False) else
     (if within 110 110 c then Some (AScalar Null) else
     (if within 116 116 c then Some (AScalar True) else

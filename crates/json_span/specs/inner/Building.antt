@@ -4,10 +4,10 @@ use Rattle.grammar.specs.Grammar.{named, seq, within}
 use Rattle.grammar.specs.Predict.{begins, first}
 use Rattle.json_span.specs.Grammar.{value, ws, one}
 use Rattle.json_span.specs.Tree.{Tree, Placed, an_array, an_object, no_elements, no_members}
-use Rattle.json_span.specs.Reading.{Value}
+use Rattle.json_span.specs.Reading.{ValueAt}
 use Rattle.json_span.specs.Flaw.{Flaw, equal_names, too_deep, flaw_in}
 use Rattle.json_span.specs.Steered.{Bracket, square, curly, ahead, close_of, more_of, list_of}
-use Rattle.json_span.specs.Scan.{Reaches, Halts}
+use Rattle.json_span.specs.inner.Scan.{ReadsTo, Halts}
 use Rattle.json_span.specs.Answer.{IsAnswer, shows}
 use Rattle.json_span.specs.Table.{span, spans}
 use Rattle.json_span.specs.declared.table.Span.{Span}
@@ -37,14 +37,15 @@ flaw_of_built (Flawed f end) = Some (flaw_view f)
 
 -- a whole value is kept as its spans behind the old ones
 abbrev pub IsKept : ℕ → ℕ → List Span → List Span → Built → Placed → Type 0
-IsKept name name_end old new (Whole end) tree = (new ≡ old ++ spans name name_end (length old) tree) × (length new ≤ end)
+IsKept name name_end old new (Whole end) tree =
+    (new ≡ old ++ spans name name_end (length old) tree) × (length new ≤ end)
 IsKept name name_end old new (Flawed f end) tree = Unit {0}
 
 -- the value that stands there, with its first flaw
-pub record Gives (text : List ℕ) (at room name name_end : ℕ) (old new : List Span) (b : Built) : Type 0 where
+pub record IsBuilt (text : List ℕ) (at room name name_end : ℕ) (old new : List Span) (b : Built) : Type 0 where
   pub tree : Placed
-  pub reads : Reaches (named value) text at (end_of_built b)
-  pub value : Value (length text) (drop at text) tree (drop (end_of_built b) text)
+  pub reads : ReadsTo (named value) text at (end_of_built b)
+  pub value : ValueAt (length text) (drop at text) tree (drop (end_of_built b) text)
   pub flaw : flaw_in room tree ≡ flaw_of_built b
   pub kept : IsKept name name_end old new b tree
 
@@ -52,27 +53,27 @@ pub record Gives (text : List ℕ) (at room name name_end : ℕ) (old new : List
 pub record Opens (b : Bracket) (text : List ℕ) (at inner : ℕ) : Type 0 where
   pub bound : at < length text
   pub opens : begins (first ahead (list_of b)) (drop at text) ≡ true
-  pub blanks : Reaches ws text (at + 1) inner
+  pub blanks : ReadsTo ws text (at + 1) inner
   pub some : begins (first ahead (one (close_of b))) (drop inner text) ≡ false
 
 -- a comma, with blanks around it
 pub record IsComma (text : List ℕ) (at item : ℕ) : Type 0 where
   pub comma : ℕ
-  pub before : Reaches ws text at comma
+  pub before : ReadsTo ws text at comma
   pub bound : comma < length text
   pub sees : begins (within 44 44) (drop comma text) ≡ true
-  pub behind : Reaches ws text (comma + 1) item
+  pub behind : ReadsTo ws text (comma + 1) item
 
 -- the bracket that closes, with blanks before it
 pub record IsClose (b : Bracket) (text : List ℕ) (at end : ℕ) : Type 0 where
   pub close : ℕ
-  pub before : Reaches ws text at close
+  pub before : ReadsTo ws text at close
   pub sees : begins (within 44 44) (drop close text) ≡ false
-  pub closes : Reaches (one (close_of b)) text close end
+  pub closes : ReadsTo (one (close_of b)) text close end
 
-abbrev pub GoesOn : Bracket → List ℕ → ℕ → Next → Type 0
-GoesOn b text at (Item item) = IsComma text at item
-GoesOn b text at (Closed end) = IsClose b text at end
+abbrev pub IsNext : Bracket → List ℕ → ℕ → Next → Type 0
+IsNext b text at (Item item) = IsComma text at item
+IsNext b text at (Closed end) = IsClose b text at end
 
 abbrev pub HaltsBehind : Bracket → List ℕ → ℕ → ℕ → Type 0
 HaltsBehind b text at stop = Halts (seq ws (more_of b)) text at stop
