@@ -6,7 +6,7 @@ use Rattle.json_span.proofs.Views.{entries_in-of}
 use Rattle.token_tree.specs.declared.fault.Rule.{Rule}
 use Rattle.token_tree.specs.declared.fault.Rule.TheVariants as rule
 use Rattle.token_tree.specs.Tree.{a_token, a_group}
-use Rattle.token_tree.specs.Answer.{AreMembers}
+use Rattle.token_tree.specs.Answer.{IsObjectOf}
 use Rattle.token_tree.specs.Shape.{Break, members_in, entries_at, is_object, are_token, is_token, at_value, token_breaks, group_breaks, child_breaks, shape_breaks, child_of, def_of, group_of}
 use Rattle.token_tree.proofs.Keeps.{members_again}
 use Rattle.token_tree.proofs.Sound.{entries_are}
@@ -36,25 +36,25 @@ if_false b x y e = ap (λ t. cond t x y) e
 
 -- what the breaks of an object of these members are
 
-breaks_of : (n : Placed) (es : List Entry) → AreMembers n es → child_breaks n ≡ cond (are_token es) (token_breaks es) (group_breaks (members_of es))
+breaks_of : (n : Placed) (es : List Entry) → IsObjectOf n es → child_breaks n ≡ cond (are_token es) (token_breaks es) (group_breaks (members_of es))
 breaks_of (placed v start end) es h =
     ap (λ z. child_breaks (placed z start end)) h
     ∙ ap (λ z. cond (are_token z) (token_breaks z) (group_breaks (members_of es))) (entries_in-of es)
 
-pub group_child_breaks : (n : Placed) (es : List Entry) → AreMembers n es → are_token es ≡ false → child_breaks n ≡ group_breaks (members_of es)
+pub group_child_breaks : (n : Placed) (es : List Entry) → IsObjectOf n es → are_token es ≡ false → child_breaks n ≡ group_breaks (members_of es)
 group_child_breaks n es h t = breaks_of n es h ∙ if_false (are_token es) (token_breaks es) (group_breaks (members_of es)) t
 
-token_is : (n : Placed) (es : List Entry) → AreMembers n es → is_token n ≡ are_token es
+token_is : (n : Placed) (es : List Entry) → IsObjectOf n es → is_token n ≡ are_token es
 token_is n es h = ap are_token (entries_are n es h)
 
 -- and what child it is
 
-pub group_child : (file text : List ℕ) (n : Placed) (es : List Entry) → AreMembers n es → are_token es ≡ false → child_of file text n ≡ a_group (group_of file text (an_object (members_of es)))
+pub group_child : (file text : List ℕ) (n : Placed) (es : List Entry) → IsObjectOf n es → are_token es ≡ false → child_of file text n ≡ a_group (group_of file text (an_object (members_of es)))
 group_child file text (placed v start end) es h t =
     if_false (is_token (placed v start end)) (a_token (def_of file text (placed v start end))) (a_group (group_of file text v)) (token_is (placed v start end) es h ∙ t)
     ∙ ap (λ z. a_group (group_of file text z)) h
 
-pub token_child : (file text : List ℕ) (n : Placed) (es : List Entry) → AreMembers n es → are_token es ≡ true → child_of file text n ≡ a_token (def_of file text n)
+pub token_child : (file text : List ℕ) (n : Placed) (es : List Entry) → IsObjectOf n es → are_token es ≡ true → child_of file text n ≡ a_token (def_of file text n)
 token_child file text (placed v start end) es h t =
     if_true (is_token (placed v start end)) (a_token (def_of file text (placed v start end))) (a_group (group_of file text v)) (token_is (placed v start end) es h ∙ t)
 
@@ -68,15 +68,15 @@ pub no_root : (n : Placed) → is_object (tree_of n) ≡ false → shape_breaks 
 unfolding shape_breaks
 no_root n e = ap (λ t. cond (not t) (at_value rule.Root n) (cond (is_token n) (at_value rule.Root n ++ token_breaks (entries_at n)) (group_breaks (members_in (tree_of n))))) e
 
-root_cases : (n : Placed) (es : List Entry) → AreMembers n es → shape_breaks n ≡ cond (are_token es) (at_value rule.Root n ++ token_breaks (entries_at n)) (group_breaks (members_of es))
+root_cases : (n : Placed) (es : List Entry) → IsObjectOf n es → shape_breaks n ≡ cond (are_token es) (at_value rule.Root n ++ token_breaks (entries_at n)) (group_breaks (members_of es))
 unfolding shape_breaks
 root_cases (placed v start end) es h =
     let n = placed v start end in
     ap (λ z. cond (not (is_object z)) (at_value rule.Root n) (cond (is_token n) (at_value rule.Root n ++ token_breaks (entries_at n)) (group_breaks (members_in z)))) h
     ∙ ap (λ t. cond t (at_value rule.Root n ++ token_breaks (entries_at n)) (group_breaks (members_of es))) (token_is n es h)
 
-pub group_root : (n : Placed) (es : List Entry) → AreMembers n es → are_token es ≡ false → shape_breaks n ≡ group_breaks (members_of es)
+pub group_root : (n : Placed) (es : List Entry) → IsObjectOf n es → are_token es ≡ false → shape_breaks n ≡ group_breaks (members_of es)
 group_root n es h t = root_cases n es h ∙ if_false (are_token es) (at_value rule.Root n ++ token_breaks (entries_at n)) (group_breaks (members_of es)) t
 
-pub token_root : (n : Placed) (es : List Entry) → AreMembers n es → are_token es ≡ true → shape_breaks n ≡ at_value rule.Root n ++ token_breaks (entries_at n)
+pub token_root : (n : Placed) (es : List Entry) → IsObjectOf n es → are_token es ≡ true → shape_breaks n ≡ at_value rule.Root n ++ token_breaks (entries_at n)
 token_root n es h t = root_cases n es h ∙ if_true (are_token es) (at_value rule.Root n ++ token_breaks (entries_at n)) (group_breaks (members_of es)) t

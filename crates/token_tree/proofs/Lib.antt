@@ -1,17 +1,18 @@
-pub mod SortedLists
-pub mod StableSorts
+pub mod Flaws
+pub mod Keeps
+pub mod Moved
 pub mod NameLists
 pub mod Names
-pub mod Targets
-pub mod Steps
-pub mod Weights
 pub mod Objects
-pub mod Flaws
-pub mod Moved
-pub mod Sound
 pub mod Places
-pub mod Children
-pub mod Keeps
-pub mod Groups
-pub mod OneAnswer
-pub mod Order
+pub mod Targets
+mod Children
+mod Groups
+mod OneAnswer
+mod Order
+mod ShapesOfSlices
+mod SortedLists
+mod Sound
+mod StableSorts
+mod Steps
+mod Weights

@@ -3,11 +3,11 @@ use Rattle.std.proofs.Common.{◌≡◌, ℕ, ◌+◌, Bool, true, false, not, �
 use Rattle.std.specs.Prelude.{is_some, unwrap_or, option_and_then}
 use Rattle.std.specs.List.{flat_map}
 use Rattle.std.specs.Str.{bytes_eq}
-use Rattle.json_span.specs.Tree.{Tree, a_null, a_boolean, a_number, a_string, an_array, an_object, Placed, placed, Members, no_members, member, Entry, entries_in, tree_of, start_of, end_of, string_in, under}
+use Rattle.json_span.specs.Tree.{Tree, a_null, a_boolean, a_number, a_string, an_array, an_object, Placed, placed, Members, no_members, a_member, Entry, entries_in, tree_of, start_of, end_of, string_in, value_of_name}
 use Rattle.json_span.specs.Parts.{moved, moved_tree, moved_members}
 use Rattle.token_tree.specs.declared.fault.Rule.TheVariants as rule
 use Rattle.token_tree.specs.Texts.{is_reserved, kind_named}
-use Rattle.token_tree.specs.Shape.{members_in, entries_at, has, are_token, is_token, kind_in, mark_in, has_token_form, at_value, token_member_breaks, token_breaks, said, kind_of, description_of, deprecated_of, value_of}
+use Rattle.token_tree.specs.Shape.{members_in, entries_at, has, are_token, is_token, kind_in, mark_in, has_token_form, at_value, token_member_breaks, token_breaks, said, said_kind, said_description, said_deprecated, token_value}
 
 abbrev pub moved_entry : ℕ → Entry → Entry
 moved_entry d e = record { name = e.name; start = d + e.start; end = d + e.end; value = moved d e.value }
@@ -23,7 +23,7 @@ moved_end d (placed v start end) = refl
 
 entries_moved : (d : ℕ) (ms : Members) → entries_in (moved_members d ms) ≡ map (moved_entry d) (entries_in ms)
 entries_moved d no_members = refl
-entries_moved d (member s start end n ms) = ap (λ es. record { name = s; start = d + start; end = d + end; value = moved d n } ∷ es) (entries_moved d ms)
+entries_moved d (a_member s start end n ms) = ap (λ es. record { name = s; start = d + start; end = d + end; value = moved d n } ∷ es) (entries_moved d ms)
 
 tree_entries_moved : (d : ℕ) (v : Tree) → entries_in (members_in (moved_tree d v)) ≡ map (moved_entry d) (entries_in (members_in v))
 tree_entries_moved d a_null = refl
@@ -40,16 +40,16 @@ chosen : {A B : Type 0} (f : A → B) (b : Bool) (x y : Option A) → cond b (op
 chosen f true x y = refl
 chosen f false x y = refl
 
-pub under_moved : (d : ℕ) (name : List ℕ) (es : List Entry) → under name (map (moved_entry d) es) ≡ option_map (moved d) (under name es)
+pub under_moved : (d : ℕ) (name : List ℕ) (es : List Entry) → value_of_name name (map (moved_entry d) es) ≡ option_map (moved d) (value_of_name name es)
 under_moved d name [] = refl
-under_moved d name (e ∷ es) = ap (cond (bytes_eq e.name name) (Some (moved d e.value))) (under_moved d name es) ∙ chosen (moved d) (bytes_eq e.name name) (Some e.value) (under name es)
+under_moved d name (e ∷ es) = ap (cond (bytes_eq e.name name) (Some (moved d e.value))) (under_moved d name es) ∙ chosen (moved d) (bytes_eq e.name name) (Some e.value) (value_of_name name es)
 
 some_moved : {A B : Type 0} (f : A → B) (o : Option A) → is_some (option_map f o) ≡ is_some o
 some_moved f None = refl
 some_moved f (Some x) = refl
 
 pub has_moved : (d : ℕ) (name : List ℕ) (es : List Entry) → has name (map (moved_entry d) es) ≡ has name es
-has_moved d name es = ap is_some (under_moved d name es) ∙ some_moved (moved d) (under name es)
+has_moved d name es = ap is_some (under_moved d name es) ∙ some_moved (moved d) (value_of_name name es)
 
 -- readings of a value that do not look at offsets
 abbrev Stays : {A : Type 0} → (Tree → A) → Type 0
@@ -83,19 +83,19 @@ token_form_stays valued name d (an_array ns) = refl
 token_form_stays valued name d (an_object ms) = refl
 
 said_moved : {A : Type 0} (read : Tree → Option A) → Stays read → (d : ℕ) (name : List ℕ) (es : List Entry) → said read name (map (moved_entry d) es) ≡ said read name es
-said_moved read stays d name es = ap (option_and_then (λ n. read (tree_of n))) (under_moved d name es) ∙ through (under name es)
+said_moved read stays d name es = ap (option_and_then (λ n. read (tree_of n))) (under_moved d name es) ∙ through (value_of_name name es)
   where
     through : (o : Option Placed) → option_and_then (λ n. read (tree_of n)) (option_map (moved d) o) ≡ option_and_then (λ n. read (tree_of n)) o
     through None = refl
     through (Some n) = ap read (moved_tree_of d n) ∙ stays d (tree_of n)
 
-pub kind_moved : (d : ℕ) (es : List Entry) → kind_of (map (moved_entry d) es) ≡ kind_of es
+pub kind_moved : (d : ℕ) (es : List Entry) → said_kind (map (moved_entry d) es) ≡ said_kind es
 kind_moved d es = said_moved kind_in kind_stays d (codes "$type") es
 
-pub description_moved : (d : ℕ) (es : List Entry) → description_of (map (moved_entry d) es) ≡ description_of es
+pub description_moved : (d : ℕ) (es : List Entry) → said_description (map (moved_entry d) es) ≡ said_description es
 description_moved d es = said_moved string_in string_stays d (codes "$description") es
 
-pub deprecated_moved : (d : ℕ) (es : List Entry) → deprecated_of (map (moved_entry d) es) ≡ deprecated_of es
+pub deprecated_moved : (d : ℕ) (es : List Entry) → said_deprecated (map (moved_entry d) es) ≡ said_deprecated es
 deprecated_moved d es = said_moved mark_in mark_stays d (codes "$deprecated") es
 
 pub token_moved : (d : ℕ) (n : Placed) → is_token (moved d n) ≡ is_token n
@@ -106,12 +106,12 @@ or_moved d (Some x) p n = refl
 or_moved d None (Some y) n = refl
 or_moved d None None n = refl
 
-pub value_moved : (d : ℕ) (n : Placed) → value_of (moved d n) ≡ moved d (value_of n)
+pub value_moved : (d : ℕ) (n : Placed) → token_value (moved d n) ≡ moved d (token_value n)
 value_moved d n =
     ap₂ (λ o p. unwrap_or o (unwrap_or p (moved d n)))
-    (ap (under (codes "$ref")) (entries_at_moved d n) ∙ under_moved d (codes "$ref") (entries_at n))
-    (ap (under (codes "$value")) (entries_at_moved d n) ∙ under_moved d (codes "$value") (entries_at n))
-    ∙ or_moved d (under (codes "$ref") (entries_at n)) (under (codes "$value") (entries_at n)) n
+    (ap (value_of_name (codes "$ref")) (entries_at_moved d n) ∙ under_moved d (codes "$ref") (entries_at n))
+    (ap (value_of_name (codes "$value")) (entries_at_moved d n) ∙ under_moved d (codes "$value") (entries_at n))
+    ∙ or_moved d (value_of_name (codes "$ref") (entries_at n)) (value_of_name (codes "$value") (entries_at n)) n
 
 -- no break is left where the moved object has none
 

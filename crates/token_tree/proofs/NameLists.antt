@@ -15,8 +15,9 @@ use denote.Param.Members.{Mut}
 use Rattle.tk_io.specs.Order.{text_cmp}
 use Rattle.tk_io.proofs.TextMaps.{text_cmp-IsAntisymmetric}
 use Rattle.token_tree.specs.Tree.{Child as ChildData, Named}
-use Rattle.token_tree.specs.Shown.{member_view, child_view}
-use Rattle.token_tree.specs.Listed.{entries_of, entries_in, named_in, IsPlaceOf, IsGapFor, NamesApart}
+use Rattle.token_tree.specs.View.{member_view, child_view}
+use Rattle.token_tree.specs.MembersView.{entries_of, kept_entries, kept_named}
+use Rattle.token_tree.specs.inner.Lists.{IsPlaceOf, IsGapFor, NamesApart}
 use Rattle.token_tree.specs.declared.tree.Member.{Member}
 use Rattle.token_tree.specs.declared.tree.Members.TheInside.{Inside}
 use Rattle.token_tree.proofs.SortedLists as sorted
@@ -81,17 +82,17 @@ how_many list m e = sym (length-map list member_view) ∙ (ap length e ∙ sym (
 
 -- the list and the map that it is seen as
 
-pub listed : (m : Inside) (now : Named) → T (is_sorted text_cmp (entries_in m)) → named_in m ≡ now → entries_in m ≡ finite.entries now
-listed m now s e = sym (finite.entries-from_sorted text_cmp (entries_in m) s) ∙ ap finite.entries e
+pub listed : (m : Inside) (now : Named) → T (is_sorted text_cmp (kept_entries m)) → kept_named m ≡ now → kept_entries m ≡ finite.entries now
+listed m now s e = sym (finite.entries-from_sorted text_cmp (kept_entries m) s) ∙ ap finite.entries e
 
 pub still_sorted : (name : List ℕ) (c : ChildData) (es fs : List (List ℕ × ChildData)) → T (is_sorted text_cmp es) → fs ≡ put text_cmp name c es → T (is_sorted text_cmp fs)
 still_sorted name c es fs s e = subst (λ l. T (is_sorted text_cmp l)) (sym e) (is_sorted-put text_cmp nat_list_cmp_total name c es s)
 
-pub put_listed : (m : Inside) (now : Named) (list : List Member) (name : List ℕ) (c : ChildData) → T (is_sorted text_cmp (entries_in m)) → named_in m ≡ now → entries_of list ≡ put text_cmp name c (entries_in m)
+pub put_listed : (m : Inside) (now : Named) (list : List Member) (name : List ℕ) (c : ChildData) → T (is_sorted text_cmp (kept_entries m)) → kept_named m ≡ now → entries_of list ≡ put text_cmp name c (kept_entries m)
     → finite.from_sorted (entries_of list) ≡ finite.insert now name c
 put_listed m now list name c s v e =
     finite.same_entries_map _ _
-    (finite.entries-from_sorted text_cmp (entries_of list) (still_sorted name c (entries_in m) (entries_of list) s e)
+    (finite.entries-from_sorted text_cmp (entries_of list) (still_sorted name c (kept_entries m) (entries_of list) s e)
     ∙ (e ∙ (ap (put text_cmp name c) (listed m now s v) ∙ sym (finite.entries-insert nat_list_cmp_total now name c))))
 
 -- whether the member was put or not, the list is in order

@@ -11,7 +11,7 @@ use Rattle.grammar.specs.Grammar.{Rule, Reads, one_byte, both}
 use Rattle.json_span.specs.Grammar.{Name, one}
 use Rattle.json_span.specs.Steered.{rules}
 use Rattle.json_span.specs.Tree.{Tree, a_null, a_boolean, a_number, a_string, an_array, an_object, Placed, placed, Members, tree_of, start_of, end_of}
-use Rattle.json_span.specs.Reading.{value_at, Shape, object_shape, member_at, MembersAt, no_member, first_member, MoreMembers, last_member, next_member, Shows}
+use Rattle.json_span.specs.Reading.{with_span, Shape, object_shape, member_at, MembersAt, no_member, first_member, MoreMembers, last_member, next_member, Shows}
 use Rattle.json_span.specs.Parts.{IsPart, moved, moved_tree}
 use Rattle.json_span.proofs.Exists.{front_of}
 use Rattle.json_span.proofs.Shorts.{is_value}
@@ -69,7 +69,7 @@ pub record ObjectAt (text : List ℕ) (n : Placed) : Type 0 where
   pub whole : slice_range text (start_of n) (end_of n) ≡ 123 ∷ (inner ++ 125 ∷ [])
 
 at_slice : (text : List ℕ) (v : Tree) (a b : ℕ) (ms : Members) → v ≡ an_object ms → (m : Placed) → Shows (slice_range text a b) m → moved a m ≡ placed v a b → ObjectAt text (placed v a b)
-at_slice text v a b ms is (placed w x y) (t, u, blanks, value_at shape p q, after) e =
+at_slice text v a b ms is (placed w x y) (t, u, blanks, with_span shape p q, after) e =
     let s = slice_range text a b in
     let tree : moved_tree a w ≡ v = ap tree_of e in
     let begin : a + x ≡ a = ap start_of e in
@@ -89,7 +89,7 @@ at_slice text v a b ms is (placed w x y) (t, u, blanks, value_at shape p q, afte
     let last_ : y ≡ length s = omega (arith, fits.1) in
     record {
       alone = placed w x y;
-      shown = (t, u, blanks, value_at shape p q, after);
+      shown = (t, u, blanks, with_span shape p q, after);
       placed_ = e;
       first = omega arith;
       last = last_;

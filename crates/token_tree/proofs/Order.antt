@@ -5,10 +5,10 @@ use Rattle.std.specs.Str.{bytes_eq}
 use Rattle.grammar.specs.Grammar.{Reads, one_byte, both}
 use Rattle.grammar.proofs.Steps.{no_longer}
 use Rattle.name_path.specs.Names.{root_name}
-use Rattle.json_span.specs.Steered.{rules, token}
+use Rattle.json_span.specs.Steered.{rules, symbol}
 use Rattle.json_span.specs.Tree.{Tree, a_null, a_boolean, a_number, a_string, an_array, Placed, placed, Elements, Members, Entry, entries_in, tree_of, start_of, end_of}
-use Rattle.json_span.specs.Reading.{BeginsAt, Value, value_at, Shape, null_shape, false_shape, true_shape, number_shape, string_shape, array_shape, object_shape, ElementsAt, no_element, first_element, MoreElements, last_element, next_element, MemberAt, member_at, MembersAt, no_member, first_member, MoreMembers, last_member, next_member, Shows}
-use Rattle.json_span.specs.Parts.{IsPart, itself, inside, IsIn, in_array, in_object, IsElement, this_element, later_element, IsMember, this_member, later_member}
+use Rattle.json_span.specs.Reading.{BeginsAt, ValueAt, with_span, Shape, null_shape, false_shape, true_shape, number_shape, string_shape, array_shape, object_shape, ElementsAt, no_element, first_element, MoreElements, last_element, next_element, MemberAt, member_at, MembersAt, no_member, first_member, MoreMembers, last_member, next_member, Shows}
+use Rattle.json_span.specs.Parts.{IsPart, itself, inside, IsInside, inside_array, inside_object, IsInElements, in_element, in_later_element, IsInMembers, in_member, in_later_member}
 use Rattle.json_span.proofs.Unique.{value_reads, more_members_read}
 use Rattle.token_tree.specs.declared.fault.Rule.{Rule as Rule_}
 use Rattle.token_tree.specs.declared.fault.Rule.TheVariants as rule
@@ -38,7 +38,7 @@ one_of true low high xs ys c d = c
 one_of false low high xs ys c d = d
 
 -- a byte less is left behind a structural character
-past_token : {c : ℕ} {t u : List ℕ} → Reads rules (token c) t u → length u < length t
+past_token : {c : ℕ} {t u : List ℕ} → Reads rules (symbol c) t u → length u < length t
 past_token (both (one_byte h) w) = omega (arith, no_longer w)
 
 -- where the parts of a member stand
@@ -46,14 +46,14 @@ record Stands (start : ℕ) (n : Placed) : Type 0 where
   first : start < start_of n
   last : start_of n ≤ end_of n
 
-value_forward : {total : ℕ} {t u : List ℕ} {n : Placed} → Value total t n u → start_of n ≤ end_of n
-value_forward (value_at s p q) = let h = no_longer (value_reads (value_at s p q)) in omega (arith, p, q, h)
+value_forward : {total : ℕ} {t u : List ℕ} {n : Placed} → ValueAt total t n u → start_of n ≤ end_of n
+value_forward (with_span s p q) = let h = no_longer (value_reads (with_span s p q)) in omega (arith, p, q, h)
 
-value_begins : {total : ℕ} {t u : List ℕ} {n : Placed} → Value total t n u → start_of n + length t ≡ total
-value_begins (value_at s p q) = p
+value_begins : {total : ℕ} {t u : List ℕ} {n : Placed} → ValueAt total t n u → start_of n + length t ≡ total
+value_begins (with_span s p q) = p
 
-value_ends : {total : ℕ} {t u : List ℕ} {n : Placed} → Value total t n u → end_of n + length u ≡ total
-value_ends (value_at s p q) = q
+value_ends : {total : ℕ} {t u : List ℕ} {n : Placed} → ValueAt total t n u → end_of n + length u ≡ total
+value_ends (with_span s p q) = q
 
 stands : {total : ℕ} {t u s : List ℕ} {start end : ℕ} {n : Placed} → MemberAt total t s start end n u → Stands start n
 stands (member_at k p q a c v) = record {
@@ -117,11 +117,11 @@ token_chain {total} {t} {u} (object_shape {m = m} {ms = ms} r y) low high p q =
     let k = past_token r in
     lower (total - length m) (low + 1) high (token_breaks (entries_in ms)) (omega (arith, k, p)) (token_members y (has (codes "$value") (entries_in ms)) (total - length m) high (omega (arith, k, p)) q)
 
-root_chain : {total : ℕ} {t u : List ℕ} {n : Placed} → Value total t n u → Chain (start_of n) (end_of n) (root_breaks n)
-root_chain {n = n} (value_at {v = v} {start = start} {end = end} x p q) =
+root_chain : {total : ℕ} {t u : List ℕ} {n : Placed} → ValueAt total t n u → Chain (start_of n) (end_of n) (root_breaks n)
+root_chain {n = n} (with_span {v = v} {start = start} {end = end} x p q) =
     one_of (is_token (placed v start end)) start end (token_breaks (entries_at (placed v start end))) (at_value rule.RootToken (placed v start end))
     (lower (start + 1) start end (token_breaks (entries_at (placed v start end))) (omega arith) (token_chain x start end p q))
-    (value_break rule.RootToken (placed v start end) (value_forward (value_at x p q)))
+    (value_break rule.RootToken (placed v start end) (value_forward (with_span x p q)))
 
 group_member : (name : List ℕ) (start end : ℕ) (n : Placed) (within : List Break) → Stands start n → Chain (start_of n) (end_of n) within → Chain (start_of n) (end_of n) (root_breaks n)
     → Chain start (end_of n) (group_member_breaks (record { name = name; start = start; end = end; value = n }) within)
@@ -136,14 +136,14 @@ group_member name start end n within s c r =
     (omega arith, omega (arith, s.first, s.last), lower (start_of n) (start + 1) (end_of n) within (omega (arith, s.first)) c)))
 
 mutual
-  child_chain : {total : ℕ} {t u : List ℕ} {n : Placed} → Value total t n u → Chain (start_of n) (end_of n) (child_breaks n)
-  child_chain (value_at {start = start} {end = end} (null_shape r) p q) = value_break rule.Member (placed a_null start end) (value_forward (value_at (null_shape r) p q))
-  child_chain (value_at {start = start} {end = end} (false_shape r) p q) = value_break rule.Member (placed (a_boolean false) start end) (value_forward (value_at (false_shape r) p q))
-  child_chain (value_at {start = start} {end = end} (true_shape r) p q) = value_break rule.Member (placed (a_boolean true) start end) (value_forward (value_at (true_shape r) p q))
-  child_chain (value_at {start = start} {end = end} (number_shape {k = k} r e) p q) = value_break rule.Member (placed (a_number k) start end) (value_forward (value_at (number_shape r e) p q))
-  child_chain (value_at {start = start} {end = end} (string_shape {s = s} k) p q) = value_break rule.Member (placed (a_string s) start end) (value_forward (value_at (string_shape k) p q))
-  child_chain (value_at {start = start} {end = end} (array_shape {ns = ns} r y) p q) = value_break rule.Member (placed (an_array ns) start end) (value_forward (value_at (array_shape r y) p q))
-  child_chain {total} (value_at {start = start} {end = end} (object_shape {m = m} {ms = ms} r y) p q) =
+  child_chain : {total : ℕ} {t u : List ℕ} {n : Placed} → ValueAt total t n u → Chain (start_of n) (end_of n) (child_breaks n)
+  child_chain (with_span {start = start} {end = end} (null_shape r) p q) = value_break rule.Member (placed a_null start end) (value_forward (with_span (null_shape r) p q))
+  child_chain (with_span {start = start} {end = end} (false_shape r) p q) = value_break rule.Member (placed (a_boolean false) start end) (value_forward (with_span (false_shape r) p q))
+  child_chain (with_span {start = start} {end = end} (true_shape r) p q) = value_break rule.Member (placed (a_boolean true) start end) (value_forward (with_span (true_shape r) p q))
+  child_chain (with_span {start = start} {end = end} (number_shape {k = k} r e) p q) = value_break rule.Member (placed (a_number k) start end) (value_forward (with_span (number_shape r e) p q))
+  child_chain (with_span {start = start} {end = end} (string_shape {s = s} k) p q) = value_break rule.Member (placed (a_string s) start end) (value_forward (with_span (string_shape k) p q))
+  child_chain (with_span {start = start} {end = end} (array_shape {ns = ns} r y) p q) = value_break rule.Member (placed (an_array ns) start end) (value_forward (with_span (array_shape r y) p q))
+  child_chain {total} (with_span {start = start} {end = end} (object_shape {m = m} {ms = ms} r y) p q) =
       let k = past_token r in
       one_of (are_token (entries_in ms)) start end (token_breaks (entries_in ms)) (group_breaks ms)
       (lower (start + 1) start end (token_breaks (entries_in ms)) (omega arith) (token_chain (object_shape r y) start end p q))
@@ -176,11 +176,11 @@ mutual
       (lower start low (end_of n) (group_member_breaks (record { name = s; start = start; end = end; value = n }) (child_breaks n)) (omega arith) (group_member s start end n (child_breaks n) s0 (child_chain v) (root_chain v)))
       (more_group_members more (end_of n + 1) high (omega arith) q)
 
-shape_chain : {total : ℕ} {t u : List ℕ} {n : Placed} → Value total t n u → Chain (start_of n) (end_of n) (shape_breaks n)
+shape_chain : {total : ℕ} {t u : List ℕ} {n : Placed} → ValueAt total t n u → Chain (start_of n) (end_of n) (shape_breaks n)
 unfolding shape_breaks
-shape_chain {total} (value_at {v = v} {start = start} {end = end} x p q) =
+shape_chain {total} (with_span {v = v} {start = start} {end = end} x p q) =
     let n = placed v start end in
-    let forward = value_forward (value_at x p q) in
+    let forward = value_forward (with_span x p q) in
     one_of (not (is_object v)) start end (at_value rule.Root n) _
     (value_break rule.Root n forward)
     (one_of (is_token n) start end (at_value rule.Root n ++ token_breaks (entries_at n)) (group_breaks (members_in v))
@@ -202,41 +202,41 @@ shape_chain {total} (value_at {v = v} {start = start} {end = end} x p q) =
 record PartAt (total : ℕ) (n : Placed) : Type 0 where
   from : List ℕ
   rest : List ℕ
-  value_ : Value total from n rest
+  value_ : ValueAt total from n rest
 
 mutual
-  part_at : {total : ℕ} {t u : List ℕ} {root n : Placed} → Value total t root u → IsPart n root → PartAt total n
+  part_at : {total : ℕ} {t u : List ℕ} {root n : Placed} → ValueAt total t root u → IsPart n root → PartAt total n
   part_at {t = t} {u = u} v itself = record { from = t; rest = u; value_ = v }
-  part_at (value_at x p q) (inside i) = part_in_shape x i
+  part_at (with_span x p q) (inside i) = part_in_shape x i
 
-  part_in_shape : {total : ℕ} {t u : List ℕ} {v : Tree} {n : Placed} → Shape total t v u → IsIn n v → PartAt total n
+  part_in_shape : {total : ℕ} {t u : List ℕ} {v : Tree} {n : Placed} → Shape total t v u → IsInside n v → PartAt total n
   part_in_shape (null_shape x) i = elim i [ ]
   part_in_shape (false_shape x) i = elim i [ ]
   part_in_shape (true_shape x) i = elim i [ ]
   part_in_shape (number_shape x e) i = elim i [ ]
   part_in_shape (string_shape x) i = elim i [ ]
-  part_in_shape (array_shape x y) (in_array i) = part_in_elements y i
-  part_in_shape (object_shape x y) (in_object i) = part_in_members y i
+  part_in_shape (array_shape x y) (inside_array i) = part_in_elements y i
+  part_in_shape (object_shape x y) (inside_object i) = part_in_members y i
 
-  part_in_elements : {total : ℕ} {t u : List ℕ} {ns : Elements} {n : Placed} → ElementsAt total t ns u → IsElement n ns → PartAt total n
+  part_in_elements : {total : ℕ} {t u : List ℕ} {ns : Elements} {n : Placed} → ElementsAt total t ns u → IsInElements n ns → PartAt total n
   part_in_elements (no_element x) i = elim i [ ]
-  part_in_elements (first_element v b m) (this_element i) = part_at v i
-  part_in_elements (first_element v b m) (later_element i) = part_in_more_elements m i
+  part_in_elements (first_element v b m) (in_element i) = part_at v i
+  part_in_elements (first_element v b m) (in_later_element i) = part_in_more_elements m i
 
-  part_in_more_elements : {total : ℕ} {t u : List ℕ} {ns : Elements} {n : Placed} → MoreElements total t ns u → IsElement n ns → PartAt total n
+  part_in_more_elements : {total : ℕ} {t u : List ℕ} {ns : Elements} {n : Placed} → MoreElements total t ns u → IsInElements n ns → PartAt total n
   part_in_more_elements (last_element x) i = elim i [ ]
-  part_in_more_elements (next_element c v b m) (this_element i) = part_at v i
-  part_in_more_elements (next_element c v b m) (later_element i) = part_in_more_elements m i
+  part_in_more_elements (next_element c v b m) (in_element i) = part_at v i
+  part_in_more_elements (next_element c v b m) (in_later_element i) = part_in_more_elements m i
 
-  part_in_members : {total : ℕ} {t u : List ℕ} {ms : Members} {n : Placed} → MembersAt total t ms u → IsMember n ms → PartAt total n
+  part_in_members : {total : ℕ} {t u : List ℕ} {ms : Members} {n : Placed} → MembersAt total t ms u → IsInMembers n ms → PartAt total n
   part_in_members (no_member x) i = elim i [ ]
-  part_in_members (first_member (member_at k p q a c v) b m) (this_member i) = part_at v i
-  part_in_members (first_member (member_at k p q a c v) b m) (later_member i) = part_in_more_members m i
+  part_in_members (first_member (member_at k p q a c v) b m) (in_member i) = part_at v i
+  part_in_members (first_member (member_at k p q a c v) b m) (in_later_member i) = part_in_more_members m i
 
-  part_in_more_members : {total : ℕ} {t u : List ℕ} {ms : Members} {n : Placed} → MoreMembers total t ms u → IsMember n ms → PartAt total n
+  part_in_more_members : {total : ℕ} {t u : List ℕ} {ms : Members} {n : Placed} → MoreMembers total t ms u → IsInMembers n ms → PartAt total n
   part_in_more_members (last_member x) i = elim i [ ]
-  part_in_more_members (next_member x (member_at k p q a c v) b m) (this_member i) = part_at v i
-  part_in_more_members (next_member x (member_at k p q a c v) b m) (later_member i) = part_in_more_members m i
+  part_in_more_members (next_member x (member_at k p q a c v) b m) (in_member i) = part_at v i
+  part_in_more_members (next_member x (member_at k p q a c v) b m) (in_later_member i) = part_in_more_members m i
 
 pub breaks_ascend : (text : List ℕ) (root n : Placed) → Shows text root → IsPart n root → Ascend 0 (shape_breaks n)
 breaks_ascend text root n (t, m, blanks, v, after) part =

@@ -3,25 +3,25 @@ use Rattle.std.proofs.Common.{◌≡◌, ℕ, zero, suc, ◌+◌, Bool, true, fa
 use Rattle.std.specs.Prelude.{slice_get, unwrap_or}
 use Rattle.std.specs.List.{flat_map}
 use Rattle.std.specs.Str.{bytes_eq}
-use Rattle.json_span.specs.Tree.{Tree, a_null, a_boolean, a_number, a_string, an_array, an_object, Placed, placed, Members, Entry, tree_of, under}
+use Rattle.json_span.specs.Tree.{Tree, a_null, a_boolean, a_number, a_string, an_array, an_object, Placed, placed, Members, Entry, tree_of, value_of_name}
 use Rattle.json_span.proofs.Views.{entries_in-of}
 use Rattle.token_tree.specs.declared.fault.Rule.TheVariants as rule
 use Rattle.token_tree.specs.declared.fault.ShapeFault.{ShapeFault}
 use Rattle.token_tree.specs.declared.fault.ShapeFault.TheVariants.{Broken, NoMemory}
-use Rattle.token_tree.specs.Answer.{IsFirst, AreMembers}
+use Rattle.token_tree.specs.Answer.{TellsFirst, IsObjectOf}
 use Rattle.token_tree.specs.Texts.{is_reserved}
-use Rattle.token_tree.specs.Shape.{Break, entries_at, is_object, has, has_token_form, at_value, at_name, token_member_breaks, token_breaks, value_of}
+use Rattle.token_tree.specs.Shape.{Break, entries_at, is_object, has, has_token_form, at_value, at_name, token_member_breaks, token_breaks, token_value}
 use Rattle.token_tree.proofs.Names.{same_text}
 use Rattle.token_tree.proofs.Steps.{next}
 
 -- the first of a list stays the first where others follow
-pub first_stays : (xs ys : List Break) (e : ShapeFault) → IsFirst xs e → IsFirst (xs ++ ys) e
+pub first_stays : (xs ys : List Break) (e : ShapeFault) → TellsFirst xs e → TellsFirst (xs ++ ys) e
 first_stays [] ys (Broken r start end) h = absurd (cc)
 first_stays (x ∷ xs) ys (Broken r start end) h = h
 first_stays xs ys NoMemory h = tt
 
-pub first_of : (xs ys : List Break) (e : ShapeFault) → xs ≡ ys → IsFirst xs e → IsFirst ys e
-first_of xs ys e h k = subst (λ z. IsFirst z e) h k
+pub first_of : (xs ys : List Break) (e : ShapeFault) → xs ≡ ys → TellsFirst xs e → TellsFirst ys e
+first_of xs ys e h k = subst (λ z. TellsFirst z e) h k
 
 -- the breaks of what is left begin with those of the next member
 pub next_breaks : (f : Entry → List Break) (es : List Entry) (i : ℕ) (e : Entry) → slice_get es i ≡ Some e → flat_map f (drop i es) ≡ f e ++ flat_map f (drop (i + 1) es)
@@ -55,10 +55,10 @@ pub record Among (name : List ℕ) (es : List Entry) (n : Placed) : Type 0 where
 later : (name : List ℕ) (e : Entry) (es : List Entry) (n : Placed) → Among name es n → Among name (e ∷ es) n
 later name e es n a = record { index = suc a.index; entry = a.entry; there = a.there; named = a.named; holds = a.holds }
 
-pub among : (name : List ℕ) (es : List Entry) (n : Placed) → under name es ≡ Some n → Among name es n
+pub among : (name : List ℕ) (es : List Entry) (n : Placed) → value_of_name name es ≡ Some n → Among name es n
 among name [] n h = absurd (cc)
 among name (e ∷ es) n h =
-    elim (bytes_eq e.name name) as (λ b. bytes_eq e.name name ≡ b → cond b (Some e.value) (under name es) ≡ Some n → Among name (e ∷ es) n) [
+    elim (bytes_eq e.name name) as (λ b. bytes_eq e.name name ≡ b → cond b (Some e.value) (value_of_name name es) ≡ Some n → Among name (e ∷ es) n) [
       | true ↦ λ t k. record { index = 0; entry = e; there = refl; named = same_text e.name name t; holds = cc }
       | false ↦ λ t k. later name e es n (among name es n k)
     ] refl h
@@ -68,7 +68,7 @@ formed true n e = refl
 formed false n e = absurd (cc)
 
 -- in a sound token what stands under `$extensions` is an object
-pub extensions_object : (es : List Entry) (n : Placed) → under (codes "$extensions") es ≡ Some n → token_breaks es ≡ [] → is_object (tree_of n) ≡ true
+pub extensions_object : (es : List Entry) (n : Placed) → value_of_name (codes "$extensions") es ≡ Some n → token_breaks es ≡ [] → is_object (tree_of n) ≡ true
 extensions_object es n u h =
     let a = among (codes "$extensions") es n u in
     let valued = has (codes "$value") es in
@@ -86,12 +86,12 @@ object_members (an_array ns) e = absurd (cc)
 object_members (an_object ms) e = (ms, refl)
 
 -- the members of an object
-pub entries_are : (n : Placed) (es : List Entry) → AreMembers n es → entries_at n ≡ es
+pub entries_are : (n : Placed) (es : List Entry) → IsObjectOf n es → entries_at n ≡ es
 entries_are (placed v start end) es e = ap (λ z. entries_at (placed z start end)) e ∙ entries_in-of es
 
 -- an object's value as a token
-pub value_from : (n : Placed) (es : List Entry) → AreMembers n es → value_of n ≡ unwrap_or (under (codes "$ref") es) (unwrap_or (under (codes "$value") es) n)
-value_from n es h = ap (λ z. unwrap_or (under (codes "$ref") z) (unwrap_or (under (codes "$value") z) n)) (entries_are n es h)
+pub value_from : (n : Placed) (es : List Entry) → IsObjectOf n es → token_value n ≡ unwrap_or (value_of_name (codes "$ref") es) (unwrap_or (value_of_name (codes "$value") es) n)
+value_from n es h = ap (λ z. unwrap_or (value_of_name (codes "$ref") z) (unwrap_or (value_of_name (codes "$value") z) n)) (entries_are n es h)
 
-pub value_is : (n : Placed) (es : List Entry) (r v : Option Placed) → AreMembers n es → under (codes "$ref") es ≡ r → under (codes "$value") es ≡ v → value_of n ≡ unwrap_or r (unwrap_or v n)
+pub value_is : (n : Placed) (es : List Entry) (r v : Option Placed) → IsObjectOf n es → value_of_name (codes "$ref") es ≡ r → value_of_name (codes "$value") es ≡ v → token_value n ≡ unwrap_or r (unwrap_or v n)
 value_is n es r v h e f = value_from n es h ∙ ap₂ (λ a b. unwrap_or a (unwrap_or b n)) e f

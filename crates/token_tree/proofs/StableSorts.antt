@@ -7,7 +7,7 @@ use Rattle.std.specs.Cmp.{IsTotalOrder, tied_itself}
 use Rattle.std.specs.List.{filter}
 use Rattle.std.specs.List.Sorted.{IsSortedBy, IsStableBy, ties}
 use Rattle.std.specs.Ordering.{is_lt, is_eq, ordering_reverse}
-use Rattle.token_tree.specs.Listed.{AreApart}
+use Rattle.token_tree.specs.inner.Lists.{KeysAreApart}
 use Rattle.token_tree.proofs.SortedLists.{first, second, less, lower}
 
 equal : (r : Ordering) → is_eq r ≡ true → r ≡ Equal
@@ -56,7 +56,7 @@ module _ {K X Z : Type 0} {R : K → K → Ordering} (o : IsTotalOrder R) (same 
         | false ↦ λ k. none_named zs q k
       ] e
 
-  one_named : (zs : List Z) → AreApart R (map f zs) → (q : K) → length (filter (named q) zs) ≤ 1
+  one_named : (zs : List Z) → KeysAreApart R (map f zs) → (q : K) → length (filter (named q) zs) ≤ 1
   one_named [] a q = omega arith
   one_named (z ∷ zs) a q =
       elim (named q z) as (λ b. named q z ≡ b → length (cond b (z ∷ filter (named q) zs) (filter (named q) zs)) ≤ 1) [
@@ -124,7 +124,7 @@ module _ {K X Z : Type 0} {R : K → K → Ordering} (o : IsTotalOrder R) (same 
       let rest = strict (y ∷ ys) (tail_sorted z (y ∷ ys) s) (λ q. fewer (named q z) z (filter (named q) (y ∷ ys)) (h q)) in
       both _ _ (both _ _ (subst (λ r. T (is_lt r)) (sym l) tt) (below_less (f z).0 (f y).0 (map f ys) l (first _ _ rest))) rest
 
-  pub sorted_strictly : (xs ys : List Z) → AreApart R (map f xs) → IsSortedBy before ys → IsStableBy before xs ys → T (is_sorted R (map f ys))
+  pub sorted_strictly : (xs ys : List Z) → KeysAreApart R (map f xs) → IsSortedBy before ys → IsStableBy before xs ys → T (is_sorted R (map f ys))
   sorted_strictly xs ys a s stable = strict ys s (λ q. subst (λ l. length l ≤ 1) (sym (keeps_named xs ys stable q)) (one_named xs a q))
 
   pub same_sorted : (xs ys : List Z) → T (is_sorted R (map f ys)) → IsStableBy before xs ys → finite.from_sorted {R = R} (map f ys) ≡ finite.from_entries (map f xs)

@@ -5,7 +5,7 @@ use Rattle.std.specs.Prelude.{slice_range}
 use Rattle.std.specs.Str.{bytes_eq}
 use Rattle.std.proofs.lemmas.Bool.Decides.{nat_tests}
 use Rattle.name_path.specs.Names.{AreNames}
-use Rattle.name_path.specs.Reference.{escaped, pointer_text, path_text, curly_text, SpellsGroup}
+use Rattle.name_path.specs.Reference.{escaped_step, pointer_text, path_text, curly_text, SpellsGroup}
 use Rattle.name_path.proofs.Escaping.{all_escaped_lack}
 use Rattle.name_path.proofs.Joins.{split_join, steps_join, pieces_of, some_piece}
 use Rattle.name_path.proofs.Spellings.{names_plain}
@@ -20,18 +20,18 @@ plain_step : (b : ℕ) (xs : List ℕ) → (b == 126) ≡ false → read_step (b
 plain_step b [] e = refl
 plain_step b (c ∷ cs) e = ap (λ t. cond (t && (c == 48)) (126 ∷ read_step cs) (cond (t && (c == 49)) (47 ∷ read_step cs) (b ∷ read_step (c ∷ cs)))) e
 
-pub step_again : (s : List ℕ) → read_step (escaped s) ≡ s
+pub step_again : (s : List ℕ) → read_step (escaped_step s) ≡ s
 step_again [] = refl
 step_again (b ∷ bs) =
-    elim (b == 126) as (λ t. (b == 126) ≡ t → read_step (cond t (codes "~0") (cond (b == 47) (codes "~1") (b ∷ [])) ++ escaped bs) ≡ b ∷ bs) [
+    elim (b == 126) as (λ t. (b == 126) ≡ t → read_step (cond t (codes "~0") (cond (b == 47) (codes "~1") (b ∷ [])) ++ escaped_step bs) ≡ b ∷ bs) [
       | true ↦ λ e. ap (λ z. 126 ∷ z) (step_again bs) ∙ ap (λ k. k ∷ bs) (sym (is_byte b 126 e))
-      | false ↦ λ e. elim (b == 47) as (λ t. (b == 47) ≡ t → read_step (cond t (codes "~1") (b ∷ []) ++ escaped bs) ≡ b ∷ bs) [
+      | false ↦ λ e. elim (b == 47) as (λ t. (b == 47) ≡ t → read_step (cond t (codes "~1") (b ∷ []) ++ escaped_step bs) ≡ b ∷ bs) [
         | true ↦ λ f. ap (λ z. 47 ∷ z) (step_again bs) ∙ ap (λ k. k ∷ bs) (sym (is_byte b 47 f))
-        | false ↦ λ f. plain_step b (escaped bs) e ∙ ap (λ z. b ∷ z) (step_again bs)
+        | false ↦ λ f. plain_step b (escaped_step bs) e ∙ ap (λ z. b ∷ z) (step_again bs)
       ] refl
     ] refl
 
-steps_again : (ss : List (List ℕ)) → map read_step (map escaped ss) ≡ ss
+steps_again : (ss : List (List ℕ)) → map read_step (map escaped_step ss) ≡ ss
 steps_again [] = refl
 steps_again (s ∷ ss) = ap₂ (λ x y. x ∷ y) (step_again s) (steps_again ss)
 
@@ -39,7 +39,7 @@ pub pointer_again : (path : List (List ℕ)) → pointer_steps (pointer_text pat
 pointer_again [] = refl
 pointer_again (s ∷ ss) =
     ap (λ z. map read_step (drop 1 (slice_split (λ b. b == 47) (35 ∷ z)))) (steps_join s ss)
-    ∙ (ap (map read_step) (split_join 47 (escaped s) (map escaped ss) (all_escaped_lack (s ∷ ss)))
+    ∙ (ap (map read_step) (split_join 47 (escaped_step s) (map escaped_step ss) (all_escaped_lack (s ∷ ss)))
     ∙ steps_again (s ∷ ss))
 
 take_front : (xs : List ℕ) (b n : ℕ) → n ≡ length xs → take n (xs ++ b ∷ []) ≡ xs

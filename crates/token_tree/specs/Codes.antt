@@ -6,7 +6,7 @@ use base.Stored.{Gv, gnil, gnum, gcons}
 use Rattle.name_path.specs.declared.kind.Kind.{Kind}
 use Rattle.name_path.specs.declared.kind.Kind.TheVariants.{Color, Dimension, FontFamily, FontWeight, Duration, CubicBezier, Number, StrokeStyle, Border, Transition, Shadow, Gradient, Typography}
 use Rattle.name_path.specs.Kinds.{kind_name}
-use Rattle.json_span.specs.Tree.{Tree, a_null, a_boolean, a_number, a_string, an_array, an_object, Placed, placed, Elements, no_elements, element, Members, no_members, member}
+use Rattle.json_span.specs.Tree.{Tree, a_null, a_boolean, a_number, a_string, an_array, an_object, Placed, placed, Elements, no_elements, an_element, Members, no_members, a_member}
 use Rattle.token_tree.specs.declared.mark.Mark.{Mark}
 use Rattle.token_tree.specs.declared.mark.Mark.TheVariants.{No, Yes, Because}
 use Rattle.token_tree.specs.Texts.{kind_named}
@@ -31,11 +31,11 @@ abbrev mutual
 
   pub code_elements : Elements → Gv
   code_elements no_elements = gnil
-  code_elements (element n ns) = gcons (code_placed n) (code_elements ns)
+  code_elements (an_element n ns) = gcons (code_placed n) (code_elements ns)
 
   pub code_members : Members → Gv
   code_members no_members = gnil
-  code_members (member k a b n ms) = gcons (coded_text.code k) (gcons (gcons (gnum a) (gnum b)) (gcons (code_placed n) (code_members ms)))
+  code_members (a_member k a b n ms) = gcons (coded_text.code k) (gcons (gcons (gnum a) (gnum b)) (gcons (code_placed n) (code_members ms)))
 
 rest : (x y a b : Gv) → gcons x a ≡ gcons y b → a ≡ b
 rest x y a b e = cc
@@ -66,12 +66,12 @@ mutual
 
   pub inj_elements : (x y : Elements) → code_elements x ≡ code_elements y → x ≡ y
   inj_elements no_elements no_elements e = refl
-  inj_elements (element s ss) (element t ts) e = ap₂ element (inj_placed s t (front _ _ _ _ e)) (inj_elements ss ts (rest _ _ _ _ e))
+  inj_elements (an_element s ss) (an_element t ts) e = ap₂ an_element (inj_placed s t (front _ _ _ _ e)) (inj_elements ss ts (rest _ _ _ _ e))
   inj_elements x y e = cc
 
   pub inj_members : (x y : Members) → code_members x ≡ code_members y → x ≡ y
   inj_members no_members no_members e = refl
-  inj_members (member k a b s ms) (member l c d t ns) e =
+  inj_members (a_member k a b s ms) (a_member l c d t ns) e =
       let p = coded_text.inj k l (front _ _ _ _ e) in
       let q = rest _ _ _ _ e in
       let m = number a c (front _ _ _ _ (front _ _ _ _ q)) in
@@ -79,7 +79,7 @@ mutual
       let r = rest _ _ _ _ q in
       let u = inj_placed s t (front _ _ _ _ r) in
       let v = inj_members ms ns (rest _ _ _ _ r) in
-      λ i. member (p i) (m i) (n i) (u i) (v i)
+      λ i. a_member (p i) (m i) (n i) (u i) (v i)
   inj_members x y e = cc
 
 abbrev pub coded_placed : Coded Placed
@@ -133,30 +133,27 @@ coded_mark = code_by (Bool × Option (List ℕ)) (coded× coded_bool (coded_opti
 
 -- a definition is coded as its fields
 
-abbrev pub Texts : Type 0
-Texts = List ℕ × List ℕ
+abbrev pub PlaceFields : Type 0
+PlaceFields = (List ℕ × List ℕ) × (ℕ × ℕ)
 
-abbrev pub Offsets : Type 0
-Offsets = ℕ × ℕ
+abbrev pub ValueFields : Type 0
+ValueFields = Placed × Bool
 
-abbrev pub Values : Type 0
-Values = Placed × Bool
+abbrev pub SaidFields : Type 0
+SaidFields = (Option Kind × Option Mark) × (Option (List ℕ) × Option (List ℕ))
 
-abbrev pub Says : Type 0
-Says = (Option Kind × Option Mark) × (Option (List ℕ) × Option (List ℕ))
+abbrev pub DefinitionFields : Type 0
+DefinitionFields = PlaceFields × (ValueFields × SaidFields)
 
-abbrev pub Fields : Type 0
-Fields = (Texts × Offsets) × (Values × Says)
-
-abbrev pub coded_fields : Coded Fields
+abbrev pub coded_fields : Coded DefinitionFields
 coded_fields =
     coded× (coded× (coded× coded_text coded_text) (coded× coded_ℕ coded_ℕ))
     (coded× (coded× coded_placed coded_bool) (coded× (coded× (coded_option coded_kind) (coded_option coded_mark)) (coded× (coded_option coded_text) (coded_option coded_text))))
 
-abbrev pub fields_of : Definition → Fields
+abbrev pub fields_of : Definition → DefinitionFields
 fields_of d = (((d.file, d.source), (d.start, d.end)), ((d.value, d.by_ref), ((d.kind, d.deprecated), (d.description, d.extensions))))
 
-abbrev pub of_fields : Fields → Definition
+abbrev pub of_fields : DefinitionFields → Definition
 of_fields f = record {
   file = f.0.0.0;
   source = f.0.0.1;
@@ -171,4 +168,4 @@ of_fields f = record {
 }
 
 abbrev pub coded_definition : Coded Definition
-coded_definition = code_by Fields coded_fields fields_of of_fields (λ _. refl)
+coded_definition = code_by DefinitionFields coded_fields fields_of of_fields (λ _. refl)

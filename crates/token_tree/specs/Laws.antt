@@ -1,6 +1,6 @@
 -- Laws over the definitions alone.
 use Rattle.std.specs.Prelude.{◌≡◌, ℕ, ◌+◌, ◌≤◌, ◌↔◌, IsTrue, true, if◌then◌else◌, List, [], ◌∷◌, Some, None, option_map}
-use Rattle.json_span.specs.Tree.{Placed, tree_of, under}
+use Rattle.json_span.specs.Tree.{Placed, tree_of, start_of, value_of_name}
 use Rattle.json_span.specs.Reading.{Shows}
 use Rattle.json_span.specs.Parts.{IsPart}
 use Rattle.name_path.specs.declared.kind.Kind.{Kind}
@@ -9,7 +9,7 @@ use Rattle.name_path.specs.Names.{IsName}
 use Rattle.name_path.specs.Reference.{SpellsGroup}
 use Rattle.token_tree.specs.Texts.{is_name, kind_named, group_named}
 use Rattle.token_tree.specs.Tree.{Definition, child_at}
-use Rattle.token_tree.specs.Shape.{Break, shape_breaks, entries_at, is_object, is_child, child_of, group_of}
+use Rattle.token_tree.specs.Shape.{Break, shape_breaks, shape_of, slice_of, entries_at, is_object, is_child, child_of, group_of}
 use Rattle.token_tree.specs.Promise.{IsDefinition, StandsIn}
 
 -- each break starts behind the one before, and none before this place
@@ -23,7 +23,15 @@ BreaksAscend = (text : List ℕ) (root n : Placed) → Shows text root → IsPar
 
 -- a definition is decided by its file's name, its source and where that starts
 abbrev pub OneDefinition : Type 0
-OneDefinition = (d e : Definition) → IsDefinition d → IsDefinition e → d.file ≡ e.file → d.source ≡ e.source → d.start ≡ e.start → d ≡ e
+OneDefinition = (d e : Definition) → IsDefinition d → IsDefinition e
+    → d.file ≡ e.file → d.source ≡ e.source → d.start ≡ e.start → d ≡ e
+
+-- So is the shape of a value, by its slice and where that starts: two such values break the same rules and show the same
+-- tree, whatever else stands in their texts.
+abbrev pub OneShape : Type 0
+OneShape = (file text other : List ℕ) (n m : Placed) → StandsIn text n → StandsIn other m
+    → slice_of text n ≡ slice_of other m → start_of n ≡ start_of m
+    → (shape_breaks n ≡ shape_breaks m) × (shape_of file text n ≡ shape_of file other m)
 
 -- the tests of texts are those of names, kinds and groups
 abbrev pub NamesTest : Type 0
@@ -36,6 +44,7 @@ abbrev pub GroupsNamed : Type 0
 GroupsNamed = (text : List ℕ) (path : List (List ℕ)) → (group_named text ≡ Some path) ↔ SpellsGroup text path
 
 -- At a name of a group stands the child that the object's member of that name shows.
-abbrev pub ShownByName : Type 0
-ShownByName = (file text : List ℕ) (n : Placed) (name : List ℕ) → StandsIn text n → is_object (tree_of n) ≡ true
-    → child_at name (group_of file text (tree_of n)) ≡ (if is_child name then option_map (child_of file text) (under name (entries_at n)) else None)
+abbrev pub ChildrenByName : Type 0
+ChildrenByName = (file text : List ℕ) (n : Placed) (name : List ℕ) → StandsIn text n
+    → is_object (tree_of n) ≡ true → child_at name (group_of file text (tree_of n))
+    ≡ (if is_child name then option_map (child_of file text) (value_of_name name (entries_at n)) else None)

@@ -5,7 +5,7 @@ use Rattle.std.specs.List.{flat_map}
 use Rattle.std.specs.Str.{bytes_eq}
 use Rattle.name_path.specs.declared.kind.Kind.{Kind}
 use Rattle.name_path.specs.Names.{root_name}
-use Rattle.json_span.specs.Tree.{Tree, a_null, a_boolean, a_number, a_string, an_array, an_object, Placed, placed, Members, no_members, member, Entry, entries_in, tree_of, start_of, end_of, string_in, object_in, under}
+use Rattle.json_span.specs.Tree.{Tree, a_null, a_boolean, a_number, a_string, an_array, an_object, Placed, placed, Members, no_members, a_member, Entry, entries_in, tree_of, start_of, end_of, string_in, object_in, value_of_name}
 use Rattle.token_tree.specs.declared.mark.Mark.{Mark}
 use Rattle.token_tree.specs.declared.mark.Mark.TheVariants.{No, Yes, Because}
 use Rattle.token_tree.specs.declared.fault.Rule.{Rule}
@@ -32,7 +32,7 @@ abbrev pub is_text : Tree → Bool
 is_text v = is_some (string_in v)
 
 abbrev pub has : List ℕ → List Entry → Bool
-has name es = is_some (under name es)
+has name es = is_some (value_of_name name es)
 
 -- an object with a member `$value` or `$ref` is a token
 abbrev pub are_token : List Entry → Bool
@@ -121,7 +121,7 @@ group_member_breaks e inside =
 abbrev mutual
   pub group_breaks : Members → List Break
   group_breaks no_members = []
-  group_breaks (member name start end n ms) = group_member_breaks (record { name = name; start = start; end = end; value = n }) (child_breaks n) ++ group_breaks ms
+  group_breaks (a_member name start end n ms) = group_member_breaks (record { name = name; start = start; end = end; value = n }) (child_breaks n) ++ group_breaks ms
 
   -- a child is a token or a group, so an object
   pub child_breaks : Placed → List Break
@@ -145,36 +145,36 @@ shape_breaks root =
 -- what listed members say, where they are there
 
 abbrev pub said : {A : Type 0} → (Tree → Option A) → List ℕ → List Entry → Option A
-said read name es = option_and_then (λ n. read (tree_of n)) (under name es)
+said read name es = option_and_then (λ n. read (tree_of n)) (value_of_name name es)
 
-abbrev pub kind_of : List Entry → Option Kind
-kind_of es = said kind_in (codes "$type") es
+abbrev pub said_kind : List Entry → Option Kind
+said_kind es = said kind_in (codes "$type") es
 
-abbrev pub description_of : List Entry → Option (List ℕ)
-description_of es = said string_in (codes "$description") es
+abbrev pub said_description : List Entry → Option (List ℕ)
+said_description es = said string_in (codes "$description") es
 
-abbrev pub deprecated_of : List Entry → Option Mark
-deprecated_of es = said mark_in (codes "$deprecated") es
+abbrev pub said_deprecated : List Entry → Option Mark
+said_deprecated es = said mark_in (codes "$deprecated") es
 
 -- the slice of a value
 abbrev pub slice_of : List ℕ → Placed → List ℕ
 slice_of text n = slice_range text (start_of n) (end_of n)
 
 abbrev pub extensions_of : List ℕ → List Entry → Option (List ℕ)
-extensions_of text es = option_map (slice_of text) (under (codes "$extensions") es)
+extensions_of text es = option_map (slice_of text) (value_of_name (codes "$extensions") es)
 
 abbrev pub extension_at : List ℕ → Placed → Option Extension
 extension_at file n = option_map (λ path. record { target = path; file = file; start = start_of n; end = end_of n }) (target_in (tree_of n))
 
 abbrev pub extends_of : List ℕ → List Entry → Option Extension
-extends_of file es = option_and_then (extension_at file) (under (codes "$extends") es)
+extends_of file es = option_and_then (extension_at file) (value_of_name (codes "$extends") es)
 
 abbrev pub properties_of : List ℕ → List Entry → Properties
-properties_of file es = record { kind = kind_of es; deprecated = deprecated_of es; extends = extends_of file es }
+properties_of file es = record { kind = said_kind es; deprecated = said_deprecated es; extends = extends_of file es }
 
 -- what a token's `$ref` or else its `$value` holds
-abbrev pub value_of : Placed → Placed
-value_of n = unwrap_or (under (codes "$ref") (entries_at n)) (unwrap_or (under (codes "$value") (entries_at n)) n)
+abbrev pub token_value : Placed → Placed
+token_value n = unwrap_or (value_of_name (codes "$ref") (entries_at n)) (unwrap_or (value_of_name (codes "$value") (entries_at n)) n)
 
 -- the definition that a token's object shows
 abbrev pub def_of : List ℕ → List ℕ → Placed → Definition
@@ -183,12 +183,12 @@ def_of file text n = record {
   source = slice_of text n;
   start = start_of n;
   end = end_of n;
-  value = value_of n;
+  value = token_value n;
   by_ref = has (codes "$ref") (entries_at n);
-  kind = kind_of (entries_at n);
-  description = description_of (entries_at n);
+  kind = said_kind (entries_at n);
+  description = said_description (entries_at n);
   extensions = extensions_of text (entries_at n);
-  deprecated = deprecated_of (entries_at n);
+  deprecated = said_deprecated (entries_at n);
 }
 
 -- the members that are tokens and groups
@@ -203,7 +203,7 @@ abbrev mutual
   -- the members' children, put to those that are there
   pub put_children : List ℕ → List ℕ → Members → Named → Named
   put_children file text no_members cs = cs
-  put_children file text (member name start end n ms) cs = put_children file text ms (if is_child name then map.insert cs name (child_of file text n) else cs)
+  put_children file text (a_member name start end n ms) cs = put_children file text ms (if is_child name then map.insert cs name (child_of file text n) else cs)
 
   pub child_of : List ℕ → List ℕ → Placed → Child
   child_of file text (placed v start end) = if is_token (placed v start end) then a_token (def_of file text (placed v start end)) else a_group (group_of file text v)

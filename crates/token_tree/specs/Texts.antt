@@ -1,7 +1,8 @@
 -- Texts that a token file gives a meaning to, as tests and readings that compute.
-use Rattle.std.specs.Prelude.{ℕ, ◌-◌, Bool, true, false, not, ◌&&◌, ◌==◌, if◌then◌else◌, List, [], ◌∷◌, map, length, drop, Option, Some, None, slice_range}
+use Rattle.std.specs.Prelude.{ℕ, ◌+◌, ◌-◌, Bool, true, false, not, ◌&&◌, ◌==◌, if◌then◌else◌, List, [], ◌∷◌, map, length, drop, Option, Some, None, slice_range}
 use Rattle.std.specs.List.{list_all, slice_split}
 use Rattle.std.specs.Str.{bytes_eq}
+use Rattle.tk_io.specs.Characters.{digit_zero, dollar_sign, full_stop, left_brace, right_brace, solidus, tilde}
 use Rattle.name_path.specs.declared.kind.Kind.{Kind}
 use Rattle.name_path.specs.declared.kind.Kind.TheVariants.{Color, Dimension, FontFamily, FontWeight, Duration, CubicBezier, Number, StrokeStyle, Border, Transition, Shadow, Gradient, Typography}
 use Rattle.name_path.specs.Kinds.{kind_name}
@@ -10,7 +11,7 @@ use Rattle.name_path.specs.Reference.{pointer_text, curly_text}
 -- a text that begins with '$'
 abbrev pub is_reserved : List ℕ → Bool
 is_reserved [] = false
-is_reserved (b ∷ bs) = b == 36
+is_reserved (b ∷ bs) = b == dollar_sign
 
 abbrev pub is_empty : {A : Type 0} → List A → Bool
 is_empty [] = true
@@ -18,7 +19,7 @@ is_empty (x ∷ xs) = false
 
 -- neither '.' nor '{' nor '}'
 abbrev pub is_plain : ℕ → Bool
-is_plain b = not (b == 46) && (not (b == 123) && not (b == 125))
+is_plain b = not (b == full_stop) && (not (b == left_brace) && not (b == right_brace))
 
 -- a name of a token or group
 abbrev pub is_name : List ℕ → Bool
@@ -40,16 +41,16 @@ abbrev pub read_step : List ℕ → List ℕ
 read_step [] = []
 read_step (b ∷ []) = b ∷ []
 read_step (b ∷ c ∷ bs) =
-    if (b == 126) && (c == 48) then 126 ∷ read_step bs
-    else if (b == 126) && (c == 49) then 47 ∷ read_step bs
+    if (b == tilde) && (c == digit_zero) then tilde ∷ read_step bs
+    else if (b == tilde) && (c == digit_zero + 1) then solidus ∷ read_step bs
     else b ∷ read_step (c ∷ bs)
 
 -- the steps of a pointer behind its '#', and the names between braces, whether the text is spelled so or not
 abbrev pub pointer_steps : List ℕ → List (List ℕ)
-pointer_steps text = map read_step (drop 1 (slice_split (λ b. b == 47) text))
+pointer_steps text = map read_step (drop 1 (slice_split (λ b. b == solidus) text))
 
 abbrev pub curly_names : List ℕ → List (List ℕ)
-curly_names text = slice_split (λ b. b == 46) (slice_range text 1 (length text - 1))
+curly_names text = slice_split (λ b. b == full_stop) (slice_range text 1 (length text - 1))
 
 -- the path of the group that a text names: that of which it is the pointer, or the path in braces
 abbrev pub group_named : List ℕ → Option (List (List ℕ))

@@ -43,11 +43,11 @@ impl<'s> Model for TokenDef<'s> {
 
     ghost coded = { coded_definition };
 
-    ghost use Rattle.token_tree.specs.Seen.{def_data};
+    ghost use Rattle.token_tree.specs.DefinitionView.{definition_view};
 
-    ghost view = { def_data };
+    ghost view = { definition_view };
 
-    ghost invariant = { λ d. IsDefinition (def_data d) };
+    ghost invariant = { λ d. IsDefinition (definition_view d) };
 }
 
 impl<'s> TokenDef<'s> {

@@ -3,8 +3,9 @@
 ghost use Rattle.std.specs.Prelude.{◌≡◌, T, IfOk, IfErr, OnOk, OnErr};
 ghost use Rattle.std.specs.FinMap.{is_sorted};
 ghost use Rattle.tk_io.specs.Order.{text_cmp};
-ghost use Rattle.token_tree.specs.Listed.{entries_of, IsPlaceOf, IsGapFor, NamesApart};
-ghost use Rattle.token_tree.specs.inner.Outcomes.{AreOneMap, IsPushed, IsPut};
+ghost use Rattle.token_tree.specs.MembersView.{entries_of};
+ghost use Rattle.token_tree.specs.inner.Lists.{IsPlaceOf, IsGapFor, NamesApart};
+ghost use Rattle.token_tree.specs.inner.Outcomes.{AreOneMap, IsPushed, IsChildPut};
 
 use crate::tree::{Child, Member};
 use std::alloc::Global;
@@ -52,7 +53,7 @@ pub(crate) fn put_child<'s>(
     child: Child<'s>,
 ) -> Result<(), NoMemory>
     requires { T (is_sorted text_cmp (entries_of list.old.items)) }
-    ensures ok { OnOk result (IsPut name.now child.entry list.old.items list.new.items) }
+    ensures ok { OnOk result (IsChildPut name.now child.entry list.old.items list.new.items) }
     ensures err { OnErr result (list.new.items ≡ list.old.items) }
 {
     match place_from_end(list.as_slice(), name) {

@@ -1,17 +1,19 @@
 //! Reading groups.
 
 ghost use Rattle.std.specs.Prelude.{◌≡◌, [], OnOk, IfOk, IfErr};
-ghost use Rattle.json_span.specs.Tree.{an_object, members_of};
 ghost use Rattle.json_span.specs.View.{ref_view, field_view, fields_view};
-ghost use Rattle.token_tree.specs.Answer.{IsFirst, EachStands, NamesDiffer, IsChildOf, IsGroupOf};
+ghost use Rattle.token_tree.specs.Answer.{TellsFirst};
 ghost use Rattle.token_tree.specs.Promise.{StandsIn};
-ghost use Rattle.token_tree.specs.Shape.{group_breaks, child_breaks, root_breaks, reserved_breaks};
-ghost use Rattle.token_tree.specs.inner.Outcomes.{AreChildrenOf, IsChildIn, IsExtendsOf, member_breaks};
+ghost use Rattle.token_tree.specs.Shape.{child_breaks, root_breaks, reserved_breaks};
+ghost use Rattle.token_tree.specs.inner.Outcomes.{EachStands, NamesDiffer};
+ghost use Rattle.token_tree.specs.inner.Outcomes.{AreChildren, IsChildIn, IsChildOf};
+ghost use Rattle.token_tree.specs.inner.Outcomes.{IsExtendsOf, IsGroupOf};
+ghost use Rattle.token_tree.specs.inner.Outcomes.{entries_breaks, member_breaks};
 
 use crate::entries::push_some;
 use crate::fault::{Rule, ShapeFault};
 use crate::properties::{are_token, has_group_form, is_name, is_reserved, target_in};
-use crate::token::{deprecated_of, kind_of, read_token};
+use crate::token::{read_token, said_deprecated, said_kind};
 use crate::tree::{Child, Extends, Group, Member, Members};
 use json_span::{Field, Fields, NodeRef};
 use std::alloc::Global;
@@ -49,7 +51,7 @@ fn read_root<'s>(
     requires { StandsIn text.now (ref_view node) }
     ensures sound { OnOk result (root_breaks (ref_view node.entry) ≡ []) }
     ensures ok { IfOk result (IsChildOf file.entry.now text.entry.now (ref_view node.entry)) }
-    ensures broken { IfErr result (IsFirst (root_breaks (ref_view node.entry))) }
+    ensures broken { IfErr result (TellsFirst (root_breaks (ref_view node.entry))) }
 {
     let Some(fields) = node.as_object() else {
         return Err(ShapeFault::Broken(Rule::RootToken, node.start(), node.end()));
@@ -65,7 +67,7 @@ fn read_root<'s>(
 fn check_reserved(alloc: Global, name: &str, field: Field<'_, '_>) -> Result<(), ShapeFault>
     requires { name.now ≡ (field_view field).name }
     ensures ok { OnOk result (reserved_breaks (field_view field.entry) ≡ []) }
-    ensures broken { IfErr result (IsFirst (reserved_breaks (field_view field.entry))) }
+    ensures broken { IfErr result (TellsFirst (reserved_breaks (field_view field.entry))) }
 {
     let node = field.value();
     if !has_group_form(alloc, name, node)? {
@@ -84,13 +86,13 @@ pub(crate) fn read_group<'s>(
 ) -> Result<Group<'s>, ShapeFault>
     requires stands { EachStands text.now (fields_view fields.now) }
     requires differ { NamesDiffer (fields_view fields.now) }
-    ensures sound { OnOk result (group_breaks (members_of (fields_view fields.now)) ≡ []) }
+    ensures sound { OnOk result (entries_breaks (fields_view fields.now) ≡ []) }
     ensures ok { IfOk result (IsGroupOf file.entry.now text.entry.now (fields_view fields.now)) }
-    ensures broken { IfErr result (IsFirst (group_breaks (members_of (fields_view fields.now)))) }
+    ensures broken { IfErr result (TellsFirst (entries_breaks (fields_view fields.now))) }
 {
     let members = read_members(alloc, file, text, fields)?;
-    let kind = kind_of(alloc, fields)?;
-    let deprecated = deprecated_of(alloc, fields)?;
+    let kind = said_kind(alloc, fields)?;
+    let deprecated = said_deprecated(alloc, fields)?;
     let extends = extends_of(alloc, file, fields)?;
     Ok(Group {
         kind,
@@ -98,15 +100,6 @@ pub(crate) fn read_group<'s>(
         extends,
         members,
     })
-}
-
-// The number of members, which is the room that they want at most.
-fn how_many(fields: &Fields<'_, '_>) -> usize {
-    let mut count: usize = 0;
-    for _field in *fields {
-        count = count.saturating_add(1);
-    }
-    count
 }
 
 // The children among the members, sorted once all are read.
@@ -119,11 +112,11 @@ fn read_members<'s>(
 ) -> Result<Members<'s>, ShapeFault>
     requires stands { EachStands text.now (fields_view fields.now) }
     requires differ { NamesDiffer (fields_view fields.now) }
-    ensures sound { OnOk result (group_breaks (members_of (fields_view fields.now)) ≡ []) }
-    ensures ok { IfOk result (AreChildrenOf file.entry.now text.entry.now (fields_view fields.now)) }
-    ensures broken { IfErr result (IsFirst (group_breaks (members_of (fields_view fields.now)))) }
+    ensures sound { OnOk result (entries_breaks (fields_view fields.now) ≡ []) }
+    ensures ok { IfOk result (AreChildren file.entry.now text.entry.now (fields_view fields.now)) }
+    ensures broken { IfErr result (TellsFirst (entries_breaks (fields_view fields.now))) }
 {
-    let mut list = Vec::with_capacity(alloc, how_many(fields))?;
+    let mut list = Vec::with_capacity(alloc, fields.len())?;
     for field in *fields {
         let member = read_member(alloc, file, text, field)?;
         push_some(&mut list, member)?;
@@ -143,7 +136,7 @@ fn read_member<'s>(
     requires { StandsIn text.now (field_view field).value }
     ensures sound { OnOk result (member_breaks (field_view field.entry) ≡ []) }
     ensures ok { IfOk result (IsChildIn file.entry.now text.entry.now (field_view field.entry)) }
-    ensures broken { IfErr result (IsFirst (member_breaks (field_view field.entry))) }
+    ensures broken { IfErr result (TellsFirst (member_breaks (field_view field.entry))) }
 {
     let name = field.name(alloc)?;
     if name.as_str() == "$root" {
@@ -172,7 +165,7 @@ fn read_child<'s>(
     requires { StandsIn text.now (ref_view node) }
     ensures sound { OnOk result (child_breaks (ref_view node.entry) ≡ []) }
     ensures ok { IfOk result (IsChildOf file.entry.now text.entry.now (ref_view node.entry)) }
-    ensures broken { IfErr result (IsFirst (child_breaks (ref_view node.entry))) }
+    ensures broken { IfErr result (TellsFirst (child_breaks (ref_view node.entry))) }
 {
     let Some(fields) = node.as_object() else {
         return Err(ShapeFault::Broken(Rule::Member, node.start(), node.end()));

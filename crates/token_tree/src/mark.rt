@@ -5,7 +5,7 @@ ghost use Rattle.std.specs.Prelude.{◌≡◌, IfOk};
 use tk_io::{NoMemory, Text};
 
 /// What `$deprecated` says: `false`, `true`, or a text that gives the reason.
-#[derive(Drop)]
+#[derive(Debug, Drop)]
 pub enum Mark<'s> {
     No,
     Yes,

@@ -3,7 +3,8 @@
 ghost use Rattle.std.specs.Prelude.{◌≡◌, IfOk};
 ghost use Rattle.json_span.specs.View.{json_view, fields_view};
 ghost use Rattle.token_tree.specs.Texts.{is_reserved, is_name};
-ghost use Rattle.token_tree.specs.Shape.{has, are_token, kind_in, mark_in, target_in, is_text, has_form, has_group_form, has_token_form, is_mark};
+ghost use Rattle.token_tree.specs.Shape.{are_token, has, has_form, has_group_form, has_token_form};
+ghost use Rattle.token_tree.specs.Shape.{is_mark, is_text, kind_in, mark_in, target_in};
 
 use crate::mark::Mark;
 use json_span::{Fields, NodeRef, ValueType};

@@ -2,7 +2,7 @@
 
 ghost use Rattle.std.specs.Prelude.{◌≡◌, [], OnOk, IfOk, IfErr};
 ghost use Rattle.json_span.specs.View.{node_view};
-ghost use Rattle.token_tree.specs.Answer.{IsFirst, IsShapeOf};
+ghost use Rattle.token_tree.specs.Answer.{TellsFirst, IsShapeOf};
 ghost use Rattle.token_tree.specs.Promise.{StandsIn};
 ghost use Rattle.token_tree.specs.Shape.{shape_breaks};
 
@@ -29,7 +29,7 @@ pub fn shape<'s>(
     requires { StandsIn text.now (node_view root.now) }
     ensures sound { OnOk result (shape_breaks (node_view root.now) ≡ []) }
     ensures ok { IfOk result (IsShapeOf file.entry.now text.entry.now (node_view root.now)) }
-    ensures broken { IfErr result (IsFirst (shape_breaks (node_view root.now))) }
+    ensures broken { IfErr result (TellsFirst (shape_breaks (node_view root.now))) }
 {
     let Some(fields) = root.as_object() else {
         return Err(ShapeFault::Broken(Rule::Root, root.start(), root.end()));

@@ -193,7 +193,7 @@ fn tokens(rt: HostRuntime) -> Result<(), Fail> {
     assert!(rt; b.value.as_array().is_some());
     assert_eq!(rt; b.kind, Some(Kind::Number));
     assert_eq!(rt; b.description.as_ref().map(|text| text.as_str()), Some("d"));
-    assert_eq!(rt; b.extensions, Some("{\"e\":1}"));
+    assert_eq!(rt; b.extensions, Some(r#"{"e":1}"#));
     assert!(rt; matches!(b.deprecated, Some(Mark::Yes)));
     let root_token = token(&root.members, "$root").expect(&rt, "the root has a token");
     assert_eq!(rt;

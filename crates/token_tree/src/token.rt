@@ -3,9 +3,11 @@
 ghost use Rattle.std.specs.Prelude.{◌≡◌, [], true, OnOk, IfOk, IfErr};
 ghost use Rattle.json_span.specs.Tree.{tree_of};
 ghost use Rattle.json_span.specs.View.{node_view, ref_view, field_view, fields_view};
-ghost use Rattle.token_tree.specs.Answer.{IsFirst, AreMembers};
+ghost use Rattle.token_tree.specs.Answer.{TellsFirst, IsObjectOf};
 ghost use Rattle.token_tree.specs.Promise.{StandsIn};
-ghost use Rattle.token_tree.specs.Shape.{token_breaks, token_member_breaks, has_token_form, are_token, is_object, kind_of, description_of, deprecated_of, extensions_of, slice_of, value_of};
+ghost use Rattle.token_tree.specs.Shape.{are_token, has_token_form, is_object, slice_of};
+ghost use Rattle.token_tree.specs.Shape.{token_breaks, token_member_breaks, token_value};
+ghost use Rattle.token_tree.specs.Shape.{extensions_of, said_deprecated, said_description, said_kind};
 ghost use Rattle.token_tree.specs.inner.Outcomes.{ExtensionsStand, def_at, slice_view};
 
 use crate::definition::TokenDef;
@@ -20,7 +22,8 @@ use tk_io::{NoMemory, Text};
 
 fn check_member(alloc: Global, valued: bool, field: Field<'_, '_>) -> Result<(), ShapeFault>
     ensures ok { OnOk result (token_member_breaks valued (field_view field.entry) ≡ []) }
-    ensures broken { IfErr result (IsFirst (token_member_breaks valued (field_view field.entry))) }
+    ensures broken { IfErr result
+        (TellsFirst (token_member_breaks valued (field_view field.entry))) }
 {
     let name = field.name(alloc)?;
     let node = field.value();
@@ -35,7 +38,7 @@ fn check_member(alloc: Global, valued: bool, field: Field<'_, '_>) -> Result<(),
 
 fn check_token(alloc: Global, fields: &Fields<'_, '_>) -> Result<(), ShapeFault>
     ensures ok { OnOk result (token_breaks (fields_view fields.now) ≡ []) }
-    ensures broken { IfErr result (IsFirst (token_breaks (fields_view fields.now))) }
+    ensures broken { IfErr result (TellsFirst (token_breaks (fields_view fields.now))) }
 {
     let valued = has(fields, "$value");
     for field in *fields {
@@ -45,8 +48,8 @@ fn check_token(alloc: Global, fields: &Fields<'_, '_>) -> Result<(), ShapeFault>
 }
 
 /// What `$type` says.
-pub(crate) fn kind_of(alloc: Global, fields: &Fields<'_, '_>) -> Result<Option<Kind>, NoMemory>
-    ensures { IfOk result (λ k. k ≡ kind_of (fields_view fields.now)) }
+pub(crate) fn said_kind(alloc: Global, fields: &Fields<'_, '_>) -> Result<Option<Kind>, NoMemory>
+    ensures { IfOk result (λ k. k ≡ said_kind (fields_view fields.now)) }
 {
     match fields.get("$type") {
         Some(node) => kind_in(alloc, node),
@@ -55,11 +58,11 @@ pub(crate) fn kind_of(alloc: Global, fields: &Fields<'_, '_>) -> Result<Option<K
 }
 
 /// What `$deprecated` says.
-pub(crate) fn deprecated_of<'s>(
+pub(crate) fn said_deprecated<'s>(
     alloc: Global,
     fields: &Fields<'_, 's>,
 ) -> Result<Option<Mark<'s>>, NoMemory>
-    ensures { IfOk result (λ m. m ≡ deprecated_of (fields_view fields.now)) }
+    ensures { IfOk result (λ m. m ≡ said_deprecated (fields_view fields.now)) }
 {
     match fields.get("$deprecated") {
         Some(node) => mark_in(alloc, node),
@@ -67,8 +70,11 @@ pub(crate) fn deprecated_of<'s>(
     }
 }
 
-fn description_of<'s>(alloc: Global, fields: &Fields<'_, 's>) -> Result<Option<Text<'s>>, NoMemory>
-    ensures { IfOk result (λ d. d ≡ description_of (fields_view fields.now)) }
+fn said_description<'s>(
+    alloc: Global,
+    fields: &Fields<'_, 's>,
+) -> Result<Option<Text<'s>>, NoMemory>
+    ensures { IfOk result (λ d. d ≡ said_description (fields_view fields.now)) }
 {
     match fields.get("$description") {
         Some(node) => node.as_text(alloc),
@@ -95,9 +101,9 @@ fn extensions_of<'s>(text: &'s str, fields: &Fields<'_, '_>) -> Option<&'s str>
 }
 
 // What the token's `$ref` or else its `$value` holds.
-fn value_of<'s>(node: NodeRef<'_, 's>, fields: &Fields<'_, 's>) -> Result<Node<'s>, NoMemory>
-    requires { AreMembers (ref_view node) (fields_view fields.now) }
-    ensures { IfOk result (λ n. node_view n ≡ value_of (ref_view node.entry)) }
+fn token_value<'s>(node: NodeRef<'_, 's>, fields: &Fields<'_, 's>) -> Result<Node<'s>, NoMemory>
+    requires { IsObjectOf (ref_view node) (fields_view fields.now) }
+    ensures { IfOk result (λ n. node_view n ≡ token_value (ref_view node.entry)) }
 {
     if let Some(value) = fields.get("$ref") {
         return value.node();
@@ -117,17 +123,17 @@ pub(crate) fn read_token<'s>(
     fields: &Fields<'_, 's>,
 ) -> Result<Rc<TokenDef<'s>>, ShapeFault>
     requires stands { StandsIn text.now (ref_view node) }
-    requires members { AreMembers (ref_view node) (fields_view fields.now) }
+    requires members { IsObjectOf (ref_view node) (fields_view fields.now) }
     requires token { are_token (fields_view fields.now) ≡ true }
     ensures sound { OnOk result (token_breaks (fields_view fields.now) ≡ []) }
     ensures ok { IfOk result (λ def. def.value ≡ def_at file.entry.now text.entry.now node.entry) }
-    ensures broken { IfErr result (IsFirst (token_breaks (fields_view fields.now))) }
+    ensures broken { IfErr result (TellsFirst (token_breaks (fields_view fields.now))) }
 {
     check_token(alloc, fields)?;
-    let value = value_of(node, fields)?;
-    let kind = kind_of(alloc, fields)?;
-    let description = description_of(alloc, fields)?;
-    let deprecated = deprecated_of(alloc, fields)?;
+    let value = token_value(node, fields)?;
+    let kind = said_kind(alloc, fields)?;
+    let description = said_description(alloc, fields)?;
+    let deprecated = said_deprecated(alloc, fields)?;
     let def = TokenDef {
         file,
         source: slice_of(text, node),

@@ -5,9 +5,11 @@ ghost use Rattle.std.specs.FinMap as map;
 ghost use Rattle.std.specs.FinMap.{insert};
 ghost use Rattle.std.specs.List.{slice_get};
 ghost use Rattle.std.specs.Option.{option_map};
-ghost use Rattle.token_tree.specs.Listed.{NamesApart, entries_of};
-ghost use Rattle.token_tree.specs.Naming.{StandsAt, entry_view};
-ghost use Rattle.token_tree.specs.Shown.{extends_view, child_view, member_view, group_view};
+ghost use Rattle.token_tree.specs.MembersView.{entries_of};
+ghost use Rattle.tk_io.specs.Entries.{PutsEntry};
+ghost use Rattle.token_tree.specs.View.{child_view, entry_view, extends_view};
+ghost use Rattle.token_tree.specs.View.{group_view, member_view};
+ghost use Rattle.token_tree.specs.inner.Lists.{NamesApart};
 
 use crate::definition::TokenDef;
 use crate::entries::{copy_list, place, put_child, sort_members};
@@ -32,7 +34,7 @@ pub struct Group<'s> {
 }
 
 /// The group that a group extends.
-#[derive(Drop)]
+#[derive(Debug, Drop)]
 pub struct Extends<'s> {
     /// Its path, which is empty for the root.
     pub target: Path<'s>,
@@ -80,11 +82,11 @@ impl<'s> Model for Members<'s> {
     ghost use Rattle.std.specs.Prelude.{T};
     ghost use Rattle.std.specs.FinMap.{is_sorted};
     ghost use Rattle.tk_io.specs.Order.{text_cmp};
-    ghost use Rattle.token_tree.specs.Listed.{named_in, entries_in};
+    ghost use Rattle.token_tree.specs.MembersView.{kept_named, kept_entries};
 
-    ghost view = { named_in };
+    ghost view = { kept_named };
 
-    ghost invariant = { λ m. T (is_sorted text_cmp (entries_in m)) };
+    ghost invariant = { λ m. T (is_sorted text_cmp (kept_entries m)) };
 
     ghost use Rattle.token_tree.specs.Sizes.{named_size};
 
@@ -189,7 +191,7 @@ impl<'s> Members<'s> {
     pub fn put(&mut self, name: &Text<'s>, child: Child<'s>) -> Result<(), NoMemory>
         ensures ok { OnOk result (self.new ≡ insert self.old name.now (child_view child.entry)) }
         // What stands at each name afterwards.
-        ensures at { OnOk result (StandsAt self.old self.new name.now (child_view child.entry)) }
+        ensures at { OnOk result (PutsEntry self.old self.new name.now (child_view child.entry)) }
         ensures err { OnErr result (self.new ≡ self.old) }
     {
         let Some(shared) = &mut self.entries else {

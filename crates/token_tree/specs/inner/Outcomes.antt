@@ -1,25 +1,28 @@
--- What the private calls answer.
-use Rattle.std.specs.Prelude.{◌≡◌, ◌++◌, ℕ, List, [], Option, Some, codes, option_map}
+-- What private calls want to know of what they read, and what they answer.
+use Rattle.std.specs.Prelude.{◌≡◌, ◌++◌, ℕ, List, [], Option, Some, None, codes, option_map, slice_get}
 use Rattle.std.specs.Borrow.{Bor}
 use Rattle.std.specs.FinMap as map
 use Rattle.std.specs.FinMap.Entries.{put}
-use Rattle.json_span.specs.Tree.{Placed, Entry, members_of, under}
+use Rattle.json_span.specs.Flaw.{flaw_in_members}
+use Rattle.json_span.specs.Tree.{Placed, Entry, an_object, members_of, value_of_name}
 use Rattle.json_span.specs.View.{ref_view}
 use Rattle.json_span.specs.declared.node_ref.NodeRef.{NodeRef}
 use Rattle.tk_io.specs.Order.{text_cmp}
 use Rattle.token_tree.specs.Tree.{Definition, Named}
-use Rattle.token_tree.specs.Shape.{Break, child_breaks, group_member_breaks, extends_of, put_children, def_of}
-use Rattle.token_tree.specs.Shown.{extends_view, child_view, member_view}
-use Rattle.token_tree.specs.Listed.{entries_of, child_in, with_front}
+use Rattle.token_tree.specs.Shape.{Break, child_breaks, group_breaks, group_member_breaks, extends_of, put_children, def_of, child_of, group_of}
+use Rattle.token_tree.specs.View.{extends_view, child_view, member_view, group_view}
+use Rattle.token_tree.specs.MembersView.{entries_of}
+use Rattle.token_tree.specs.inner.Lists.{child_in, with_front}
 use Rattle.token_tree.specs.Promise.{StandsIn}
 use Rattle.token_tree.specs.declared.tree.Child.{Child}
 use Rattle.token_tree.specs.declared.tree.Extends.{Extends}
+use Rattle.token_tree.specs.declared.tree.Group.{Group}
 use Rattle.token_tree.specs.declared.tree.Member.{Member}
 
 -- Lists of members.
 
-abbrev pub IsPut : List ℕ → Child → List Member → List Member → Type 0
-IsPut name c old new = entries_of new ≡ put text_cmp name (child_view c) (entries_of old)
+abbrev pub IsChildPut : List ℕ → Child → List Member → List Member → Type 0
+IsChildPut name c old new = entries_of new ≡ put text_cmp name (child_view c) (entries_of old)
 
 -- two lists are one map, the first of them in the order of names
 abbrev pub AreOneMap : List Member → List Member → Type 0
@@ -29,13 +32,34 @@ AreOneMap sorted list = map.from_sorted {R = text_cmp} (entries_of sorted) ≡ m
 abbrev pub IsPushed : Option Member → List Member → List Member → Type 0
 IsPushed m old new = entries_of new ≡ entries_of old ++ with_front (option_map member_view m) []
 
+-- Members of an object.
+
+-- the values of the members stand in the text
+abbrev pub EachStands : List ℕ → List Entry → Type 0
+EachStands text es = (i : ℕ) (e : Entry) → slice_get es i ≡ Some e → StandsIn text e.value
+
+-- no name repeats an earlier one
+abbrev pub NamesDiffer : List Entry → Type 0
+NamesDiffer es = (room : ℕ) × (flaw_in_members room [] (members_of es) ≡ None)
+
 -- Groups.
+
+-- what is read of a group's object, and of a child's value, is what they show
+abbrev pub IsGroupOf : List ℕ → List ℕ → List Entry → Group → Type 0
+IsGroupOf file text es g = group_view g ≡ group_of file text (an_object (members_of es))
+
+abbrev pub IsChildOf : List ℕ → List ℕ → Placed → Child → Type 0
+IsChildOf file text n c = child_view c ≡ child_of file text n
+
+-- the breaks of a group's members
+abbrev pub entries_breaks : List Entry → List Break
+entries_breaks es = group_breaks (members_of es)
 
 abbrev pub IsExtendsOf : List ℕ → List Entry → Option Extends → Type 0
 IsExtendsOf file es e = option_map extends_view e ≡ extends_of file es
 
-abbrev pub AreChildrenOf : List ℕ → List ℕ → List Entry → Named → Type 0
-AreChildrenOf file text es members = members ≡ put_children file text (members_of es) map.empty
+abbrev pub AreChildren : List ℕ → List ℕ → List Entry → Named → Type 0
+AreChildren file text es members = members ≡ put_children file text (members_of es) map.empty
 
 -- the breaks of a group's member
 abbrev pub member_breaks : Entry → List Break
@@ -49,7 +73,7 @@ IsChildIn file text e m = option_map member_view m ≡ child_in file text e
 
 -- the value under `$extensions` stands in the text, where there is one
 abbrev pub ExtensionsStand : List ℕ → List Entry → Type 0
-ExtensionsStand text es = (n : Placed) → under (codes "$extensions") es ≡ Some n → StandsIn text n
+ExtensionsStand text es = (n : Placed) → value_of_name (codes "$extensions") es ≡ Some n → StandsIn text n
 
 -- a part of a text, looked at
 abbrev pub slice_view : Option (Bor (List ℕ)) → Option (List ℕ)

@@ -1,7 +1,7 @@
 use Rattle.std.proofs.Common.{ap, ◌∙◌, ◌++◌, [], ◌∷◌}
 use Rattle.std.proofs.lemmas.List.{map-append}
-use Rattle.token_tree.specs.Shown.{member_view}
-use Rattle.token_tree.specs.Listed.{entries_of}
+use Rattle.token_tree.specs.View.{member_view}
+use Rattle.token_tree.specs.MembersView.{entries_of}
 use Rattle.token_tree.proofs.Steps.{made, all_made}
 use Rattle.token_tree.proofs.entries.copy_list.Goals as goal
 

@@ -1,7 +1,8 @@
 use Rattle.std.proofs.Common.{[], ◌∷◌, ◌++◌, option_map, sym, ap, ◌∙◌}
 use Rattle.std.proofs.lemmas.List.{append-nil, map-append}
-use Rattle.token_tree.specs.Shown.{member_view}
-use Rattle.token_tree.specs.Listed.{entries_of, with_front}
+use Rattle.token_tree.specs.View.{member_view}
+use Rattle.token_tree.specs.MembersView.{entries_of}
+use Rattle.token_tree.specs.inner.Lists.{with_front}
 use Rattle.token_tree.proofs.entries.push_some.Goals as goal
 
 pub returns-in_default : goal.returns-in_default

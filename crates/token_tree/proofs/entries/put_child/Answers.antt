@@ -1,8 +1,9 @@
 use Rattle.std.proofs.Common.{refl, sym, ap, subst, ◌∙◌}
 use Rattle.std.specs.FinMap.{put}
 use Rattle.tk_io.specs.Order.{text_cmp}
-use Rattle.token_tree.specs.Shown.{child_view}
-use Rattle.token_tree.specs.Listed.{IsPlaceOf, IsGapFor, entries_of}
+use Rattle.token_tree.specs.View.{child_view}
+use Rattle.token_tree.specs.MembersView.{entries_of}
+use Rattle.token_tree.specs.inner.Lists.{IsPlaceOf, IsGapFor}
 use Rattle.token_tree.specs.declared.tree.Member.{Member}
 use Rattle.token_tree.proofs.NameLists.{put_named, put_between}
 use Rattle.token_tree.proofs.entries.put_child.Goals as goal

@@ -7,11 +7,12 @@ use Rattle.tk_io.specs.Order.{text_cmp}
 use Rattle.json_span.specs.Tree.{Entry, members_of}
 use Rattle.json_span.specs.View.{json_view, ref_view, field_view, fields_view}
 use Rattle.json_span.proofs.Views.{entries_in-of}
-use Rattle.token_tree.specs.Answer.{NamesDiffer}
+use Rattle.token_tree.specs.inner.Outcomes.{NamesDiffer}
 use Rattle.token_tree.specs.Tree.{Properties, a_token, a_group, group_with}
 use Rattle.token_tree.specs.Shape.{are_token, group_breaks, group_member_breaks, child_breaks, properties_of}
-use Rattle.token_tree.specs.Shown.{extends_view, group_view}
-use Rattle.token_tree.specs.Listed.{AreApart, entries_of}
+use Rattle.token_tree.specs.View.{extends_view, group_view}
+use Rattle.token_tree.specs.MembersView.{entries_of}
+use Rattle.token_tree.specs.inner.Lists.{KeysAreApart}
 use Rattle.token_tree.specs.declared.tree.Member.{Member}
 use Rattle.token_tree.proofs.Children.{children_in, children_apart, one_read, put_all}
 use Rattle.token_tree.proofs.Groups.{object_is, group_child_breaks, group_child, token_child}
@@ -85,7 +86,7 @@ read_members-from_list-requires t c =
     let es = fields_view c.args.fields.now in
     let all = all_read c.loop-field.list.items c.args.file.now c.args.text.now (fields_view c.loop-field.field-iterator) es c.in-None.ensures.steps.0 c.loop-field.invariant.children in
     let differ : NamesDiffer es = c.requires.1.1.1 in
-    subst (AreApart text_cmp) (sym all) (children_apart c.args.file.now c.args.text.now differ.0 [] es differ.1)
+    subst (KeysAreApart text_cmp) (sym all) (children_apart c.args.file.now c.args.text.now differ.0 [] es differ.1)
 
 pub read_members-returns-in_err-member-clause-broken : goal.read_members-returns-in_err-member-clause-broken
 read_members-returns-in_err-member-clause-broken t c =

@@ -1,9 +1,9 @@
 use Rattle.std.proofs.Common.{◌≡◌, ◌+◌, ◌≤◌, ◌++◌}
 use Rattle.json_span.specs.Tree.{members_of}
 use Rattle.json_span.specs.View.{ref_view, field_view, fields_view}
-use Rattle.token_tree.specs.Answer.{EachStands}
+use Rattle.token_tree.specs.inner.Outcomes.{EachStands}
 use Rattle.token_tree.specs.Shape.{group_breaks}
-use Rattle.token_tree.specs.Listed.{entries_of}
+use Rattle.token_tree.specs.MembersView.{entries_of}
 use Rattle.token_tree.proofs.Children.{children_in}
 use Rattle.token_tree.proofs.Weights.{node_weight, members_weight}
 use Rattle.token_tree.proofs.group.+group.Given as goal

@@ -3,9 +3,9 @@ use Rattle.std.specs.Prelude.{slice_get}
 use Rattle.json_span.specs.Tree.{tree_of}
 use Rattle.json_span.specs.View.{node_view, fields_view}
 use Rattle.token_tree.specs.declared.fault.Rule.TheVariants as rule
-use Rattle.token_tree.specs.Answer.{IsFirst}
+use Rattle.token_tree.specs.Answer.{TellsFirst}
 use Rattle.token_tree.specs.Shape.{are_token, token_breaks, entries_at, group_of, shape_of}
-use Rattle.token_tree.specs.Shown.{group_view}
+use Rattle.token_tree.specs.View.{group_view}
 use Rattle.token_tree.proofs.Groups.{object_is, no_object, no_root, token_root, group_root, first_at}
 use Rattle.token_tree.proofs.Places.{members_stand, names_differ}
 use Rattle.token_tree.proofs.shaping.shape.Goals as goal
@@ -43,7 +43,7 @@ returns-clause-broken c =
     let es = fields_view c.in-Some.fields in
     let are = object_is (tree_of (node_view c.args.root.now)) es (sym c.in-Some.ensures) in
     let none : are_token es ≡ false = sym c.are_token.ensures ∙ c.if-are_token.false in
-    subst (λ z. IfErr c.read_group.result (IsFirst z)) (sym (group_root n es are none)) c.read_group.ensures.broken
+    subst (λ z. IfErr c.read_group.result (TellsFirst z)) (sym (group_root n es are none)) c.read_group.ensures.broken
 
 pub returns-in_default-clause-broken : goal.returns-in_default-clause-broken
 returns-in_default-clause-broken c =

@@ -4,8 +4,8 @@ use Rattle.json_span.specs.View.{node_view}
 use Rattle.token_tree.specs.Tree.{Definition}
 use Rattle.token_tree.specs.declared.definition.TokenDef.TheInside.{Inside}
 
-abbrev pub def_data : Inside → Definition
-def_data d = record {
+abbrev pub definition_view : Inside → Definition
+definition_view d = record {
   file = d.file.now;
   source = d.source.now;
   start = d.start;

@@ -1,30 +1,16 @@
--- The members of a group as they are kept: a list in the order of their names.
-use Rattle.std.specs.Prelude.{if◌then◌else◌, Option, Some, None, ◌≡◌, ℕ, ◌<◌, ◌≤◌, List, [], ◌∷◌, map, length, unwrap_or, option_map}
-use Rattle.std.specs.FinMap as map
+-- Lists of members, and places in them.
+use Rattle.std.specs.Prelude.{if◌then◌else◌, Option, Some, None, ◌≡◌, ℕ, ◌<◌, ◌≤◌, List, [], ◌∷◌, length}
 use Rattle.std.specs.FinMap.{find}
 use Rattle.std.specs.List.{HoldsAt}
 use Rattle.std.specs.List.Sorted.{IsPartitionPoint}
 use Rattle.std.specs.declared.cmp.Ordering.{Ordering}
 use Rattle.std.specs.declared.cmp.Ordering.TheVariants.{Less, Greater}
 use Rattle.tk_io.specs.Order.{text_cmp}
-use Rattle.token_tree.specs.Tree.{Child as ChildData, Named}
 use Rattle.json_span.specs.Tree.{Entry}
+use Rattle.token_tree.specs.Tree.{Child as ChildData}
 use Rattle.token_tree.specs.Shape.{is_child, child_of}
-use Rattle.token_tree.specs.Shown.{member_view}
+use Rattle.token_tree.specs.MembersView.{entries_of}
 use Rattle.token_tree.specs.declared.tree.Member.{Member}
-use Rattle.token_tree.specs.declared.tree.Members.TheInside.{Inside}
-
-abbrev pub entries_of : List Member → List (List ℕ × ChildData)
-entries_of list = map member_view list
-
-abbrev pub members_in : Inside → List Member
-members_in m = unwrap_or (option_map (λ shared. shared.value.items) m.entries) []
-
-abbrev pub entries_in : Inside → List (List ℕ × ChildData)
-entries_in m = entries_of (members_in m)
-
-abbrev pub named_in : Inside → Named
-named_in m = map.from_sorted (entries_in m)
 
 -- where the name stands in a list
 abbrev pub IsPlaceOf : List Member → List ℕ → ℕ → Type 0
@@ -44,10 +30,10 @@ with_front None xs = xs
 with_front (Some x) xs = x ∷ xs
 
 -- no key stands twice
-abbrev pub AreApart : {K X : Type 0} → (K → K → Ordering) → List (K × X) → Type 0
-AreApart R [] = Unit {0}
-AreApart R (e ∷ es) = (find R e.0 es ≡ None) × AreApart R es
+abbrev pub KeysAreApart : {K X : Type 0} → (K → K → Ordering) → List (K × X) → Type 0
+KeysAreApart R [] = Unit {0}
+KeysAreApart R (e ∷ es) = (find R e.0 es ≡ None) × KeysAreApart R es
 
 -- no name of the members stands twice
 abbrev pub NamesApart : List Member → Type 0
-NamesApart list = AreApart text_cmp (entries_of list)
+NamesApart list = KeysAreApart text_cmp (entries_of list)

@@ -1,5 +1,6 @@
--- What a definition, a group and its members are seen as.
+-- What groups, their members and what they extend are seen as.
 use Rattle.std.specs.Prelude.{ℕ, List, option_map}
+use Rattle.std.specs.Borrow.{Bor}
 use Rattle.token_tree.specs.Tree.{Extension, Properties, Child as ChildData, a_token, a_group, Group as GroupData, Named, group_with}
 use Rattle.token_tree.specs.declared.tree.Child.{Child}
 use Rattle.token_tree.specs.declared.tree.Child.TheVariants.{Token, Group as Inner}
@@ -30,3 +31,7 @@ child_view (Inner g) = a_group (group_view g.value)
 -- a member with its name
 abbrev pub member_view : Member → List ℕ × ChildData
 member_view m = (m.name, child_view m.child)
+
+-- a name and its child, looked at
+abbrev pub entry_view : Bor (List ℕ) × Bor Child → List ℕ × ChildData
+entry_view e = (e.0.now, child_view e.1.now)
