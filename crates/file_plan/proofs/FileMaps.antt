@@ -12,7 +12,7 @@ use Rattle.std.specs.Option.{IfSome}
 use Rattle.std.specs.Ordering.{is_eq}
 use Rattle.std.specs.Prelude.{slice_get}
 use Rattle.tk_io.specs.Order.{text_cmp}
-use Rattle.tk_io.specs.Shown.{shown_by}
+use Rattle.tk_io.specs.View.{entries_view}
 use Rattle.tk_io.proofs.MapViews as views
 use Rattle.tk_io.proofs.TextMaps.{text_cmp-IsAntisymmetric}
 
@@ -27,7 +27,7 @@ Entries = List (Line × Line)
 
 -- the map that the entries show
 abbrev pub files_of : Entries → map.FinMap text_cmp (List ℕ)
-files_of es = map.from_entries (shown_by bytes_at bytes_at es)
+files_of es = map.from_entries (entries_view bytes_at bytes_at es)
 
 pub file_get : (es : Entries) (q : List ℕ) → option_map bytes_at (lookup (λ k. is_eq (text_cmp q k.now)) es) ≡ map.get (files_of es) q
 file_get es q = sym (views.get_shown nat_list_cmp_total text_cmp-IsAntisymmetric bytes_at bytes_at es q)

@@ -6,14 +6,14 @@ use Rattle.std.specs.Cmp.Lexicographic.{nat_list_cmp_total}
 use Rattle.std.specs.FinMap as finite
 use Rattle.std.specs.List.{flat_map}
 use Rattle.std.specs.Ordering.{eq_by_cmp}
-use Rattle.ring.specs.Routes.{In}
+use Rattle.ring.specs.Lists.{In}
 use Rattle.ring.proofs.Ends.{in_cases, in_left}
 use Rattle.tk_io.specs.FilesData.{FilesData}
 use Rattle.tk_io.specs.Order.{text_cmp}
 use Rattle.tk_io.proofs.TextMaps.{text_cmp-IsAntisymmetric}
 use Rattle.permutations.specs.Permutation.{TokenSource, file, inline, Permutation}
-use Rattle.file_plan.specs.InUse.{resolver_path, source_names, names_in, names_of, beside, with_named, in_use_by, resolver_in, files_in_use, AreAmong}
-use Rattle.file_plan.specs.Laws.{IsNamed, IsWanted, WantedAreInUse}
+use Rattle.file_plan.specs.InUse.{resolver_path, source_names, names_in, file_names, beside, with_named, in_use_by, resolver_in, files_in_use, AreAmong}
+use Rattle.file_plan.specs.Laws.{IsSourceFile, IsWanted, WantedAreInUse}
 
 pub some_none : {A : Type 0} {x : A} → Some x ≡ None → ⊥
 some_none e = cc
@@ -162,14 +162,14 @@ of_source path (file name start end) ss i (inl is) = (start, end, subst (λ (n :
 of_source path (file name start end) ss i (inr none) = absurd none
 of_source path (inline n) ss i none = absurd none
 
-named_from : (perms : List Permutation) (path : List ℕ) → In path (names_of perms) → IsNamed perms path
+named_from : (perms : List Permutation) (path : List ℕ) → In path (file_names perms) → IsSourceFile perms path
 named_from perms path i =
     let (p, among, j) = from_flat (λ (x : Permutation). names_in x.sources) perms path i in
     let (s, k, l) = from_flat source_names p.sources path j in
     let (start, end, source) = of_source path s p.sources k l in
     record { perm = p; among = among; start = start; end = end; source = source }
 
-from_named : (perms : List Permutation) (path : List ℕ) → IsNamed perms path → In path (names_of perms)
+from_named : (perms : List Permutation) (path : List ℕ) → IsSourceFile perms path → In path (file_names perms)
 from_named perms path n =
     in_flat (λ (x : Permutation). names_in x.sources) perms n.perm path n.among
     (in_flat source_names n.perm.sources (file path n.start n.end) path n.source (inl refl))
@@ -177,12 +177,12 @@ from_named perms path n =
 -- Files in use.
 
 pub in_use_among : (files : FilesData) (perms : List Permutation) → AreAmong (files_in_use files perms) files
-in_use_among files perms = among_all files (names_of perms) (resolver_in files) (among_named files finite.empty resolver_path (among_none files))
+in_use_among files perms = among_all files (file_names perms) (resolver_in files) (among_named files finite.empty resolver_path (among_none files))
 
 pub wanted_are_in_use : WantedAreInUse
 wanted_are_in_use files perms path text = record {
   there = in_use_among files perms path text;
-  wanted = λ e. at (found files (names_of perms) (resolver_in files) path text e);
+  wanted = λ e. at (found files (file_names perms) (resolver_in files) path text e);
   all = λ e w. wanted_there e w;
 }
   where
@@ -193,13 +193,13 @@ wanted_are_in_use files perms path text = record {
     resolver_is (inl s) = absurd (some_none (sym s ∙ finite.get-empty text_cmp path))
     resolver_is (inr (is, f)) = is
 
-    at : (finite.get (resolver_in files) path ≡ Some text) ⊎ In path (names_of perms) → IsWanted perms path
+    at : (finite.get (resolver_in files) path ≡ Some text) ⊎ In path (file_names perms) → IsWanted perms path
     at (inl s) = inl (resolver_is (beside_found finite.empty resolver_path (finite.get files resolver_path) path text s))
     at (inr i) = inr (named_from perms path i)
 
     wanted_there : finite.get files path ≡ Some text → IsWanted perms path → finite.get (files_in_use files perms) path ≡ Some text
     wanted_there e (inl is) =
-        kept files (names_of perms) (resolver_in files) path text resolver_among
+        kept files (file_names perms) (resolver_in files) path text resolver_among
         (subst (λ (p : List ℕ). finite.get (resolver_in files) p ≡ Some text) (sym is)
         (beside_added finite.empty resolver_path (finite.get files resolver_path) text (ap (λ p. finite.get files p) (sym is) ∙ e)))
-    wanted_there e (inr n) = named_in_use files (names_of perms) (resolver_in files) path text resolver_among (from_named perms path n) e
+    wanted_there e (inr n) = named_in_use files (file_names perms) (resolver_in files) path text resolver_among (from_named perms path n) e

@@ -1,6 +1,6 @@
-pub mod OnePlans
-pub mod EachPlans
-pub mod SoundPlans
-pub mod FoundPlans
-pub mod FileMaps
+mod OnePlans
+mod EachPlans
+mod SoundPlans
+mod FoundPlans
+mod FileMaps
 pub mod FilesInUse

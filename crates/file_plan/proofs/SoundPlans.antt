@@ -1,6 +1,6 @@
 -- Tokens of a plan stand in the resolver document, and its permutations have different names.
 use Rattle.std.proofs.Common.{◌≡◌, ℕ, List, [], ◌∷◌, Some, None, codes, map, refl, sym, subst, inl, inr}
-use Rattle.ring.specs.Routes.{In, AreApart}
+use Rattle.ring.specs.Lists.{In, AreApart}
 use Rattle.json_span.specs.Answer.{Answer, IsAnswer, shows, flawed, stops}
 use Rattle.json_span.specs.Tree.{Placed}
 use Rattle.resolver_doc.specs.Document.{resolver_of}
@@ -8,7 +8,7 @@ use Rattle.resolver_doc.specs.Laws.{ContextsAreApart}
 use Rattle.permutations.specs.Laws.{InlinesArePart, NamesAreApart as ListedApart}
 use Rattle.permutations.specs.Permutation.{Permutation, permutations, file, inline}
 use Rattle.file_plan.specs.Plan.{Planned, planned, default_plan, OfDocument, listed, broken, many, long, OfAnswer}
-use Rattle.file_plan.specs.Laws.{InlinesStand, NamesAreApart, StandsIn}
+use Rattle.file_plan.specs.Laws.{InlinesStand, NamesAreApart, IsPartOfText}
 
 -- a plan of a document is that of its permutations
 listed_only : (root : Placed) (p : Planned) (perms : List Permutation) → OfDocument root p → p ≡ planned perms → permutations (resolver_of root) ≡ perms
@@ -27,7 +27,7 @@ no_inline p n (inr none) i = none
 
 module _ (parts : InlinesArePart) where
   of_answer : (text : List ℕ) (answer : Answer) (perms : List Permutation) → IsAnswer text answer → OfAnswer answer (planned perms)
-      → (p : Permutation) → In p perms → (n : Placed) → In (inline n) p.sources → StandsIn (Some text) n
+      → (p : Permutation) → In p perms → (n : Placed) → In (inline n) p.sources → IsPartOfText (Some text) n
   of_answer text (shows root) perms is of p i n j = record {
     document = text;
     there = refl;

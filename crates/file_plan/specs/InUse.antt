@@ -18,8 +18,8 @@ source_names (inline n) = []
 abbrev pub names_in : List TokenSource → List (List ℕ)
 names_in sources = flat_map source_names sources
 
-abbrev pub names_of : List Permutation → List (List ℕ)
-names_of perms = flat_map (λ p. names_in p.sources) perms
+abbrev pub file_names : List Permutation → List (List ℕ)
+file_names perms = flat_map (λ p. names_in p.sources) perms
 
 -- the file of that name beside those seen, where it is there
 
@@ -41,7 +41,7 @@ resolver_in files = with_named files finite.empty resolver_path
 
 -- the files that are read for permutations
 abbrev pub files_in_use : FilesData → List Permutation → FilesData
-files_in_use files perms = in_use_by files (resolver_in files) (names_of perms)
+files_in_use files perms = in_use_by files (resolver_in files) (file_names perms)
 
 -- each of some files is one of the files
 abbrev pub AreAmong : FilesData → FilesData → Type 0

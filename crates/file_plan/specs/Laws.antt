@@ -1,7 +1,7 @@
 -- Laws of plans, and of the files in use.
 use Rattle.std.specs.Prelude.{◌≡◌, ◌⊎◌, ℕ, List, map, Option, Some, None}
 use Rattle.std.specs.FinMap as finite
-use Rattle.ring.specs.Routes.{In, AreApart}
+use Rattle.ring.specs.Lists.{In, AreApart}
 use Rattle.json_span.specs.Flaw.{first_flaw}
 use Rattle.json_span.specs.Parts.{IsPart}
 use Rattle.json_span.specs.Reading.{Shows}
@@ -20,7 +20,7 @@ abbrev pub EachPlan : Type 0
 EachPlan = (text : Option (List ℕ)) → (p : Planned) × Plans text p
 
 -- tokens among the sources are parts of the value that the document's text shows, which has no flaw
-pub record StandsIn (text : Option (List ℕ)) (n : Placed) : Type 0 where
+pub record IsPartOfText (text : Option (List ℕ)) (n : Placed) : Type 0 where
   pub document : List ℕ
   pub there : text ≡ Some document
   pub root : Placed
@@ -30,14 +30,14 @@ pub record StandsIn (text : Option (List ℕ)) (n : Placed) : Type 0 where
 
 abbrev pub InlinesStand : Type 0
 InlinesStand = (text : Option (List ℕ)) (perms : List Permutation) → Plans text (planned perms)
-    → (p : Permutation) → In p perms → (n : Placed) → In (inline n) p.sources → StandsIn text n
+    → (p : Permutation) → In p perms → (n : Placed) → In (inline n) p.sources → IsPartOfText text n
 
 -- no two permutations have one name
 abbrev pub NamesAreApart : Type 0
 NamesAreApart = (text : Option (List ℕ)) (perms : List Permutation) → Plans text (planned perms) → AreApart (map (λ p. p.name) perms)
 
 -- a source of a permutation names the file
-pub record IsNamed (perms : List Permutation) (path : List ℕ) : Type 0 where
+pub record IsSourceFile (perms : List Permutation) (path : List ℕ) : Type 0 where
   pub perm : Permutation
   pub among : In perm perms
   pub start : ℕ
@@ -46,7 +46,7 @@ pub record IsNamed (perms : List Permutation) (path : List ℕ) : Type 0 where
 
 -- the file is the resolver document, or a source names it
 abbrev pub IsWanted : List Permutation → List ℕ → Type 0
-IsWanted perms path = (path ≡ resolver_path) ⊎ IsNamed perms path
+IsWanted perms path = (path ≡ resolver_path) ⊎ IsSourceFile perms path
 
 -- a file is in use exactly where it is there and is wanted
 pub record InUseWhereWanted (files : FilesData) (perms : List Permutation) (path text : List ℕ) : Type 0 where

@@ -2,7 +2,7 @@
 use Rattle.std.specs.Prelude.{◌≡◌, ℕ, List, [], ◌∷◌, codes, Option, Some, None, option_map, unwrap_or}
 use Rattle.json_span.specs.Answer.{Answer, IsAnswer, shows, flawed, stops}
 use Rattle.json_span.specs.Flaw.{Flaw}
-use Rattle.json_span.specs.Tree.{Placed, start_of, end_of, under}
+use Rattle.json_span.specs.Tree.{Placed, start_of, end_of, value_of_name}
 use Rattle.resolver_doc.specs.Answer.{IsUnbroken, IsPlanBreak}
 use Rattle.resolver_doc.specs.Document.{resolver_of}
 use Rattle.resolver_doc.specs.Form.{entries_at}
@@ -29,7 +29,7 @@ default_plan = record { name = codes "default"; sources = file (codes "tokens.js
 
 -- the list of a document's order
 abbrev pub order_of : Placed → Option Placed
-order_of root = under (codes "resolutionOrder") (entries_at root)
+order_of root = value_of_name (codes "resolutionOrder") (entries_at root)
 
 abbrev pub order_start : Placed → ℕ
 order_start root = unwrap_or (option_map start_of (order_of root)) 0

@@ -24,11 +24,11 @@ abbrev pub plan_view : List PlanPerm → List Permutation
 plan_view perms = map plan_perm_view perms
 
 -- the refusal is what is found; memory may always run out
-abbrev pub IsRefusal : (Planned → Type 0) → PlanRefusal → Type 0
-IsRefusal found (Syntax at) = found (refused (stopped at))
-IsRefusal found (Duplicate start end) = found (refused (has_flaw (equal_names start end)))
-IsRefusal found (Depth start end) = found (refused (has_flaw (too_deep start end)))
-IsRefusal found (Broken rule start end ring) = found (refused (breaks (record { rule = rule; start = start; end = end }) ring))
-IsRefusal found (TooMany start end count) = found (refused (too_many start end count))
-IsRefusal found (TooManySources start end count) = found (refused (too_many_sources start end count))
-IsRefusal found NoMemory = Unit {0}
+abbrev pub IsPlanRefusal : (Planned → Type 0) → PlanRefusal → Type 0
+IsPlanRefusal found (Syntax at) = found (refused (stopped at))
+IsPlanRefusal found (Duplicate start end) = found (refused (has_flaw (equal_names start end)))
+IsPlanRefusal found (Depth start end) = found (refused (has_flaw (too_deep start end)))
+IsPlanRefusal found (Broken rule start end ring) = found (refused (breaks (record { rule = rule; start = start; end = end }) ring))
+IsPlanRefusal found (TooMany start end count) = found (refused (too_many start end count))
+IsPlanRefusal found (TooManySources start end count) = found (refused (too_many_sources start end count))
+IsPlanRefusal found NoMemory = Unit {0}

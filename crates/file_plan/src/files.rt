@@ -22,13 +22,14 @@ impl<'s> Model for Files<'s> {
     ghost use Rattle.std.specs.FinMap as map;
     ghost use Rattle.std.specs.Coded.{coded_list, coded_ℕ};
     ghost use Rattle.tk_io.specs.Order.{text_cmp};
-    ghost use Rattle.tk_io.specs.Shown.{shown_by};
+    ghost use Rattle.tk_io.specs.View.{entries_view};
 
     ghost Value = { map.FinMap text_cmp (List ℕ) };
 
     ghost coded = { map.code (coded_list coded_ℕ) (coded_list coded_ℕ) };
 
-    ghost view = { λ f. map.from_entries (shown_by (λ path. path.now) (λ text. text.now) f.texts.entries) };
+    ghost view = { λ f. map.from_entries
+        (entries_view (λ path. path.now) (λ text. text.now) f.texts.entries) };
 }
 
 impl<'s> Files<'s> {
@@ -80,7 +81,8 @@ impl<'s> Files<'s> {
     pub fn put(&mut self, path: &'s str, text: &'s str) -> Result<(), NoMemory>
         ensures ok { OnOk result (self.new ≡ map.insert self.old path.entry.now text.entry.now) }
         // What stands at each path afterwards.
-        ensures at { OnOk result ((q : List ℕ) → map.get self.new q ≡ cond (is_at (text_cmp path.entry.now) q) (Some text.entry.now) (map.get self.old q)) }
+        ensures at { OnOk result ((q : List ℕ) → map.get self.new q
+            ≡ cond (is_at (text_cmp path.entry.now) q) (Some text.entry.now) (map.get self.old q)) }
         ensures err { OnErr result (self.new ≡ self.old) }
     {
         self.texts.insert(path, text)?;
@@ -91,12 +93,13 @@ impl<'s> Files<'s> {
     pub fn del(&mut self, path: &str)
         ensures gone { self.new ≡ map.remove self.old path.now }
         // What stands at each path afterwards.
-        ensures at { (q : List ℕ) → map.get self.new q ≡ cond (is_at (text_cmp path.now) q) None (map.get self.old q) }
+        ensures at { (q : List ℕ)
+            → map.get self.new q ≡ cond (is_at (text_cmp path.now) q) None (map.get self.old q) }
     {
         let _ = self.texts.remove(path);
     }
 
-    /// The same files once more: paths and texts are borrowed as they are here. Only want of memory is an error.
+    /// The same files once more: paths and texts are borrowed as they are here. The only error is out of memory.
     pub fn copy(&self) -> Result<Files<'s>, NoMemory>
         ensures { IfOk result (λ files. files ≡ self.now) }
     {

@@ -1,7 +1,7 @@
 // Permutations that are kept without the document that they were listed of.
 
 ghost use Rattle.std.specs.Prelude.{◌≡◌, IfOk};
-ghost use Rattle.permutations.specs.View.{source_view, sources_view, perm_view, perms_view};
+ghost use Rattle.permutations.specs.View.{token_source_view, token_sources_view, perm_view, perms_view};
 ghost use Rattle.file_plan.specs.View.{plan_source_view, plan_sources_view, plan_perm_view, plan_view};
 
 use crate::source::{Plan, PlanPerm, PlanSource, PlanSources};
@@ -10,7 +10,7 @@ use std::alloc::Global;
 use tk_io::NoMemory;
 
 fn kept_source<'s>(source: &Source<'_, 's>) -> Result<PlanSource<'s>, NoMemory>
-    ensures { IfOk result (λ kept. plan_source_view kept ≡ source_view source.now) }
+    ensures { IfOk result (λ kept. plan_source_view kept ≡ token_source_view source.now) }
 {
     match source {
         Source::File(name, start, end) => Ok(PlanSource::File(name.copy()?, *start, *end)),
@@ -19,7 +19,7 @@ fn kept_source<'s>(source: &Source<'_, 's>) -> Result<PlanSource<'s>, NoMemory>
 }
 
 fn kept_sources<'s>(alloc: Global, sources: &[Source<'_, 's>]) -> Result<PlanSources<'s>, NoMemory>
-    ensures { IfOk result (λ kept. plan_sources_view kept ≡ sources_view sources.now) }
+    ensures { IfOk result (λ kept. plan_sources_view kept ≡ token_sources_view sources.now) }
 {
     let mut kept = PlanSources::new(alloc);
     for source in sources {

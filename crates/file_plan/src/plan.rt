@@ -3,14 +3,14 @@
 ghost use Rattle.std.specs.Prelude.{◌≡◌, ℕ, List, IfOk, IfErr, Option, Some, option_copied, option_map, unwrap_or};
 ghost use Rattle.json_span.specs.Tree.{Placed, start_of, end_of};
 ghost use Rattle.json_span.specs.View.{node_view};
-ghost use Rattle.json_span.specs.Answer.{IsRefusal as IsUnread};
+ghost use Rattle.json_span.specs.Answer.{IsJsonFault};
 ghost use Rattle.permutations.specs.Answer.{IsListFault};
 ghost use Rattle.resolver_doc.specs.Answer.{IsUnbroken, IsPlanFault};
 ghost use Rattle.resolver_doc.specs.Document.{resolver_of};
 ghost use Rattle.resolver_doc.specs.ResolverView.{resolver_view};
 ghost use Rattle.file_plan.specs.Plan.{OfDocument, Plans, default_plan, order_of, planned};
 ghost use Rattle.file_plan.specs.Trees.{IsRead, IsTreeOf};
-ghost use Rattle.file_plan.specs.View.{IsRefusal, plan_view};
+ghost use Rattle.file_plan.specs.View.{IsPlanRefusal, plan_view};
 
 use crate::keeping::kept_plan;
 use crate::refusal::PlanRefusal;
@@ -38,7 +38,7 @@ fn order_span(root: &Node<'_>) -> (usize, usize)
 
 // Why a text that is not read has no plan.
 fn unread<'s>(fault: &JsonFault) -> PlanRefusal<'s>
-    ensures { (text : List ℕ) → IsUnread text fault.now → IsRefusal (Plans (Some text)) result }
+    ensures { (text : List ℕ) → IsJsonFault text fault.now → IsPlanRefusal (Plans (Some text)) result }
 {
     match fault {
         JsonFault::Syntax(at) => PlanRefusal::Syntax(*at),
@@ -50,7 +50,8 @@ fn unread<'s>(fault: &JsonFault) -> PlanRefusal<'s>
 
 // Why a document that breaks a rule has no plan.
 fn broken<'s>(fault: PlanFault<'s>) -> PlanRefusal<'s>
-    ensures { (root : Placed) → IsPlanFault root fault.entry → IsRefusal (OfDocument root) result }
+    ensures { (root : Placed)
+        → IsPlanFault root fault.entry → IsPlanRefusal (OfDocument root) result }
 {
     match fault {
         PlanFault::Broken {
@@ -71,7 +72,8 @@ fn broken<'s>(fault: PlanFault<'s>) -> PlanRefusal<'s>
 // Why a document beyond a limit has no plan.
 fn beyond<'s>(root: &Node<'s>, fault: ListFault) -> PlanRefusal<'s>
     requires { IsUnbroken (node_view root.now) }
-    ensures { IsListFault (resolver_of (node_view root.now)) fault → IsRefusal (OfDocument (node_view root.now)) result }
+    ensures { IsListFault (resolver_of (node_view root.now)) fault
+        → IsPlanRefusal (OfDocument (node_view root.now)) result }
 {
     let (start, end) = order_span(root);
     match fault {
@@ -89,8 +91,9 @@ fn plan_of_resolver<'s>(
 ) -> Result<Plan<'s>, PlanRefusal<'s>>
     requires sound { IsUnbroken (node_view root.now) }
     requires says { resolver_view resolver.now ≡ resolver_of (node_view root.now) }
-    ensures plan { IfOk result (λ plan. OfDocument (node_view root.now) (planned (plan_view plan))) }
-    ensures refused { IfErr result (IsRefusal (OfDocument (node_view root.now))) }
+    ensures plan { IfOk result
+        (λ plan. OfDocument (node_view root.now) (planned (plan_view plan))) }
+    ensures refused { IfErr result (IsPlanRefusal (OfDocument (node_view root.now))) }
 {
     match list(alloc, resolver) {
         Ok(perms) => Ok(kept_plan(alloc, perms.as_slice())?),
@@ -100,8 +103,9 @@ fn plan_of_resolver<'s>(
 
 // The plan of a document.
 fn plan_of_document<'s>(alloc: Global, root: &Node<'s>) -> Result<Plan<'s>, PlanRefusal<'s>>
-    ensures plan { IfOk result (λ plan. OfDocument (node_view root.now) (planned (plan_view plan))) }
-    ensures refused { IfErr result (IsRefusal (OfDocument (node_view root.now))) }
+    ensures plan { IfOk result
+        (λ plan. OfDocument (node_view root.now) (planned (plan_view plan))) }
+    ensures refused { IfErr result (IsPlanRefusal (OfDocument (node_view root.now))) }
 {
     match read_resolver(alloc, root) {
         Ok(resolver) => plan_of_resolver(alloc, root, &resolver),
@@ -114,7 +118,7 @@ fn plan_of_tree<'s>(alloc: Global, tree: &Tree<'s>) -> Result<Plan<'s>, PlanRefu
     ensures plan { (text : List ℕ) → IsTreeOf text tree.now
         → IfOk result (λ plan. Plans (Some text) (planned (plan_view plan))) }
     ensures refused { (text : List ℕ) → IsTreeOf text tree.now
-        → IfErr result (IsRefusal (Plans (Some text))) }
+        → IfErr result (IsPlanRefusal (Plans (Some text))) }
 {
     match tree {
         Tree::Read(root) => plan_of_document(alloc, root),
@@ -148,7 +152,7 @@ pub fn plan_of<'s>(alloc: Global, resolver: Option<&Tree<'s>>) -> Result<Plan<'s
     ensures plan { (text : Option (List ℕ)) → IsRead text (option_copied resolver.entry)
         → IfOk result (λ plan. Plans text (planned (plan_view plan))) }
     ensures refused { (text : Option (List ℕ)) → IsRead text (option_copied resolver.entry)
-        → IfErr result (IsRefusal (Plans text)) }
+        → IfErr result (IsPlanRefusal (Plans text)) }
 {
     match resolver {
         Some(tree) => plan_of_tree(alloc, tree),

@@ -10,9 +10,9 @@ use tk_io::NoMemory;
 
 /// The first rule that a plan breaks, by byte offsets of the resolver document: first the rules of JSON, then those of
 /// resolver documents, then the limits of permutations and of their sources.
-#[derive(Drop)]
+#[derive(Debug, Drop)]
 pub enum PlanRefusal<'s> {
-    /// The document is no JSON text (RFC 8259); up to this offset it is the front of one, and no further.
+    /// The document is no JSON text (RFC 8259); up to this offset it is a prefix of one, and no further.
     Syntax(usize),
     /// A name that repeats an earlier one of its object, by its string.
     Duplicate(usize, usize),

@@ -12,7 +12,7 @@ use tk_io::{NoMemory, Steps, TextMap};
 #[derive(Drop)]
 pub enum Tree<'s> {
     Read(Node<'s>),
-    /// The fault is never want of memory.
+    /// The fault is never out of memory.
     Flawed(JsonFault),
 }
 

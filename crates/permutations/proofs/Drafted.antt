@@ -4,22 +4,22 @@ use Rattle.std.proofs.lemmas.List.{map-append}
 use Rattle.std.proofs.lemmas.List.Concat.{flat_map-append}
 use Rattle.std.specs.List.{flat_map, join_with_byte}
 use Rattle.resolver_doc.specs.Document.{SetData, ItemData}
-use Rattle.permutations.specs.Name.{escaped, Choice, label, name_of}
+use Rattle.permutations.specs.Name.{escaped_name, Choice, label, name_of}
 use Rattle.permutations.specs.Permutation.{TokenSource, Pick, picks, choices, sources_from, Permutation, permutation}
-use Rattle.permutations.specs.inner.Drafts.{DraftData, joined, with_more, with_each, no_draft, pick_draft, options, drafts_of, named, finished}
+use Rattle.permutations.specs.inner.Drafts.{DraftData, joined_labels, with_more, with_each, no_draft, pick_draft, options, drafts_of, name_by_labels, finished}
 use Rattle.permutations.proofs.NamesTell.{behind, joined as spelled}
 
 -- texts joined by '+'
-joined-nil : (xs : List ℕ) → joined xs [] ≡ xs
+joined-nil : (xs : List ℕ) → joined_labels xs [] ≡ xs
 joined-nil [] = refl
 joined-nil (x ∷ xs) = refl
 
-joined_some : (xs ys : List ℕ) → 0 < length xs → 0 < length ys → joined xs ys ≡ xs ++ 43 ∷ ys
+joined_some : (xs ys : List ℕ) → 0 < length xs → 0 < length ys → joined_labels xs ys ≡ xs ++ 43 ∷ ys
 joined_some [] ys h k = absurd (omega arith)
 joined_some (x ∷ xs) [] h k = absurd (omega arith)
 joined_some (x ∷ xs) (y ∷ ys) h k = refl
 
-joined_assoc : (xs ys zs : List ℕ) → joined (joined xs ys) zs ≡ joined xs (joined ys zs)
+joined_assoc : (xs ys zs : List ℕ) → joined_labels (joined_labels xs ys) zs ≡ joined_labels xs (joined_labels ys zs)
 joined_assoc [] ys zs = refl
 joined_assoc (x ∷ xs) [] zs = refl
 joined_assoc (x ∷ xs) (y ∷ ys) [] = refl
@@ -34,9 +34,9 @@ behind-append (c ∷ cs) ds =
     ap (λ rest. 43 ∷ rest) (ap (λ rest. label c ++ rest) (behind-append cs ds) ∙ sym (append_assoc (label c) (behind cs) (behind ds)))
 
 some_label : (c : Choice) (rest : List ℕ) → 0 < length (label c ++ rest)
-some_label c rest = omega (arith, length-append (label c) rest, length-append (escaped c.modifier ++ codes "=") (escaped c.context), length-append (escaped c.modifier) (codes "="))
+some_label c rest = omega (arith, length-append (label c) rest, length-append (escaped_name c.modifier ++ codes "=") (escaped_name c.context), length-append (escaped_name c.modifier) (codes "="))
 
-labels-append : (cs ds : List Choice) → labels (cs ++ ds) ≡ joined (labels cs) (labels ds)
+labels-append : (cs ds : List Choice) → labels (cs ++ ds) ≡ joined_labels (labels cs) (labels ds)
 labels-append [] ds = refl
 labels-append (c ∷ cs) [] = ap labels (append-nil (c ∷ cs)) ∙ sym (joined-nil (labels (c ∷ cs)))
 labels-append (c ∷ cs) (d ∷ ds) =
@@ -44,13 +44,13 @@ labels-append (c ∷ cs) (d ∷ ds) =
     ∙ (ap (λ rest. label c ++ rest) (behind-append cs (d ∷ ds))
     ∙ (sym (append_assoc (label c) (behind cs) (behind (d ∷ ds)))
     ∙ (sym (joined_some (label c ++ behind cs) (label d ++ behind ds) (some_label c (behind cs)) (some_label d (behind ds)))
-    ∙ ap₂ joined (sym (spelled c cs)) (sym (spelled d ds)))))
+    ∙ ap₂ joined_labels (sym (spelled c cs)) (sym (spelled d ds)))))
 
-named_some : (xs : List ℕ) → 0 < length xs → named xs ≡ xs
+named_some : (xs : List ℕ) → 0 < length xs → name_by_labels xs ≡ xs
 named_some [] h = absurd (omega arith)
 named_some (x ∷ xs) h = refl
 
-named_labels : (cs : List Choice) → named (labels cs) ≡ name_of cs
+named_labels : (cs : List Choice) → name_by_labels (labels cs) ≡ name_of cs
 named_labels [] = refl
 named_labels (c ∷ cs) = named_some (labels (c ∷ cs)) (subst (λ xs. 0 < length xs) (sym (spelled c cs)) (some_label c (behind cs)))
 

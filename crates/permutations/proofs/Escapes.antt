@@ -3,14 +3,14 @@ use Rattle.std.proofs.Common.{◌≡◌, ◌/◌, ◌%◌, ◌&&◌, ℕ, Bool, 
 use Rattle.std.proofs.lemmas.Bool.Decides.{nat_tests}
 use Rattle.std.specs.List.{list_all}
 use Rattle.std.specs.Prelude.{◌⊎◌, if◌then◌else◌}
-use Rattle.permutations.specs.Name.{is_unescaped, upper_digit, escaped_byte, escaped}
+use Rattle.permutations.specs.Name.{is_unescaped, upper_digit, escaped_byte, escaped_name}
 
 -- what is kept as it is, is the same escaped
-pub escaped-unescaped : (name : List ℕ) → list_all is_unescaped name ≡ true → escaped name ≡ name
+pub escaped-unescaped : (name : List ℕ) → list_all is_unescaped name ≡ true → escaped_name name ≡ name
 escaped-unescaped [] h = refl
 escaped-unescaped (c ∷ cs) h = at (is_unescaped c) refl (escaped-unescaped cs) h
   where
-    at : (t : Bool) → is_unescaped c ≡ t → (list_all is_unescaped cs ≡ true → escaped cs ≡ cs) → (t && list_all is_unescaped cs) ≡ true → escaped_byte c ++ escaped cs ≡ c ∷ cs
+    at : (t : Bool) → is_unescaped c ≡ t → (list_all is_unescaped cs ≡ true → escaped_name cs ≡ cs) → (t && list_all is_unescaped cs) ≡ true → escaped_byte c ++ escaped_name cs ≡ c ∷ cs
     at true u rest k = rw u (ap (λ bytes. c ∷ bytes) (rest k))
     at false u rest k = cc
 
@@ -56,12 +56,12 @@ byte_split x y false false u v xs ys is =
     record { front = byte_same x y (digit_same (x / 16) (y / 16) high) (digit_same (x % 16) (y % 16) low); rest = cc }
 
 -- an escaped name is read to its end
-pub name_split : (a b r s : List ℕ) → IsEnd r → IsEnd s → escaped a ++ r ≡ escaped b ++ s → Split a b r s
+pub name_split : (a b r s : List ℕ) → IsEnd r → IsEnd s → escaped_name a ++ r ≡ escaped_name b ++ s → Split a b r s
 name_split [] [] r s er es is = record { front = refl; rest = is }
-name_split [] (y ∷ ys) r s er es is = absurd (no_end y (is_unescaped y) refl (escaped ys ++ s) r er (sym (is ∙ append_assoc (escaped_byte y) (escaped ys) s)))
-name_split (x ∷ xs) [] r s er es is = absurd (no_end x (is_unescaped x) refl (escaped xs ++ r) s es (sym (append_assoc (escaped_byte x) (escaped xs) r) ∙ is))
+name_split [] (y ∷ ys) r s er es is = absurd (no_end y (is_unescaped y) refl (escaped_name ys ++ s) r er (sym (is ∙ append_assoc (escaped_byte y) (escaped_name ys) s)))
+name_split (x ∷ xs) [] r s er es is = absurd (no_end x (is_unescaped x) refl (escaped_name xs ++ r) s es (sym (append_assoc (escaped_byte x) (escaped_name xs) r) ∙ is))
 name_split (x ∷ xs) (y ∷ ys) r s er es is =
-    let first = byte_split x y (is_unescaped x) (is_unescaped y) refl refl (escaped xs ++ r) (escaped ys ++ s)
-    (sym (append_assoc (escaped_byte x) (escaped xs) r) ∙ (is ∙ append_assoc (escaped_byte y) (escaped ys) s)) in
+    let first = byte_split x y (is_unescaped x) (is_unescaped y) refl refl (escaped_name xs ++ r) (escaped_name ys ++ s)
+    (sym (append_assoc (escaped_byte x) (escaped_name xs) r) ∙ (is ∙ append_assoc (escaped_byte y) (escaped_name ys) s)) in
     let more = name_split xs ys r s er es first.rest in
     record { front = ap₂ (λ c cs. c ∷ cs) first.front more.front; rest = more.rest }

@@ -4,10 +4,10 @@ use Rattle.std.proofs.lemmas.Bool.{cases_lt}
 use Rattle.std.proofs.lemmas.List.{get_or_past}
 use Rattle.std.proofs.lemmas.Option.{unwrap_or-slice_get}
 use Rattle.ring.specs.Order.{Follows}
-use Rattle.ring.specs.Routes.{In, AreApart}
+use Rattle.ring.specs.Lists.{In, AreApart}
 use Rattle.resolver_doc.specs.Document.{SetData}
 use Rattle.resolver_doc.specs.Rings.{set_needs, are_sets_right, HasNoRingOfSets}
-use Rattle.permutations.specs.Permutation.{TokenSource, written_in, set_sources}
+use Rattle.permutations.specs.Permutation.{TokenSource, sources_written, set_sources}
 use Rattle.permutations.specs.inner.Orders.{IsSetOrder}
 use Rattle.permutations.specs.inner.Parts.{PartData, own, whole_set, RowData, no_row, row_at, row_in, with_row, IsSolid, IsRow, IsTable}
 use Rattle.permutations.proofs.Rows.{row_tells}
@@ -53,7 +53,7 @@ module _ (sets : List SetData) (right : are_sets_right sets sets ≡ true) (none
   -- one more row
   put : (rows : List RowData) (seen : List ℕ) (v : ℕ) → Filled f n seen rows → (In v seen → ⊥) → ((w : ℕ) → In w (set_needs sets v) → In w seen) → Filled f n (seen ++ v ∷ []) (with_row sets rows v)
   put rows seen v filled out needs = record {
-    long = length-set rows v (row_in rows (written_in sets v)) ∙ filled.long;
+    long = length-set rows v (row_in rows (sources_written sets v)) ∙ filled.long;
     row = λ u i small. elim (in_either seen (v ∷ []) u i) [
       | inl j ↦ old u j small
       | inr k ↦ elim k [ inl e ↦ subst (λ (x : ℕ). IsRow f (with_row sets rows v) (λ w. In w (seen ++ v ∷ [])) (f x) (row_at (with_row sets rows v) x)) (sym e) (new (subst (λ (x : ℕ). x < n) e small)) | inr z ↦ absurd z ]
@@ -63,8 +63,8 @@ module _ (sets : List SetData) (right : are_sets_right sets sets ≡ true) (none
       old : (u : ℕ) → In u seen → u < n → IsRow f (with_row sets rows v) (λ w. In w (seen ++ v ∷ [])) (f u) (row_at (with_row sets rows v) u)
       old u j small =
           let apart : u ≢ v = λ e. out (subst (λ (x : ℕ). In x seen) e j) in
-          subst (λ r. IsRow f (with_row sets rows v) (λ w. In w (seen ++ v ∷ [])) (f u) r) (sym (row_other rows v u (row_in rows (written_in sets v)) apart))
-          (stays_right f rows seen v (row_in rows (written_in sets v)) (f u) (row_at rows u) out (filled.row u j small))
+          subst (λ r. IsRow f (with_row sets rows v) (λ w. In w (seen ++ v ∷ [])) (f u) r) (sym (row_other rows v u (row_in rows (sources_written sets v)) apart))
+          (stays_right f rows seen v (row_in rows (sources_written sets v)) (f u) (row_at rows u) out (filled.row u j small))
 
       known : v < n → (w : ℕ) → In w (named_in sets v) → In w seen × IsRow f rows (λ w. In w seen) (f w) (row_at rows w)
       known small w i =
@@ -73,11 +73,11 @@ module _ (sets : List SetData) (right : are_sets_right sets sets ≡ true) (none
 
       new : v < n → IsRow f (with_row sets rows v) (λ w. In w (seen ++ v ∷ [])) (f v) (row_at (with_row sets rows v) v)
       new small =
-          let tells = row_tells f rows (λ u. In u seen) (written_in sets v) (known small) in
-          let whole = subst (λ xs. IsRow f rows (λ w. In w seen) xs (row_in rows (written_in sets v))) (sym (set_comes_to sets right none v small)) tells in
+          let tells = row_tells f rows (λ u. In u seen) (sources_written sets v) (known small) in
+          let whole = subst (λ xs. IsRow f rows (λ w. In w seen) xs (row_in rows (sources_written sets v))) (sym (set_comes_to sets right none v small)) tells in
           subst (λ r. IsRow f (with_row sets rows v) (λ w. In w (seen ++ v ∷ [])) (f v) r)
-          (sym (row_same rows v (row_in rows (written_in sets v)) (subst (λ (x : ℕ). v < x) (sym filled.long) small)))
-          (stays_right f rows seen v (row_in rows (written_in sets v)) (f v) (row_in rows (written_in sets v)) out whole)
+          (sym (row_same rows v (row_in rows (sources_written sets v)) (subst (λ (x : ℕ). v < x) (sym filled.long) small)))
+          (stays_right f rows seen v (row_in rows (sources_written sets v)) (f v) (row_in rows (sources_written sets v)) out whole)
 
   -- rows along an order
   along : (order seen : List ℕ) (rows : List RowData) → Filled f n seen rows → Follows (set_needs sets) seen order → AreApart order → ((v : ℕ) → In v order → In v seen → ⊥) → Filled f n (seen ++ order) (fold (with_row sets) rows order)

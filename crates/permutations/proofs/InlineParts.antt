@@ -3,13 +3,13 @@ use Rattle.std.proofs.Common.{◌≡◌, ℕ, zero, suc, Bool, true, false, not,
 use Rattle.std.specs.List.{filter, flat_map, slice_get}
 use Rattle.std.specs.Prelude.{◌⊎◌, if◌then◌else◌, option_map, option_and_then, unwrap_or}
 use Rattle.std.specs.Str.{bytes_eq}
-use Rattle.ring.specs.Routes.{In}
-use Rattle.json_span.specs.Parts.{IsPart, itself, inside, IsIn, in_array, in_object, IsElement, this_element, later_element, IsMember, this_member, later_member}
-use Rattle.json_span.specs.Tree.{Tree, a_null, a_boolean, a_number, a_string, an_array, an_object, Placed, placed, Elements, no_elements, element, Members, no_members, member, Entry, tree_of, object_in, elements_in, entries_in, under}
-use Rattle.resolver_doc.specs.Document.{SourceData, file_source, set_source, inline_source, SetData, ItemData, set_item, elements_at, section, set_entries, modifier_entries, order_items, set_number, modifier_number, name_in, members_in, text_at, text_in, set_or_file, source_by, source_of, sources_of, sources_in, set_of, context_of, modifier_of, named_modifier, named_item, own_name, own_item, item_by, item_of, resolver_of}
-use Rattle.resolver_doc.specs.Form.{is_reserved, counted, context_entries, entries_at}
+use Rattle.ring.specs.Lists.{In}
+use Rattle.json_span.specs.Parts.{IsPart, itself, inside, IsInside, inside_array, inside_object, IsInElements, in_element, in_later_element, IsInMembers, in_member, in_later_member}
+use Rattle.json_span.specs.Tree.{Tree, a_null, a_boolean, a_number, a_string, an_array, an_object, Placed, placed, Elements, no_elements, an_element, Members, no_members, a_member, Entry, tree_of, object_in, elements_in, entries_in, value_of_name}
+use Rattle.resolver_doc.specs.Document.{SourceData, file_source, set_source, inline_source, SetData, ItemData, set_item, elements_at, section, set_entries, modifier_entries, order_items, set_number, modifier_number, name_in, member_entries, text_at, text_in, set_or_file, source_by, source_of, sources_of, sources_in, set_of, context_of, modifier_of, named_modifier, named_item, own_name, own_item, item_by, item_of, resolver_of}
+use Rattle.resolver_doc.specs.Form.{is_reserved, unreserved, context_entries, entries_at}
 use Rattle.permutations.specs.Laws.{InlinesArePart}
-use Rattle.permutations.specs.Permutation.{TokenSource, inline, replaced, written_in, set_within, set_sources, sources_from, Pick, context_pick, picks, choices, Permutation, permutation}
+use Rattle.permutations.specs.Permutation.{TokenSource, inline, replaced, sources_written, set_within, set_sources, sources_from, Pick, context_pick, picks, choices, Permutation, permutation}
 use Rattle.permutations.proofs.NamesApart.{in_map}
 use Rattle.permutations.proofs.SetRoutes.{in_either}
 
@@ -19,35 +19,35 @@ mutual
   through p itself = p
   through p (inside i) = inside (through_in p i)
 
-  through_in : {n m : Placed} {v : Tree} → IsPart n m → IsIn m v → IsIn n v
-  through_in p (in_array i) = in_array (through_elements p i)
-  through_in p (in_object i) = in_object (through_members p i)
+  through_in : {n m : Placed} {v : Tree} → IsPart n m → IsInside m v → IsInside n v
+  through_in p (inside_array i) = inside_array (through_elements p i)
+  through_in p (inside_object i) = inside_object (through_members p i)
 
-  through_elements : {n m : Placed} {ns : Elements} → IsPart n m → IsElement m ns → IsElement n ns
-  through_elements p (this_element q) = this_element (through p q)
-  through_elements p (later_element i) = later_element (through_elements p i)
+  through_elements : {n m : Placed} {ns : Elements} → IsPart n m → IsInElements m ns → IsInElements n ns
+  through_elements p (in_element q) = in_element (through p q)
+  through_elements p (in_later_element i) = in_later_element (through_elements p i)
 
-  through_members : {n m : Placed} {ms : Members} → IsPart n m → IsMember m ms → IsMember n ms
-  through_members p (this_member q) = this_member (through p q)
-  through_members p (later_member i) = later_member (through_members p i)
+  through_members : {n m : Placed} {ms : Members} → IsPart n m → IsInMembers m ms → IsInMembers n ms
+  through_members p (in_member q) = in_member (through p q)
+  through_members p (in_later_member i) = in_later_member (through_members p i)
 
-element_in : (n : Placed) (ns : Elements) → In n (elements_in ns) → IsElement n ns
+element_in : (n : Placed) (ns : Elements) → In n (elements_in ns) → IsInElements n ns
 element_in n no_elements i = absurd i
-element_in n (element m ns) (inl e) = this_element (subst (λ (x : Placed). IsPart n x) e itself)
-element_in n (element m ns) (inr i) = later_element (element_in n ns i)
+element_in n (an_element m ns) (inl e) = in_element (subst (λ (x : Placed). IsPart n x) e itself)
+element_in n (an_element m ns) (inr i) = in_later_element (element_in n ns i)
 
 element_part : (m n : Placed) → In n (elements_at m) → IsPart n m
 element_part (placed a_null s e) n i = absurd i
 element_part (placed (a_boolean b) s e) n i = absurd i
 element_part (placed (a_number k) s e) n i = absurd i
 element_part (placed (a_string t) s e) n i = absurd i
-element_part (placed (an_array ns) s e) n i = inside (in_array (element_in n ns i))
+element_part (placed (an_array ns) s e) n i = inside (inside_array (element_in n ns i))
 element_part (placed (an_object ms) s e) n i = absurd i
 
-member_in : (e : Entry) (ms : Members) → In e (entries_in ms) → IsMember e.value ms
+member_in : (e : Entry) (ms : Members) → In e (entries_in ms) → IsInMembers e.value ms
 member_in e no_members i = absurd i
-member_in e (member name start end m ms) (inl is) = this_member (subst (λ (x : Placed). IsPart e.value x) (ap (λ (x : Entry). x.value) is) itself)
-member_in e (member name start end m ms) (inr i) = later_member (member_in e ms i)
+member_in e (a_member name start end m ms) (inl is) = in_member (subst (λ (x : Placed). IsPart e.value x) (ap (λ (x : Entry). x.value) is) itself)
+member_in e (a_member name start end m ms) (inr i) = in_later_member (member_in e ms i)
 
 entry_part : (m : Placed) (e : Entry) → In e (entries_at m) → IsPart e.value m
 entry_part (placed a_null s t) e i = absurd i
@@ -55,7 +55,7 @@ entry_part (placed (a_boolean b) s t) e i = absurd i
 entry_part (placed (a_number k) s t) e i = absurd i
 entry_part (placed (a_string x) s t) e i = absurd i
 entry_part (placed (an_array ns) s t) e i = absurd i
-entry_part (placed (an_object ms) s t) e i = inside (in_object (member_in e ms i))
+entry_part (placed (an_object ms) s t) e i = inside (inside_object (member_in e ms i))
 
 in_filter : {A : Type 0} (p : A → Bool) (xs : List A) (x : A) → In x (filter p xs) → In x xs
 in_filter p [] x i = absurd i
@@ -93,20 +93,20 @@ module _ (root : Placed) where
   entries_part : (m : Placed) → IsPart m root → AllPart (entries_at m)
   entries_part m p e i = through (entry_part m e i) p
 
-  counted_part : (es : List Entry) → AllPart es → AllPart (counted es)
+  counted_part : (es : List Entry) → AllPart es → AllPart (unreserved es)
   counted_part es all e i = all e (in_filter (λ (x : Entry). not (is_reserved x.name)) es e i)
 
-  under_part : (name : List ℕ) (es : List Entry) (n : Placed) → AllPart es → under name es ≡ Some n → IsPart n root
+  under_part : (name : List ℕ) (es : List Entry) (n : Placed) → AllPart es → value_of_name name es ≡ Some n → IsPart n root
   under_part name [] n all e = cc
   under_part name (x ∷ xs) n all e = at (bytes_eq x.name name) (under_part name xs n (λ y i. all y (inr i))) e
     where
-      at : (t : Bool) → (under name xs ≡ Some n → IsPart n root) → (if t then Some x.value else under name xs) ≡ Some n → IsPart n root
+      at : (t : Bool) → (value_of_name name xs ≡ Some n → IsPart n root) → (if t then Some x.value else value_of_name name xs) ≡ Some n → IsPart n root
       at true rest k = (let same : x.value ≡ n = cc in subst (λ (m : Placed). IsPart m root) same (all x (inl refl)))
       at false rest k = rest k
 
   -- of a list of sources
   source_part : (sets : List Entry) (x n : Placed) → inline_source n ≡ source_of sets x → n ≡ x
-  source_part sets x n e = at (under (codes "$ref") (entries_at x)) e
+  source_part sets x n e = at (value_of_name (codes "$ref") (entries_at x)) e
     where
       at_set : (string : Placed) (o : Option ℕ) → inline_source n ≡ set_or_file sets string o → n ≡ x
       at_set string None k = cc
@@ -122,20 +122,20 @@ module _ (root : Placed) where
       subst (λ (x : Placed). IsPart x root) (sym (source_part sets c.from n c.is)) (through (element_part m c.from c.there) p)
 
   sources_in_part : (sets es : List Entry) → AllPart es → SourcesPart (sources_in sets es)
-  sources_in_part sets es all = at (under (codes "sources") es) (λ m. under_part (codes "sources") es m all)
+  sources_in_part sets es all = at (value_of_name (codes "sources") es) (λ m. under_part (codes "sources") es m all)
     where
       at : (o : Option Placed) → ((m : Placed) → o ≡ Some m → IsPart m root) → SourcesPart (unwrap_or (option_map (sources_of sets) o) [])
       at None part n i = absurd i
       at (Some m) part n i = sources_part sets m (part m refl) n i
 
   section_part : (name : List ℕ) → AllPart (section name (entries_at root))
-  section_part name = counted_part (unwrap_or (option_map entries_at (under name (entries_at root))) []) (at (under name (entries_at root)) (λ m. under_part name (entries_at root) m (entries_part root itself)))
+  section_part name = counted_part (unwrap_or (option_map entries_at (value_of_name name (entries_at root))) []) (at (value_of_name name (entries_at root)) (λ m. under_part name (entries_at root) m (entries_part root itself)))
     where
       at : (o : Option Placed) → ((m : Placed) → o ≡ Some m → IsPart m root) → AllPart (unwrap_or (option_map entries_at o) [])
       at None part e i = absurd i
       at (Some m) part e i = entries_part m (part m refl) e i
 
-  members_part : (es : List Entry) (v : ℕ) → AllPart es → AllPart (members_in es v)
+  members_part : (es : List Entry) (v : ℕ) → AllPart es → AllPart (member_entries es v)
   members_part es v all = at (slice_get es v) (λ e k. in_slice es v e k)
     where
       at : (o : Option Entry) → ((e : Entry) → o ≡ Some e → In e es) → AllPart (unwrap_or (option_map (λ e. entries_at e.value) o) [])
@@ -143,7 +143,7 @@ module _ (root : Placed) where
       at (Some x) there e i = entries_part x.value (all x (there x refl)) e i
 
   contexts_part : (es : List Entry) → AllPart es → AllPart (context_entries es)
-  contexts_part es all = at (under (codes "contexts") es) (λ m. under_part (codes "contexts") es m all)
+  contexts_part es all = at (value_of_name (codes "contexts") es) (λ m. under_part (codes "contexts") es m all)
     where
       at : (o : Option Placed) → ((m : Placed) → o ≡ Some m → IsPart m root) → AllPart (unwrap_or (option_and_then (λ n. object_in (tree_of n)) o) [])
       at None part e i = absurd i
@@ -159,8 +159,8 @@ module _ (root : Placed) where
 
   modifier_part : (sets : List Entry) (name : List ℕ) (es : List Entry) → AllPart es → ItemPart (modifier_of sets name es)
   modifier_part sets name es all p i n j =
-      let context = in_map (context_pick name) (map (context_of sets) (counted (context_entries es))) p i in
-      let entry = in_map (context_of sets) (counted (context_entries es)) context.from context.there in
+      let context = in_map (context_pick name) (map (context_of sets) (unreserved (context_entries es))) p i in
+      let entry = in_map (context_of sets) (unreserved (context_entries es)) context.from context.there in
       let part = counted_part (context_entries es) (contexts_part es all) entry.from entry.there in
       sources_part sets entry.from.value part n
       (subst (λ (c : SetData). In (inline_source n) c.sources) entry.is (subst (λ (q : Pick). In (inline_source n) q.sources) context.is j))
@@ -174,14 +174,14 @@ module _ (root : Placed) where
 
   modifier_named : (sets modifiers : List Entry) → AllPart modifiers → (o : Option ℕ) → ItemPart (named_modifier sets modifiers o)
   modifier_named sets modifiers all None = set_part [] (λ n i. absurd i)
-  modifier_named sets modifiers all (Some v) = modifier_part sets (name_in modifiers v) (members_in modifiers v) (members_part modifiers v all)
+  modifier_named sets modifiers all (Some v) = modifier_part sets (name_in modifiers v) (member_entries modifiers v) (members_part modifiers v all)
 
   named_part : (sets modifiers : List Entry) → AllPart sets → AllPart modifiers → (text : List ℕ) (o : Option ℕ) → ItemPart (named_item sets modifiers text o)
   named_part sets modifiers a b text None = modifier_named sets modifiers b (modifier_number modifiers text)
-  named_part sets modifiers a b text (Some v) = set_part (sources_in sets (members_in sets v)) (sources_in_part sets (members_in sets v) (members_part sets v a))
+  named_part sets modifiers a b text (Some v) = set_part (sources_in sets (member_entries sets v)) (sources_in_part sets (member_entries sets v) (members_part sets v a))
 
   item_part : (n : Placed) → IsPart n root → ItemPart (item_of (set_entries root) (modifier_entries root) n)
-  item_part n p = at (under (codes "$ref") (entries_at n))
+  item_part n p = at (value_of_name (codes "$ref") (entries_at n))
     where
       at : (o : Option Placed) → ItemPart (item_by (set_entries root) (modifier_entries root) (entries_at n) o)
       at None = own_part (set_entries root) (entries_at n) (entries_part n p)
@@ -189,7 +189,7 @@ module _ (root : Placed) where
           named_part (set_entries root) (modifier_entries root) (section_part (codes "sets")) (section_part (codes "modifiers")) (text_at string) (set_number (set_entries root) (text_at string))
 
   order_part : (n : Placed) → In n (order_items root) → IsPart n root
-  order_part n = at (under (codes "resolutionOrder") (entries_at root)) (λ m. under_part (codes "resolutionOrder") (entries_at root) m (entries_part root itself))
+  order_part n = at (value_of_name (codes "resolutionOrder") (entries_at root)) (λ m. under_part (codes "resolutionOrder") (entries_at root) m (entries_part root itself))
     where
       at : (o : Option Placed) → ((m : Placed) → o ≡ Some m → IsPart m root) → In n (unwrap_or (option_map elements_at o) []) → IsPart n root
       at None part i = absurd i
@@ -201,7 +201,7 @@ module _ (root : Placed) where
       subst (λ (x : ItemData). ItemPart x) (sym c.is) (item_part c.from (order_part c.from c.there))
 
   -- of what sets come to
-  written_part : (v : ℕ) → SourcesPart (written_in (resolver_of root).sets v)
+  written_part : (v : ℕ) → SourcesPart (sources_written (resolver_of root).sets v)
   written_part v = at (slice_get (resolver_of root).sets v) (λ s k. in_slice (resolver_of root).sets v s k)
     where
       at : (o : Option SetData) → ((s : SetData) → o ≡ Some s → In s (resolver_of root).sets) → SourcesPart (unwrap_or (option_map (λ s. s.sources) o) [])
@@ -225,7 +225,7 @@ module _ (root : Placed) where
   within_part : (k v : ℕ) → TokensPart (set_within (resolver_of root).sets k v)
   unfolding set_within
   within_part zero v n i = absurd i
-  within_part (suc k) v n i = replaced_part (set_within (resolver_of root).sets k) (within_part k) (written_in (resolver_of root).sets v) (written_part v) n i
+  within_part (suc k) v n i = replaced_part (set_within (resolver_of root).sets k) (within_part k) (sources_written (resolver_of root).sets v) (written_part v) n i
 
   -- of permutations
   choice_part : (order : List ItemData) → ((item : ItemData) → In item order → ItemPart item) → (ps : List Pick) → In ps (choices order) → (p : Pick) → In p ps → SourcesPart p.sources

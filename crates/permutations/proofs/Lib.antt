@@ -1,18 +1,18 @@
-pub mod Escapes
-pub mod NamesTell
-pub mod SetNeeds
-pub mod SetRoutes
-pub mod SetsWithin
-pub mod Rows
-pub mod Filling
-pub mod Orders
-pub mod Known
-pub mod Stacks
-pub mod Counts
-pub mod Drafted
-pub mod CountSteps
-pub mod InPlace
-pub mod Limits
-pub mod ListsAnswer
-pub mod NamesApart
-pub mod InlineParts
+mod Escapes
+mod NamesTell
+mod SetNeeds
+mod SetRoutes
+mod SetsWithin
+mod Rows
+mod Filling
+mod Orders
+mod Known
+mod Stacks
+mod Counts
+mod Drafted
+mod CountSteps
+mod InPlace
+mod Limits
+mod ListsAnswer
+mod NamesApart
+mod InlineParts

@@ -2,7 +2,7 @@
 use Rattle.std.proofs.Common.{◌≡◌, ℕ, List, [], ◌∷◌, ◌++◌, map, refl, sym, ap, ap₂, ◌∙◌, subst, inl, inr}
 use Rattle.std.proofs.lemmas.List.{map-append}
 use Rattle.std.specs.List.{flat_map, AllByRecursion}
-use Rattle.ring.specs.Routes.{In, AreApart}
+use Rattle.ring.specs.Lists.{In, AreApart}
 use Rattle.resolver_doc.specs.Document.{SetData, ItemData, set_item, modifier_item, HasContextsApart}
 use Rattle.permutations.specs.Laws.{NamesAreApart}
 use Rattle.permutations.specs.Name.{Choice, name_of}

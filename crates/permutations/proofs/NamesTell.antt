@@ -1,6 +1,6 @@
 -- The name of a permutation tells its choices.
 use Rattle.std.proofs.Common.{◌≡◌, ℕ, List, [], ◌∷◌, ◌++◌, append_assoc, append-nil, refl, sym, ap, ap₂, ◌∙◌, inl, inr, codes}
-use Rattle.permutations.specs.Name.{escaped, Choice, label, name_of, NamesTellChoices}
+use Rattle.permutations.specs.Name.{escaped_name, Choice, label, name_of, NamesTellChoices}
 use Rattle.permutations.proofs.Escapes.{IsEnd, Split, name_split}
 
 -- the labels behind the first, each with '+' before it
@@ -16,7 +16,7 @@ pub joined : (c : Choice) (cs : List Choice) → name_of (c ∷ cs) ≡ label c 
 joined c [] = sym (append-nil (label c))
 joined c (d ∷ ds) = ap (λ rest. label c ++ 43 ∷ rest) (joined d ds)
 
-around : (e : Choice) (t : List ℕ) → escaped e.modifier ++ 61 ∷ (escaped e.context ++ t) ≡ label e ++ t
+around : (e : Choice) (t : List ℕ) → escaped_name e.modifier ++ 61 ∷ (escaped_name e.context ++ t) ≡ label e ++ t
 around e t = simp append_assoc
 
 behind_sign : (r s : List ℕ) → 61 ∷ r ≡ 61 ∷ s → r ≡ s
@@ -25,8 +25,8 @@ behind_sign r s e = cc
 label_split : (c d : Choice) (r s : List ℕ) → IsEnd r → IsEnd s → label c ++ r ≡ label d ++ s → Split c d r s
 label_split c d r s er es is =
     let choice : List ℕ → List ℕ → Choice = λ m x. record { modifier = m; context = x } in
-    let modifier = name_split c.modifier d.modifier (61 ∷ (escaped c.context ++ r)) (61 ∷ (escaped d.context ++ s)) (inr refl) (inr refl) (around c r ∙ (is ∙ sym (around d s))) in
-    let context = name_split c.context d.context r s er es (behind_sign (escaped c.context ++ r) (escaped d.context ++ s) modifier.rest) in
+    let modifier = name_split c.modifier d.modifier (61 ∷ (escaped_name c.context ++ r)) (61 ∷ (escaped_name d.context ++ s)) (inr refl) (inr refl) (around c r ∙ (is ∙ sym (around d s))) in
+    let context = name_split c.context d.context r s er es (behind_sign (escaped_name c.context ++ r) (escaped_name d.context ++ s) modifier.rest) in
     record { front = ap₂ choice modifier.front context.front; rest = context.rest }
 
 choices_same : (cs ds : List Choice) → behind cs ≡ behind ds → cs ≡ ds
@@ -41,8 +41,8 @@ choices_same (c ∷ cs) (d ∷ ds) is =
 -- `default` has no sign
 default_alone : (d : Choice) (ds : List Choice) → codes "default" ≡ label d ++ behind ds → ⊥
 default_alone d ds is =
-    let split = name_split (codes "default") d.modifier [] (61 ∷ (escaped d.context ++ behind ds)) tt (inr refl) (is ∙ sym (around d (behind ds))) in
-    let rest : [] ≡ 61 ∷ (escaped d.context ++ behind ds) = split.rest in
+    let split = name_split (codes "default") d.modifier [] (61 ∷ (escaped_name d.context ++ behind ds)) tt (inr refl) (is ∙ sym (around d (behind ds))) in
+    let rest : [] ≡ 61 ∷ (escaped_name d.context ++ behind ds) = split.rest in
     cc
 
 pub names_tell_choices : NamesTellChoices

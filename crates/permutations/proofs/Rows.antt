@@ -4,7 +4,7 @@ use Rattle.std.proofs.lemmas.List.Concat.{flat_map-append}
 use Rattle.std.proofs.lemmas.List.Sums.{sum_by-cons}
 use Rattle.std.specs.List.{flat_map, sum_by}
 use Rattle.std.specs.Prelude.{◌⊎◌}
-use Rattle.ring.specs.Routes.{In}
+use Rattle.ring.specs.Lists.{In}
 use Rattle.resolver_doc.specs.Document.{SourceData, file_source, set_source, inline_source}
 use Rattle.resolver_doc.specs.Rings.{sets_in}
 use Rattle.permutations.specs.Permutation.{TokenSource, file, inline, replaced}

@@ -3,14 +3,14 @@ use Rattle.std.proofs.Common.{◌≡◌, ◌+◌, ◌<◌, ◌≤◌, ◌&&◌, 
 use Rattle.std.proofs.lemmas.Bool.{cases_eq}
 use Rattle.std.specs.List.{range_with_len, slice_get}
 use Rattle.std.specs.Prelude.{option_map, unwrap_or}
-use Rattle.ring.specs.Routes.{In}
+use Rattle.ring.specs.Lists.{In}
 use Rattle.resolver_doc.specs.Document.{SourceData, file_source, set_source, inline_source, SetData}
-use Rattle.resolver_doc.specs.Rings.{sets_in, set_needs, has_name, are_right, are_sets_right}
-use Rattle.permutations.specs.Permutation.{written_in}
+use Rattle.resolver_doc.specs.Rings.{sets_in, set_needs, is_set_named, are_right, are_sets_right}
+use Rattle.permutations.specs.Permutation.{sources_written}
 
 -- the sets that the sources of a set name
 abbrev pub named_in : List SetData → ℕ → List ℕ
-named_in sets v = sets_in (written_in sets v)
+named_in sets v = sets_in (sources_written sets v)
 
 in_rows : (ss : List SetData) (tail : List ℕ) (v : ℕ) → v < length ss
     → get_or (map (λ s. sets_in s.sources) ss ++ tail ∷ []) v [] ≡ sets_in (unwrap_or (option_map (λ s. s.sources) (slice_get ss v)) [])
@@ -34,7 +34,7 @@ in_range a (suc n) w low high = elim (cases_eq w a) [ inl e ↦ inl e | inr apar
 pub needs_of_document : (sets : List SetData) (v : ℕ) → v < length sets → In v (set_needs sets (length sets))
 needs_of_document sets v h = subst (λ ws. In v ws) (sym (behind_rows sets (range_with_len 0 (length sets)))) (in_range 0 (length sets) v (omega arith) (omega arith))
 
-pub named_below : (name : List ℕ) (ss : List SetData) (v : ℕ) → has_name name (slice_get ss v) ≡ true → v < length ss
+pub named_below : (name : List ℕ) (ss : List SetData) (v : ℕ) → is_set_named name (slice_get ss v) ≡ true → v < length ss
 named_below name [] v h = cc
 named_below name (s ∷ ss) zero h = omega arith
 named_below name (s ∷ ss) (suc v) h = let below = named_below name ss v h in omega arith
@@ -53,8 +53,8 @@ named_sets sets [] r w i = absurd i
 named_sets sets (file_source name start end ∷ ss) r w i = named_sets sets ss r w i
 named_sets sets (set_source name v ∷ ss) r w i =
     elim i [
-      | inl e ↦ subst (λ (x : ℕ). x < length sets) (sym e) (named_below name sets v (first_true (has_name name (slice_get sets v)) (are_right sets ss) r))
-      | inr j ↦ named_sets sets ss (second_true (has_name name (slice_get sets v)) (are_right sets ss) r) w j
+      | inl e ↦ subst (λ (x : ℕ). x < length sets) (sym e) (named_below name sets v (first_true (is_set_named name (slice_get sets v)) (are_right sets ss) r))
+      | inr j ↦ named_sets sets ss (second_true (is_set_named name (slice_get sets v)) (are_right sets ss) r) w j
     ]
 named_sets sets (inline_source n ∷ ss) r w i = named_sets sets ss r w i
 
@@ -65,4 +65,4 @@ sources_right sets (s ∷ ss) (suc v) r = sources_right sets ss v (second_true (
 
 -- what the sources of a set name are sets
 pub named_are_sets : (sets : List SetData) → are_sets_right sets sets ≡ true → (v w : ℕ) → In w (named_in sets v) → w < length sets
-named_are_sets sets right v w i = named_sets sets (written_in sets v) (sources_right sets sets v right) w i
+named_are_sets sets right v w i = named_sets sets (sources_written sets v) (sources_right sets sets v right) w i

@@ -5,7 +5,8 @@ use Rattle.std.proofs.lemmas.Bool.Decides.{nat_tests}
 use Rattle.std.proofs.lemmas.Map.Steps.{length-le_from_distinct_below}
 use Rattle.std.specs.List.{AllByRecursion, IsDistinct, list_any}
 use Rattle.std.specs.Prelude.{◌⊎◌}
-use Rattle.ring.specs.Routes.{In, AreApart, Leads, HasNoRing}
+use Rattle.ring.specs.Lists.{In, AreApart}
+use Rattle.ring.specs.Routes.{IsChain, HasNoRing}
 
 in_or_not : (x : ℕ) (xs : List ℕ) → In x xs ⊎ (In x xs → ⊥)
 in_or_not x [] = inr (λ i. i)
@@ -28,7 +29,7 @@ in_either [] ys x j = inr j
 in_either (y ∷ xs) ys x (inl e) = inl (inl e)
 in_either (y ∷ xs) ys x (inr j) = elim (in_either xs ys x j) [ inl i ↦ inl (inr i) | inr k ↦ inr k ]
 
-leads_front : (needs : ℕ → List ℕ) (at : ℕ) (xs ys : List ℕ) → Leads needs at (xs ++ ys) → Leads needs at xs
+leads_front : (needs : ℕ → List ℕ) (at : ℕ) (xs ys : List ℕ) → IsChain needs at (xs ++ ys) → IsChain needs at xs
 leads_front needs at [] ys h = tt
 leads_front needs at (x ∷ xs) ys h = (h.0, leads_front needs x xs ys h.1)
 
@@ -40,18 +41,18 @@ apart_push (y ∷ ys) x a out = (
 )
 
 -- a way from the root that comes back closes
-apart_from : (needs : ℕ → List ℕ) (root : ℕ) → HasNoRing needs root → (f rest : List ℕ) → Leads needs root (f ++ rest) → AreApart (root ∷ f) → AreApart (root ∷ (f ++ rest))
+apart_from : (needs : ℕ → List ℕ) (root : ℕ) → HasNoRing needs root → (f rest : List ℕ) → IsChain needs root (f ++ rest) → AreApart (root ∷ f) → AreApart (root ∷ (f ++ rest))
 apart_from needs root none f [] leads apart = subst (λ xs. AreApart (root ∷ xs)) (sym (append-nil f)) apart
 apart_from needs root none f (x ∷ xs) leads apart = step (in_or_not x (root ∷ f)) (apart_from needs root none (f ++ x ∷ []) xs)
   where
     regroup : (f ++ x ∷ []) ++ xs ≡ f ++ x ∷ xs
     regroup = append_assoc f (x ∷ []) xs
 
-    shorter : Leads needs root (f ++ x ∷ [])
-    shorter = leads_front needs root (f ++ x ∷ []) xs (subst (λ ys. Leads needs root ys) (sym regroup) leads)
+    shorter : IsChain needs root (f ++ x ∷ [])
+    shorter = leads_front needs root (f ++ x ∷ []) xs (subst (λ ys. IsChain needs root ys) (sym regroup) leads)
 
     step : (In x (root ∷ f) ⊎ (In x (root ∷ f) → ⊥))
-        → (Leads needs root ((f ++ x ∷ []) ++ xs) → AreApart (root ∷ (f ++ x ∷ [])) → AreApart (root ∷ ((f ++ x ∷ []) ++ xs)))
+        → (IsChain needs root ((f ++ x ∷ []) ++ xs) → AreApart (root ∷ (f ++ x ∷ [])) → AreApart (root ∷ ((f ++ x ∷ []) ++ xs)))
         → AreApart (root ∷ (f ++ x ∷ xs))
     step (inl again) more =
         absurd (none (root ∷ (f ++ x ∷ [])) (record {
@@ -60,7 +61,7 @@ apart_from needs root none f (x ∷ xs) leads apart = step (in_or_not x (root �
         }))
     step (inr out) more =
         subst (λ ys. AreApart (root ∷ ys)) regroup
-        (more (subst (λ ys. Leads needs root ys) (sym regroup) leads) (apart_push (root ∷ f) x apart out))
+        (more (subst (λ ys. IsChain needs root ys) (sym regroup) leads) (apart_push (root ∷ f) x apart out))
 
 -- numbers below n that are apart are n at most
 distinct : (xs : List ℕ) → AreApart xs → IsDistinct eqb xs
@@ -90,7 +91,7 @@ pub apart_within : (xs : List ℕ) (n : ℕ) → AreApart xs → ((w : ℕ) → 
 apart_within xs n apart below = length-le_from_distinct_below xs n (distinct xs apart) (λ q h. below q (found q xs h))
 
 -- a way from the root to numbers below n passes n of them at most
-pub short_way : (needs : ℕ → List ℕ) (root n : ℕ) → HasNoRing needs root → (way : List ℕ) → Leads needs root way → ((w : ℕ) → In w way → w < n) → length way ≤ n
+pub short_way : (needs : ℕ → List ℕ) (root n : ℕ) → HasNoRing needs root → (way : List ℕ) → IsChain needs root way → ((w : ℕ) → In w way → w < n) → length way ≤ n
 short_way needs root n none way leads below =
     let apart = apart_from needs root none [] way leads (λ i. i, tt) in
     apart_within way n apart.1 below

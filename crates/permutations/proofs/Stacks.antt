@@ -3,14 +3,14 @@ use Rattle.std.proofs.Common.{◌≡◌, ◌-◌, ◌*◌, ◌<◌, ◌≤◌, �
 use Rattle.std.proofs.lemmas.List.{map-append, reverse-append, reverse-reverse}
 use Rattle.std.proofs.lemmas.List.Concat.{flat_map-append}
 use Rattle.std.specs.List.{flat_map}
-use Rattle.ring.specs.Routes.{In}
+use Rattle.ring.specs.Lists.{In}
 use Rattle.resolver_doc.specs.Document.{SourceData}
 use Rattle.resolver_doc.specs.Rings.{sets_in}
 use Rattle.permutations.specs.Permutation.{TokenSource, replaced}
 use Rattle.permutations.specs.declared.fault.TheConstants.{LAST_NUMBER}
 use Rattle.permutations.specs.declared.part.Part.{Part}
 use Rattle.permutations.specs.inner.Parts.{PartData, own, whole_set, RowData, row_at, part_view, parts_view, parts_in, counts_in, part_sources, IsPlaced, IsSolid, AreSolid, IsTable}
-use Rattle.permutations.specs.inner.Expanding.{added, left}
+use Rattle.permutations.specs.inner.Expanding.{sources_added, parts_left}
 use Rattle.permutations.proofs.Rows.{Tells, parts_tell, row_tells, some_of_part}
 use Rattle.permutations.proofs.SetRoutes.{in_either}
 
@@ -34,14 +34,14 @@ popped stack rest part is =
 
 -- what comes in place of a part, before the rest
 abbrev pub after : List RowData → PartData → List PartData → List PartData
-after rows part rest = reverse (left rows part) ++ rest
+after rows part rest = reverse (parts_left rows part) ++ rest
 
 -- twice the sources that are left, less the parts that they come of
 abbrev pub weight : (ℕ → List TokenSource) → List PartData → ℕ
 weight f parts = 2 * length (flat_map (part_sources f) parts) - length parts
 
-pub put_back : (rows : List RowData) (stack rest : List PartData) (p : PartData) → stack ≡ rest ++ left rows p → reverse stack ≡ after rows p (reverse rest)
-put_back rows stack rest p is = ap reverse is ∙ reverse-append rest (left rows p)
+pub put_back : (rows : List RowData) (stack rest : List PartData) (p : PartData) → stack ≡ rest ++ parts_left rows p → reverse stack ≡ after rows p (reverse rest)
+put_back rows stack rest p is = ap reverse is ∙ reverse-append rest (parts_left rows p)
 
 pub begun : (stack parts : List PartData) → stack ≡ [] ++ reverse parts → reverse stack ≡ parts
 begun stack parts is = ap reverse is ∙ reverse-reverse parts
@@ -54,7 +54,7 @@ module _ (f : ℕ → List TokenSource) (n : ℕ) (rows : List RowData) (table :
   tail_solid p rest solid q i = solid q (inr i)
 
   pub kept : (out : List TokenSource) (p : PartData) (rest : List PartData) → AreSolid f rows K (p ∷ rest)
-      → (out ++ added p) ++ flat_map (part_sources f) (after rows p rest) ≡ out ++ flat_map (part_sources f) (p ∷ rest)
+      → (out ++ sources_added p) ++ flat_map (part_sources f) (after rows p rest) ≡ out ++ flat_map (part_sources f) (p ∷ rest)
   kept out (own s) rest solid = append_assoc out (s ∷ []) (flat_map (part_sources f) rest)
   kept out (whole_set v) rest solid =
       let row = table.row v (solid (whole_set v) (inl refl)).0 in

@@ -18,13 +18,13 @@ replaced of_set (set_source name v) = of_set v
 replaced of_set (inline_source n) = inline n ∷ []
 
 -- the sources that are written in the set of a number
-abbrev pub written_in : List SetData → ℕ → List SourceData
-written_in sets v = unwrap_or (option_map (λ s. s.sources) (slice_get sets v)) []
+abbrev pub sources_written : List SetData → ℕ → List SourceData
+sources_written sets v = unwrap_or (option_map (λ s. s.sources) (slice_get sets v)) []
 
 -- what a set comes to, where its sources lead through at most so many sets
 unfoldable pub set_within : List SetData → ℕ → ℕ → List TokenSource
 set_within sets zero v = []
-set_within sets (suc k) v = flat_map (replaced (set_within sets k)) (written_in sets v)
+set_within sets (suc k) v = flat_map (replaced (set_within sets k)) (sources_written sets v)
 
 -- what a set comes to: no way leads through more sets than there are
 abbrev pub set_sources : List SetData → ℕ → List TokenSource

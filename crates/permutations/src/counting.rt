@@ -1,12 +1,12 @@
 // How many permutations there are, and how many sources the one with the most has. Numbers end at a million.
 
 ghost use Rattle.std.specs.Prelude.{◌≡◌, ◌<◌, All, length, map};
-ghost use Rattle.permutations.specs.Answer.{told};
+ghost use Rattle.permutations.specs.Answer.{told_number};
 ghost use Rattle.resolver_doc.specs.View.{source_view, sources_view, sets_view, item_view, order_view};
 ghost use Rattle.permutations.specs.Permutation.{choices, picks, greatest};
 ghost use Rattle.permutations.specs.inner.Counting.{source_count, item_most, order_most};
 ghost use Rattle.permutations.specs.inner.Expanding.{Tells};
-ghost use Rattle.permutations.specs.inner.Parts.{IsKnown, AreKnown, IsKnownItem};
+ghost use Rattle.permutations.specs.inner.Parts.{HasRow, HaveRows, ItemHasRows};
 
 use crate::fault::LAST_NUMBER;
 use crate::part::counts_of;
@@ -24,7 +24,7 @@ fn option_count(item: &Item<'_, '_>) -> u64
 
 /// How many permutations there are: the product of the numbers of contexts.
 pub(crate) fn permutation_count(order: &[Item<'_, '_>]) -> u64
-    ensures { result ≡ told (length (choices (order_view order.now))) }
+    ensures { result ≡ told_number (length (choices (order_view order.now))) }
 {
     let mut count: u64 = 1;
     for item in order {
@@ -35,16 +35,18 @@ pub(crate) fn permutation_count(order: &[Item<'_, '_>]) -> u64
 
 fn source_count(written: &[WrittenSource<'_, '_>], table: &Table<'_, '_, '_>) -> u64
     requires tells { Tells table.now }
-    requires known { AreKnown (length table.now.rows.items) written.now }
-    ensures { result ≡ told (source_count (sets_view table.now.sets.now) (sources_view written.now)) }
+    requires known { HaveRows (length table.now.rows.items) written.now }
+    ensures { result
+        ≡ told_number (source_count (sets_view table.now.sets.now) (sources_view written.now)) }
 {
     counts_of(written, table.rows.as_slice())
 }
 
 fn most_in(contexts: &[SetDef<'_, '_>], table: &Table<'_, '_, '_>) -> u64
     requires tells { Tells table.now }
-    requires known { All (λ c. AreKnown (length table.now.rows.items) c.sources) contexts.now }
-    ensures { result ≡ told (greatest (map (λ c. source_count (sets_view table.now.sets.now) c.sources) (sets_view contexts.now))) }
+    requires known { All (λ c. HaveRows (length table.now.rows.items) c.sources) contexts.now }
+    ensures { result ≡ told_number (greatest
+        (map (λ c. source_count (sets_view table.now.sets.now) c.sources) (sets_view contexts.now))) }
 {
     let mut most = 0;
     for context in contexts {
@@ -55,8 +57,8 @@ fn most_in(contexts: &[SetDef<'_, '_>], table: &Table<'_, '_, '_>) -> u64
 
 fn item_most(item: &Item<'_, '_>, table: &Table<'_, '_, '_>) -> u64
     requires tells { Tells table.now }
-    requires known { IsKnownItem (length table.now.rows.items) item.now }
-    ensures { result ≡ told (item_most (sets_view table.now.sets.now) (item_view item.now)) }
+    requires known { ItemHasRows (length table.now.rows.items) item.now }
+    ensures { result ≡ told_number (item_most (sets_view table.now.sets.now) (item_view item.now)) }
 {
     match item {
         Item::Set(written) => source_count(written.as_slice(), table),
@@ -67,8 +69,9 @@ fn item_most(item: &Item<'_, '_>, table: &Table<'_, '_, '_>) -> u64
 /// The greatest number of sources of a permutation: of each item the most that one of its options comes to.
 pub(crate) fn most_sources(order: &[Item<'_, '_>], table: &Table<'_, '_, '_>) -> u64
     requires tells { Tells table.now }
-    requires known { All (IsKnownItem (length table.now.rows.items)) order.now }
-    ensures { result ≡ told (order_most (sets_view table.now.sets.now) (order_view order.now)) }
+    requires known { All (ItemHasRows (length table.now.rows.items)) order.now }
+    ensures { result
+        ≡ told_number (order_most (sets_view table.now.sets.now) (order_view order.now)) }
 {
     let mut most: u64 = 0;
     for item in order {

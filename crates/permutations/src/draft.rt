@@ -2,8 +2,8 @@
 
 ghost use Rattle.std.specs.Prelude.{◌≡◌, ◌++◌, ◌∷◌, [], IfOk, OnOk, map};
 ghost use Rattle.std.specs.String.{string_bytes};
-ghost use Rattle.permutations.specs.View.{source_view, sources_view};
-ghost use Rattle.permutations.specs.inner.Drafts.{draft_view, drafts_view, joined, with_more, with_each, no_draft};
+ghost use Rattle.permutations.specs.View.{token_source_view, token_sources_view};
+ghost use Rattle.permutations.specs.inner.Drafts.{draft_view, drafts_view, joined_labels, with_more, with_each, no_draft};
 
 use crate::perm::{Source, Sources};
 use std::alloc::Global;
@@ -28,14 +28,16 @@ fn empty_draft<'a, 's>(alloc: Global) -> Draft<'a, 's>
 
 /// Adds what no items add to the drafts.
 pub(crate) fn push_empty(alloc: Global, drafts: &mut Vec<Draft<'_, '_>>) -> Result<(), NoMemory>
-    ensures { OnOk result (drafts_view drafts.new.items ≡ drafts_view drafts.old.items ++ no_draft ∷ []) }
+    ensures { OnOk result
+        (drafts_view drafts.new.items ≡ drafts_view drafts.old.items ++ no_draft ∷ []) }
 {
     drafts.push(empty_draft(alloc))?;
     Ok(())
 }
 
 fn append_labels(more: &str, labels: &mut String) -> Result<(), NoMemory>
-    ensures { OnOk result (string_bytes labels.new ≡ joined (string_bytes labels.old) more.now) }
+    ensures { OnOk result
+        (string_bytes labels.new ≡ joined_labels (string_bytes labels.old) more.now) }
 {
     if more.is_empty() {
         return Ok(());
@@ -50,7 +52,7 @@ fn append_labels(more: &str, labels: &mut String) -> Result<(), NoMemory>
 }
 
 fn copy_of<'a, 's>(source: &Source<'a, 's>) -> Result<Source<'a, 's>, NoMemory>
-    ensures { IfOk result (λ copy. source_view copy ≡ source_view source.now) }
+    ensures { IfOk result (λ copy. token_source_view copy ≡ token_source_view source.now) }
 {
     match source {
         Source::File(name, start, end) => Ok(Source::File(name.copy()?, *start, *end)),
@@ -62,7 +64,8 @@ fn append_copies<'a, 's>(
     more: &[Source<'a, 's>],
     sources: &mut Sources<'a, 's>,
 ) -> Result<(), NoMemory>
-    ensures { OnOk result (sources_view sources.new ≡ sources_view sources.old ++ sources_view more.now) }
+    ensures { OnOk result (token_sources_view sources.new
+        ≡ token_sources_view sources.old ++ token_sources_view more.now) }
 {
     for source in more {
         sources.push(copy_of(source)?)?;
@@ -71,7 +74,8 @@ fn append_copies<'a, 's>(
 }
 
 fn add<'a, 's>(more: &Draft<'a, 's>, draft: &mut Draft<'a, 's>) -> Result<(), NoMemory>
-    ensures { OnOk result (draft_view draft.new ≡ with_more (draft_view draft.old) (draft_view more.now)) }
+    ensures { OnOk result
+        (draft_view draft.new ≡ with_more (draft_view draft.old) (draft_view more.now)) }
 {
     append_labels(more.labels.as_str(), &mut draft.labels)?;
     append_copies(more.sources.as_slice(), &mut draft.sources)?;
@@ -83,7 +87,8 @@ fn both<'a, 's>(
     draft: &Draft<'a, 's>,
     more: &Draft<'a, 's>,
 ) -> Result<Draft<'a, 's>, NoMemory>
-    ensures { IfOk result (λ d. draft_view d ≡ with_more (draft_view draft.now) (draft_view more.now)) }
+    ensures { IfOk result
+        (λ d. draft_view d ≡ with_more (draft_view draft.now) (draft_view more.now)) }
 {
     let mut new = empty_draft(alloc);
     add(draft, &mut new)?;
@@ -98,7 +103,8 @@ fn append_each<'a, 's>(
     out: &mut Vec<Draft<'a, 's>>,
 ) -> Result<(), NoMemory>
     ensures { OnOk result (drafts_view out.new.items
-        ≡ drafts_view out.old.items ++ map (with_more (draft_view draft.now)) (drafts_view options.now)) }
+        ≡ drafts_view out.old.items
+        ++ map (with_more (draft_view draft.now)) (drafts_view options.now)) }
 {
     for option in options {
         out.push(both(alloc, draft, option)?)?;
@@ -111,7 +117,8 @@ fn each_with_each<'a, 's>(
     drafts: &[Draft<'a, 's>],
     options: &[Draft<'a, 's>],
 ) -> Result<Vec<Draft<'a, 's>>, NoMemory>
-    ensures { IfOk result (λ new. drafts_view new.items ≡ with_each (drafts_view drafts.now) (drafts_view options.now)) }
+    ensures { IfOk result (λ new. drafts_view new.items
+        ≡ with_each (drafts_view drafts.now) (drafts_view options.now)) }
 {
     let mut new = Vec::new(alloc);
     for draft in drafts {
@@ -121,7 +128,8 @@ fn each_with_each<'a, 's>(
 }
 
 fn add_to_each<'a, 's>(more: &Draft<'a, 's>, drafts: &mut [Draft<'a, 's>]) -> Result<(), NoMemory>
-    ensures { OnOk result (drafts_view drafts.new ≡ map (λ d. with_more d (draft_view more.now)) (drafts_view drafts.old)) }
+    ensures { OnOk result (drafts_view drafts.new
+        ≡ map (λ d. with_more d (draft_view more.now)) (drafts_view drafts.old)) }
 {
     for draft in drafts.iter_mut() {
         add(more, draft)?;
@@ -135,7 +143,8 @@ pub(crate) fn extended<'a, 's>(
     mut drafts: Vec<Draft<'a, 's>>,
     options: &[Draft<'a, 's>],
 ) -> Result<Vec<Draft<'a, 's>>, NoMemory>
-    ensures { IfOk result (λ new. drafts_view new.items ≡ with_each (drafts_view drafts.entry.items) (drafts_view options.now)) }
+    ensures { IfOk result (λ new. drafts_view new.items
+        ≡ with_each (drafts_view drafts.entry.items) (drafts_view options.now)) }
 {
     if options.len() == 1 {
         add_to_each(&options[0], drafts.as_mut_slice())?;

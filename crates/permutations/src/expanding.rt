@@ -3,9 +3,9 @@
 ghost use Rattle.std.specs.Prelude.{◌≡◌, ◌<◌, ◌++◌, OnOk, length, reverse};
 ghost use Rattle.resolver_doc.specs.View.{sources_view as written_list, sets_view};
 ghost use Rattle.permutations.specs.Permutation.{sources_from};
-ghost use Rattle.permutations.specs.View.{sources_view};
-ghost use Rattle.permutations.specs.inner.Parts.{AreKnown, IsPlaced, part_view, parts_view, rows_view};
-ghost use Rattle.permutations.specs.inner.Expanding.{Tells, added, left};
+ghost use Rattle.permutations.specs.View.{token_sources_view};
+ghost use Rattle.permutations.specs.inner.Parts.{HaveRows, IsPlaced, part_view, parts_view, rows_view};
+ghost use Rattle.permutations.specs.inner.Expanding.{Tells, sources_added, parts_left};
 
 use crate::part::{Part, Row, parts_of};
 use crate::perm::{Source, Sources};
@@ -18,7 +18,8 @@ fn push_reversed<'p, 'a, 's>(
     parts: &[Part<'p, 'a, 's>],
     stack: &mut Vec<Part<'p, 'a, 's>>,
 ) -> Result<(), NoMemory>
-    ensures { OnOk result (parts_view stack.new.items ≡ parts_view stack.old.items ++ reverse (parts_view parts.now)) }
+    ensures { OnOk result (parts_view stack.new.items
+        ≡ parts_view stack.old.items ++ reverse (parts_view parts.now)) }
 {
     for part in parts.iter().rev() {
         stack.push(*part)?;
@@ -33,8 +34,10 @@ fn expand<'p, 'a, 's>(
     out: &mut Sources<'a, 's>,
 ) -> Result<(), NoMemory>
     requires { IsPlaced (length rows.now) (part_view part) }
-    ensures added { OnOk result (sources_view out.new ≡ sources_view out.old ++ added (part_view part.entry)) }
-    ensures left { OnOk result (parts_view stack.new.items ≡ parts_view stack.old.items ++ left (rows_view rows.now) (part_view part.entry)) }
+    ensures added { OnOk result (token_sources_view out.new
+        ≡ token_sources_view out.old ++ sources_added (part_view part.entry)) }
+    ensures left { OnOk result (parts_view stack.new.items
+        ≡ parts_view stack.old.items ++ parts_left (rows_view rows.now) (part_view part.entry)) }
 {
     match part {
         Part::File(name, start, end) => {
@@ -60,9 +63,10 @@ pub(crate) fn append_sources<'p, 'a, 's>(
     out: &mut Sources<'a, 's>,
 ) -> Result<(), NoMemory>
     requires tells { Tells table.now }
-    requires known { AreKnown (length table.now.rows.items) written.now }
-    ensures { OnOk result (sources_view out.new
-        ≡ sources_view out.old ++ sources_from (sets_view table.now.sets.now) (written_list written.entry.now)) }
+    requires known { HaveRows (length table.now.rows.items) written.now }
+    ensures { OnOk result (token_sources_view out.new
+        ≡ token_sources_view out.old
+        ++ sources_from (sets_view table.now.sets.now) (written_list written.entry.now)) }
 {
     let parts = parts_of(alloc, written, table.rows.as_slice())?;
     let mut stack = Vec::new(alloc);

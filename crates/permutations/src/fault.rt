@@ -16,7 +16,7 @@ pub const MOST_SOURCES: u64 = 1_024;
 pub const LAST_NUMBER: u64 = 1_000_000;
 
 /// The limit that a plan is beyond.
-#[derive(Drop)]
+#[derive(Debug, Drop)]
 pub enum ListFault {
     /// There are more than 64 permutations: how many, or 1,000,000 where there are more.
     TooMany(u64),

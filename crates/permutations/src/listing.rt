@@ -54,7 +54,8 @@ fn all_finished<'a, 's>(
 /// [`ListFault::TooMany`] exactly where there are more than 64 permutations; else [`ListFault::TooManySources`] exactly where
 /// one of them has more than 1,024 sources. A number above 1,000,000 is told as 1,000,000. [`ListFault::NoMemory`].
 pub fn list<'a, 's>(alloc: Global, plan: &Resolver<'a, 's>) -> Result<Perms<'a, 's>, ListFault>
-    ensures perms { IfOk result (λ perms. perms_view perms ≡ permutations (resolver_view plan.now)) }
+    ensures perms { IfOk result
+        (λ perms. perms_view perms ≡ permutations (resolver_view plan.now)) }
     ensures within { IfOk result (λ perms. IsWithin (resolver_view plan.now)) }
     ensures fault { IfErr result (IsListFault (resolver_view plan.now)) }
 {

@@ -3,7 +3,8 @@
 ghost use Rattle.std.specs.Prelude.{◌≡◌, ◌++◌, ◌∷◌, [], ◌<◌, ◌/◌, ◌%◌, OnOk, codes};
 ghost use Rattle.std.specs.List.{list_all};
 ghost use Rattle.std.specs.String.{string_bytes};
-ghost use Rattle.permutations.specs.Name.{is_unescaped, upper_digit, escaped_byte, escaped};
+ghost use Rattle.tk_io.specs.Characters.{percent_sign};
+ghost use Rattle.permutations.specs.Name.{is_unescaped, upper_digit, escaped_byte, escaped_name};
 
 use tk_io::NoMemory;
 
@@ -29,7 +30,8 @@ fn upper_digit(d: u8) -> char
 
 fn append_escape(byte: u8, out: &mut String) -> Result<(), NoMemory>
     ensures { OnOk result (string_bytes out.new
-        ≡ string_bytes out.old ++ 37 ∷ upper_digit (byte / 16) ∷ upper_digit (byte % 16) ∷ []) }
+        ≡ string_bytes out.old
+        ++ percent_sign ∷ upper_digit (byte / 16) ∷ upper_digit (byte % 16) ∷ []) }
 {
     out.push('%')?;
     out.push(upper_digit(byte / 16))?;
@@ -48,7 +50,7 @@ fn append_byte(byte: u8, out: &mut String) -> Result<(), NoMemory>
 }
 
 fn append_bytes(name: &[u8], out: &mut String) -> Result<(), NoMemory>
-    ensures { OnOk result (string_bytes out.new ≡ string_bytes out.old ++ escaped name.now) }
+    ensures { OnOk result (string_bytes out.new ≡ string_bytes out.old ++ escaped_name name.now) }
 {
     for byte in name {
         append_byte(*byte, out)?;
@@ -58,7 +60,7 @@ fn append_bytes(name: &[u8], out: &mut String) -> Result<(), NoMemory>
 
 /// Appends the name, with `%` and two digits in place of each byte that a file's name does not take as it is.
 pub(crate) fn append_escaped(name: &str, out: &mut String) -> Result<(), NoMemory>
-    ensures { OnOk result (string_bytes out.new ≡ string_bytes out.old ++ escaped name.now) }
+    ensures { OnOk result (string_bytes out.new ≡ string_bytes out.old ++ escaped_name name.now) }
 {
     if are_unescaped(name.as_bytes()) {
         out.push_str(name)?;

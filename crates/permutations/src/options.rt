@@ -5,10 +5,10 @@ ghost use Rattle.std.specs.String.{string_bytes};
 ghost use Rattle.resolver_doc.specs.View.{sets_view, set_view, item_view, order_view, sources_view as written_list};
 ghost use Rattle.permutations.specs.Name.{label};
 ghost use Rattle.permutations.specs.Permutation.{context_pick, sources_from, choices};
-ghost use Rattle.permutations.specs.View.{sources_view};
+ghost use Rattle.permutations.specs.View.{token_sources_view};
 ghost use Rattle.permutations.specs.inner.Drafts.{draft_view, drafts_view, pick_draft, options, drafts_of};
 ghost use Rattle.permutations.specs.inner.Expanding.{Tells};
-ghost use Rattle.permutations.specs.inner.Parts.{IsKnown, AreKnown, IsKnownItem};
+ghost use Rattle.permutations.specs.inner.Parts.{HasRow, HaveRows, ItemHasRows};
 
 use crate::draft::{Draft, extended, push_empty};
 use crate::expanding::append_sources;
@@ -25,8 +25,9 @@ fn sources_from<'p, 'a, 's>(
     table: &Table<'p, 'a, 's>,
 ) -> Result<Sources<'a, 's>, NoMemory>
     requires tells { Tells table.now }
-    requires known { AreKnown (length table.now.rows.items) written.now }
-    ensures { IfOk result (λ s. sources_view s ≡ sources_from (sets_view table.now.sets.now) (written_list written.entry.now)) }
+    requires known { HaveRows (length table.now.rows.items) written.now }
+    ensures { IfOk result (λ s. token_sources_view s
+        ≡ sources_from (sets_view table.now.sets.now) (written_list written.entry.now)) }
 {
     let mut sources = Sources::new(alloc);
     append_sources(alloc, table, written, &mut sources)?;
@@ -34,7 +35,8 @@ fn sources_from<'p, 'a, 's>(
 }
 
 fn label_of(alloc: Global, modifier: &str, context: &str) -> Result<String, NoMemory>
-    ensures { IfOk result (λ text. string_bytes text ≡ label (record { modifier = modifier.now; context = context.now })) }
+    ensures { IfOk result (λ text. string_bytes text
+        ≡ label (record { modifier = modifier.now; context = context.now })) }
 {
     let mut text = String::new(alloc);
     append_escaped(modifier, &mut text)?;
@@ -50,9 +52,10 @@ fn context_option<'p, 'a, 's>(
     table: &Table<'p, 'a, 's>,
 ) -> Result<Draft<'a, 's>, NoMemory>
     requires tells { Tells table.now }
-    requires known { AreKnown (length table.now.rows.items) context.now.sources }
+    requires known { HaveRows (length table.now.rows.items) context.now.sources }
     ensures { IfOk result (λ d. draft_view d
-        ≡ pick_draft (sets_view table.now.sets.now) (context_pick modifier.now (set_view context.entry.now))) }
+        ≡ pick_draft (sets_view table.now.sets.now)
+        (context_pick modifier.now (set_view context.entry.now))) }
 {
     let labels = label_of(alloc, modifier, context.name.as_str())?;
     let sources = sources_from(alloc, context.sources.as_slice(), table)?;
@@ -66,9 +69,10 @@ fn context_options<'p, 'a, 's>(
     table: &Table<'p, 'a, 's>,
 ) -> Result<Vec<Draft<'a, 's>>, NoMemory>
     requires tells { Tells table.now }
-    requires known { All (λ c. AreKnown (length table.now.rows.items) c.sources) contexts.now }
+    requires known { All (λ c. HaveRows (length table.now.rows.items) c.sources) contexts.now }
     ensures { IfOk result (λ ds. drafts_view ds.items
-        ≡ map (pick_draft (sets_view table.now.sets.now)) (map (context_pick modifier.now) (sets_view contexts.entry.now))) }
+        ≡ map (pick_draft (sets_view table.now.sets.now))
+        (map (context_pick modifier.now) (sets_view contexts.entry.now))) }
 {
     let mut options = Vec::new(alloc);
     for context in contexts {
@@ -83,9 +87,10 @@ fn set_options<'p, 'a, 's>(
     table: &Table<'p, 'a, 's>,
 ) -> Result<Vec<Draft<'a, 's>>, NoMemory>
     requires tells { Tells table.now }
-    requires known { AreKnown (length table.now.rows.items) written.now }
+    requires known { HaveRows (length table.now.rows.items) written.now }
     ensures { IfOk result (λ ds. drafts_view ds.items
-        ≡ pick_draft (sets_view table.now.sets.now) (record { chosen = []; sources = written_list written.entry.now }) ∷ []) }
+        ≡ pick_draft (sets_view table.now.sets.now)
+        (record { chosen = []; sources = written_list written.entry.now }) ∷ []) }
 {
     let sources = sources_from(alloc, written, table)?;
     let mut options = Vec::new(alloc);
@@ -102,8 +107,9 @@ fn options_of<'p, 'a, 's>(
     table: &Table<'p, 'a, 's>,
 ) -> Result<Vec<Draft<'a, 's>>, NoMemory>
     requires tells { Tells table.now }
-    requires known { IsKnownItem (length table.now.rows.items) item.now }
-    ensures { IfOk result (λ ds. drafts_view ds.items ≡ options (sets_view table.now.sets.now) (item_view item.entry.now)) }
+    requires known { ItemHasRows (length table.now.rows.items) item.now }
+    ensures { IfOk result (λ ds. drafts_view ds.items
+        ≡ options (sets_view table.now.sets.now) (item_view item.entry.now)) }
 {
     match item {
         Item::Set(written) => set_options(alloc, written.as_slice(), table),
@@ -120,8 +126,9 @@ pub(crate) fn drafts_of<'p, 'a, 's>(
     table: &Table<'p, 'a, 's>,
 ) -> Result<Vec<Draft<'a, 's>>, NoMemory>
     requires tells { Tells table.now }
-    requires known { All (IsKnownItem (length table.now.rows.items)) order.now }
-    ensures { IfOk result (λ ds. drafts_view ds.items ≡ drafts_of (sets_view table.now.sets.now) (order_view order.entry.now)) }
+    requires known { All (ItemHasRows (length table.now.rows.items)) order.now }
+    ensures { IfOk result (λ ds. drafts_view ds.items
+        ≡ drafts_of (sets_view table.now.sets.now) (order_view order.entry.now)) }
 {
     let mut drafts = Vec::new(alloc);
     push_empty(alloc, &mut drafts)?;

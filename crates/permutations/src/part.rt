@@ -2,7 +2,7 @@
 
 ghost use Rattle.std.specs.Prelude.{◌≡◌, ◌<◌, IfOk, length, option_map, option_to_list};
 ghost use Rattle.resolver_doc.specs.View.{source_view, sources_view};
-ghost use Rattle.permutations.specs.inner.Parts.{IsKnown, AreKnown, part_view, parts_view, row_view, rows_view, set_parts, part_in, parts_in, count_in, counts_in, row_in};
+ghost use Rattle.permutations.specs.inner.Parts.{HasRow, HaveRows, part_view, parts_view, row_view, rows_view, set_parts, part_in, parts_in, count_in, counts_in, row_in};
 
 use crate::fault::LAST_NUMBER;
 use json_span::NodeRef;
@@ -26,7 +26,8 @@ pub(crate) struct Row<'p, 'a, 's> {
 }
 
 fn set_part<'p, 'a, 's>(number: usize, parts: &[Part<'p, 'a, 's>]) -> Option<Part<'p, 'a, 's>>
-    ensures { option_to_list (option_map part_view result) ≡ set_parts number (parts_view parts.now) }
+    ensures { option_to_list (option_map part_view result)
+        ≡ set_parts number (parts_view parts.now) }
 {
     match parts.len() {
         0 => None,
@@ -39,7 +40,7 @@ fn part_of<'p, 'a, 's>(
     source: &'p WrittenSource<'a, 's>,
     rows: &[Row<'p, 'a, 's>],
 ) -> Option<Part<'p, 'a, 's>>
-    requires { IsKnown (length rows.now) (source_view source.now) }
+    requires { HasRow (length rows.now) (source_view source.now) }
     ensures { option_to_list (option_map part_view result)
         ≡ part_in (rows_view rows.now) (source_view source.entry.now) }
 {
@@ -56,7 +57,7 @@ pub(crate) fn parts_of<'p, 'a, 's>(
     sources: &'p [WrittenSource<'a, 's>],
     rows: &[Row<'p, 'a, 's>],
 ) -> Result<Vec<Part<'p, 'a, 's>>, NoMemory>
-    requires { AreKnown (length rows.now) sources.now }
+    requires { HaveRows (length rows.now) sources.now }
     ensures { IfOk result (λ parts. parts_view parts.items
         ≡ parts_in (rows_view rows.now) (sources_view sources.entry.now)) }
 {
@@ -70,7 +71,7 @@ pub(crate) fn parts_of<'p, 'a, 's>(
 }
 
 fn count_of(source: &WrittenSource<'_, '_>, rows: &[Row<'_, '_, '_>]) -> u64
-    requires { IsKnown (length rows.now) (source_view source.now) }
+    requires { HasRow (length rows.now) (source_view source.now) }
     ensures { result ≡ count_in (rows_view rows.now) (source_view source.now) }
 {
     match source {
@@ -82,7 +83,7 @@ fn count_of(source: &WrittenSource<'_, '_>, rows: &[Row<'_, '_, '_>]) -> u64
 
 /// How many sources these come to, at most a million.
 pub(crate) fn counts_of(sources: &[WrittenSource<'_, '_>], rows: &[Row<'_, '_, '_>]) -> u64
-    requires { AreKnown (length rows.now) sources.now }
+    requires { HaveRows (length rows.now) sources.now }
     ensures { result ≡ counts_in (rows_view rows.now) (sources_view sources.now) }
 {
     let mut count: u64 = 0;
@@ -100,8 +101,9 @@ pub(crate) fn row_of<'p, 'a, 's>(
     sources: &'p [WrittenSource<'a, 's>],
     rows: &[Row<'p, 'a, 's>],
 ) -> Result<Row<'p, 'a, 's>, NoMemory>
-    requires { AreKnown (length rows.now) sources.now }
-    ensures { IfOk result (λ row. row_view row ≡ row_in (rows_view rows.now) (sources_view sources.entry.now)) }
+    requires { HaveRows (length rows.now) sources.now }
+    ensures { IfOk result
+        (λ row. row_view row ≡ row_in (rows_view rows.now) (sources_view sources.entry.now)) }
 {
     Ok(Row {
         parts: parts_of(alloc, sources, rows)?,

@@ -3,7 +3,7 @@
 ghost use Rattle.std.specs.Prelude.{◌≡◌, ◌+◌, IfOk, OnOk, All, fold, length};
 ghost use Rattle.resolver_doc.specs.View.{sets_view};
 ghost use Rattle.permutations.specs.inner.Orders.{IsSetOrder};
-ghost use Rattle.permutations.specs.inner.Parts.{AreKnown, rows_view, with_row};
+ghost use Rattle.permutations.specs.inner.Parts.{HaveRows, rows_view, with_row};
 
 use crate::part::{Row, row_of};
 use resolver_doc::{Resolver, SetDef};
@@ -18,7 +18,7 @@ pub(crate) struct Table<'p, 'a, 's> {
     pub(crate) rows: Vec<Row<'p, 'a, 's>>,
 }
 
-// The sets in an order in which each stands behind those that it names, and behind them the number of the document itself.
+// The sets in a topological order, each after those that it names, and after them the number of the document itself.
 fn set_order(alloc: Global, plan: &Resolver<'_, '_>) -> Result<Vec<usize>, NoMemory>
     ensures { IfOk result (λ order. IsSetOrder (sets_view plan.now.sets) order.items) }
 {
@@ -45,16 +45,18 @@ fn push_empty_rows(
     Ok(())
 }
 
+// Puts the row of a set; the number of the document itself has none.
 fn put_row<'p, 'a, 's>(
     alloc: Global,
     sets: &'p [SetDef<'a, 's>],
     number: usize,
     rows: &mut Vec<Row<'p, 'a, 's>>,
 ) -> Result<(), NoMemory>
-    requires known { All (λ s. AreKnown (length sets.now) s.sources) sets.now }
+    requires known { All (λ s. HaveRows (length sets.now) s.sources) sets.now }
     requires long { length rows.old.items ≡ length sets.now }
     ensures long { length rows.new.items ≡ length rows.old.items }
-    ensures row { OnOk result (rows_view rows.new.items ≡ with_row (sets_view sets.entry.now) (rows_view rows.old.items) number) }
+    ensures row { OnOk result (rows_view rows.new.items
+        ≡ with_row (sets_view sets.entry.now) (rows_view rows.old.items) number) }
 {
     let Some(set) = sets.get(number) else {
         return Ok(());
@@ -69,9 +71,10 @@ fn fill<'p, 'a, 's>(
     order: &[usize],
     rows: &mut Vec<Row<'p, 'a, 's>>,
 ) -> Result<(), NoMemory>
-    requires known { All (λ s. AreKnown (length sets.now) s.sources) sets.now }
+    requires known { All (λ s. HaveRows (length sets.now) s.sources) sets.now }
     requires long { length rows.old.items ≡ length sets.now }
-    ensures { OnOk result (rows_view rows.new.items ≡ fold (with_row (sets_view sets.entry.now)) (rows_view rows.old.items) order.now) }
+    ensures { OnOk result (rows_view rows.new.items
+        ≡ fold (with_row (sets_view sets.entry.now)) (rows_view rows.old.items) order.now) }
 {
     for number in order {
         put_row(alloc, sets, *number, rows)?;

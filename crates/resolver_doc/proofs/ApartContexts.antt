@@ -2,12 +2,12 @@
 use Rattle.std.proofs.Common.{◌≡◌, ◌⊎◌, inl, inr, ℕ, zero, suc, Bool, true, false, ◌||◌, not, List, [], ◌∷◌, Option, Some, None, option_map, option_and_then, unwrap_or, if◌then◌else◌, cond, map, codes, refl, sym, ◌∙◌, subst}
 use Rattle.std.proofs.lemmas.Slice.Eq.{bytes_eq-Decides}
 use Rattle.std.specs.List.{AllByRecursion}
-use Rattle.ring.specs.Routes.{In, AreApart}
+use Rattle.ring.specs.Lists.{In, AreApart}
 use Rattle.std.specs.Str.{bytes_eq}
-use Rattle.json_span.specs.Tree.{a_null, a_boolean, a_number, a_string, an_array, an_object, Placed, placed, Elements, no_elements, element, Members, no_members, member, Entry, tree_of, object_in, elements_in, entries_in, under}
+use Rattle.json_span.specs.Tree.{a_null, a_boolean, a_number, a_string, an_array, an_object, Placed, placed, Elements, no_elements, an_element, Members, no_members, a_member, Entry, tree_of, object_in, elements_in, entries_in, value_of_name}
 use Rattle.json_span.specs.Flaw.{Flaw, equal_names, or_else, is_seen, most_open, flaw_in, flaw_in_elements, flaw_in_members}
-use Rattle.resolver_doc.specs.Document.{set_item, HasContextsApart, elements_at, set_entries, modifier_entries, order_items, set_number, modifier_number, name_in, members_in, text_at, text_in, sources_in, context_of, modifier_of, named_modifier, named_item, own_name, item_by, item_of}
-use Rattle.resolver_doc.specs.Form.{is_reserved, counted, entries_at}
+use Rattle.resolver_doc.specs.Document.{set_item, HasContextsApart, elements_at, set_entries, modifier_entries, order_items, set_number, modifier_number, name_in, member_entries, text_at, text_in, sources_in, context_of, modifier_of, named_modifier, named_item, own_name, item_by, item_of}
+use Rattle.resolver_doc.specs.Form.{is_reserved, unreserved, entries_at}
 use Rattle.resolver_doc.specs.Laws.{ContextsAreApart}
 
 -- Values without a flaw, and their parts.
@@ -46,7 +46,7 @@ IfFlawless (Some n) = Flawless n
 
 members_flawless : (room : ℕ) (names : List (List ℕ)) (ms : Members) → flaw_in_members room names ms ≡ None → EntriesFlawless names (entries_in ms)
 members_flawless room names no_members e = tt
-members_flawless room names (member s start end n ms) e =
+members_flawless room names (a_member s start end n ms) e =
     let rest = or_else (flaw_in room n) (flaw_in_members room (s ∷ names) ms) in
     let k : rest ≡ None = rest_none (is_seen names s) (equal_names start end) rest e in (
       not_seen (is_seen names s) (equal_names start end) rest e,
@@ -56,7 +56,7 @@ members_flawless room names (member s start end n ms) e =
 
 elements_flawless : (room : ℕ) (ns : Elements) → flaw_in_elements room ns ≡ None → AllFlawless (elements_in ns)
 elements_flawless room no_elements e = tt
-elements_flawless room (element n ns) e =
+elements_flawless room (an_element n ns) e =
     ((room, left_none (flaw_in room n) (flaw_in_elements room ns) e), elements_flawless room ns (right_none (flaw_in room n) (flaw_in_elements room ns) e))
 
 object_flawless : (n : Placed) → Flawless n → EntriesFlawless [] (entries_at n)
@@ -81,9 +81,9 @@ if_under : (b : Bool) (n : Placed) (o : Option Placed) → Flawless n → IfFlaw
 if_under true n o f g = f
 if_under false n o f g = g
 
-under_flawless : (names : List (List ℕ)) (es : List Entry) (name : List ℕ) → EntriesFlawless names es → IfFlawless (under name es)
+under_flawless : (names : List (List ℕ)) (es : List Entry) (name : List ℕ) → EntriesFlawless names es → IfFlawless (value_of_name name es)
 under_flawless names [] name f = tt
-under_flawless names (e ∷ es) name f = if_under (bytes_eq e.name name) e.value (under name es) f.1 (under_flawless (e.name ∷ names) es name f.2)
+under_flawless names (e ∷ es) name f = if_under (bytes_eq e.name name) e.value (value_of_name name es) f.1 (under_flawless (e.name ∷ names) es name f.2)
 
 -- Names that differ.
 
@@ -112,11 +112,11 @@ abbrev ValuesFlawless : List Entry → Type 0
 ValuesFlawless [] = Unit {0}
 ValuesFlawless (e ∷ es) = Flawless e.value × ValuesFlawless es
 
-counted_flawless : (names : List (List ℕ)) (es : List Entry) → EntriesFlawless names es → ValuesFlawless (counted es)
+counted_flawless : (names : List (List ℕ)) (es : List Entry) → EntriesFlawless names es → ValuesFlawless (unreserved es)
 counted_flawless names [] f = tt
 counted_flawless names (e ∷ es) f = at (not (is_reserved e.name)) (counted_flawless (e.name ∷ names) es f.2)
   where
-    at : (b : Bool) → ValuesFlawless (counted es) → ValuesFlawless (if b then e ∷ counted es else counted es)
+    at : (b : Bool) → ValuesFlawless (unreserved es) → ValuesFlawless (if b then e ∷ unreserved es else unreserved es)
     at true g = (f.1, g)
     at false g = g
 
@@ -124,39 +124,39 @@ module _ (sets : List Entry) where
   abbrev names_of : List Entry → List (List ℕ)
   names_of es = map (λ c. c.name) (map (context_of sets) es)
 
-  none_named : (name : List ℕ) (names : List (List ℕ)) (es : List Entry) → Has name names → EntriesFlawless names es → In name (names_of (counted es)) → ⊥
+  none_named : (name : List ℕ) (names : List (List ℕ)) (es : List Entry) → Has name names → EntriesFlawless names es → In name (names_of (unreserved es)) → ⊥
   none_named name names [] h f i = i
   none_named name names (e ∷ es) h f i =
       at (not (is_reserved e.name)) (differ name e.name (seen_not names name e.name h f.0)) (none_named name (e.name ∷ names) es (inr h) f.2) i
     where
-      at : (b : Bool) → (name ≡ e.name → ⊥) → (In name (names_of (counted es)) → ⊥) → In name (names_of (if b then e ∷ counted es else counted es)) → ⊥
+      at : (b : Bool) → (name ≡ e.name → ⊥) → (In name (names_of (unreserved es)) → ⊥) → In name (names_of (if b then e ∷ unreserved es else unreserved es)) → ⊥
       at true p q (inl same) = p same
       at true p q (inr j) = q j
       at false p q j = q j
 
-  names_differ : (names : List (List ℕ)) (es : List Entry) → EntriesFlawless names es → AreApart (names_of (counted es))
+  names_differ : (names : List (List ℕ)) (es : List Entry) → EntriesFlawless names es → AreApart (names_of (unreserved es))
   names_differ names [] f = tt
   names_differ names (e ∷ es) f = at (not (is_reserved e.name)) (none_named e.name (e.name ∷ names) es (inl refl) f.2) (names_differ (e.name ∷ names) es f.2)
     where
-      at : (b : Bool) → (In e.name (names_of (counted es)) → ⊥) → AreApart (names_of (counted es)) → AreApart (names_of (if b then e ∷ counted es else counted es))
+      at : (b : Bool) → (In e.name (names_of (unreserved es)) → ⊥) → AreApart (names_of (unreserved es)) → AreApart (names_of (if b then e ∷ unreserved es else unreserved es))
       at true p q = (p, q)
       at false p q = q
 
   modifier_apart : (name : List ℕ) (names : List (List ℕ)) (es : List Entry) → EntriesFlawless names es → HasContextsApart (modifier_of sets name es)
-  modifier_apart name names es f = at (under (codes "contexts") es) (under_flawless names es (codes "contexts") f)
+  modifier_apart name names es f = at (value_of_name (codes "contexts") es) (under_flawless names es (codes "contexts") f)
     where
-      at : (o : Option Placed) → IfFlawless o → AreApart (names_of (counted (unwrap_or (option_and_then (λ n. object_in (tree_of n)) o) [])))
+      at : (o : Option Placed) → IfFlawless o → AreApart (names_of (unreserved (unwrap_or (option_and_then (λ n. object_in (tree_of n)) o) [])))
       at None g = tt
       at (Some n) g = names_differ [] (entries_at n) (object_flawless n g)
 
-  number_apart : (name : List ℕ) (es : List Entry) (v : ℕ) → ValuesFlawless es → HasContextsApart (modifier_of sets name (members_in es v))
+  number_apart : (name : List ℕ) (es : List Entry) (v : ℕ) → ValuesFlawless es → HasContextsApart (modifier_of sets name (member_entries es v))
   number_apart name [] v f = tt
   number_apart name (e ∷ es) zero f = modifier_apart name [] (entries_at e.value) (object_flawless e.value f.0)
   number_apart name (e ∷ es) (suc v) f = number_apart name es v f.1
 
   module _ (modifiers : List Entry) (are : ValuesFlawless modifiers) where
     item_apart : (n : Placed) → Flawless n → HasContextsApart (item_of sets modifiers n)
-    item_apart n f = at (under (codes "$ref") (entries_at n))
+    item_apart n f = at (value_of_name (codes "$ref") (entries_at n))
       where
         named : (text : List ℕ) (o : Option ℕ) → HasContextsApart (named_modifier sets modifiers o)
         named text None = tt
@@ -178,7 +178,7 @@ module _ (sets : List Entry) where
     items_apart [] f = tt
     items_apart (n ∷ ns) f = (item_apart n f.0, items_apart ns f.1)
 
-section_flawless : (o : Option Placed) → IfFlawless o → ValuesFlawless (counted (unwrap_or (option_map entries_at o) []))
+section_flawless : (o : Option Placed) → IfFlawless o → ValuesFlawless (unreserved (unwrap_or (option_map entries_at o) []))
 section_flawless None f = tt
 section_flawless (Some n) f = counted_flawless [] (entries_at n) (object_flawless n f)
 
@@ -190,5 +190,5 @@ pub contexts_are_apart : ContextsAreApart
 contexts_are_apart root e =
     let es = entries_at root in
     let f = object_flawless root (most_open, e) in
-    items_apart (set_entries root) (modifier_entries root) (section_flawless (under (codes "modifiers") es) (under_flawless [] es (codes "modifiers") f))
-    (order_items root) (order_flawless (under (codes "resolutionOrder") es) (under_flawless [] es (codes "resolutionOrder") f))
+    items_apart (set_entries root) (modifier_entries root) (section_flawless (value_of_name (codes "modifiers") es) (under_flawless [] es (codes "modifiers") f))
+    (order_items root) (order_flawless (value_of_name (codes "resolutionOrder") es) (under_flawless [] es (codes "resolutionOrder") f))

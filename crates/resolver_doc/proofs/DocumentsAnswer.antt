@@ -3,7 +3,7 @@ use Rattle.std.proofs.Common.{◌≡◌, ℕ, zero, suc, ◌+◌, ◌<◌, ◌�
 use Rattle.std.proofs.lemmas.Bool.{cases_eq}
 use Rattle.std.specs.List.{range_with_len}
 use Rattle.json_span.specs.Tree.{Placed, start_of, end_of}
-use Rattle.ring.specs.Existence.{EachGraphAnswers, IsWithin}
+use Rattle.ring.specs.Existence.{EachGraphAnswers, ReachesOnly}
 use Rattle.ring.specs.Lists.{In}
 use Rattle.ring.specs.Routes.{IsRoute}
 use Rattle.resolver_doc.specs.declared.rule.Break.{Break}
@@ -31,7 +31,7 @@ module _ (sets : List SetData) (right : are_sets_right sets sets ≡ true) where
   abbrev numbers : List ℕ
   numbers = length sets ∷ range_with_len 0 (length sets)
 
-  within : IsWithin (set_needs sets) (length sets) numbers
+  within : ReachesOnly (set_needs sets) (length sets) numbers
   within v r = begins r.before r.steps
     where
       begins : (xs : List ℕ) → IsRoute (set_needs sets) (length sets) (xs ++ v ∷ []) → In v numbers

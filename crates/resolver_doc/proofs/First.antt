@@ -2,9 +2,9 @@
 use Rattle.std.proofs.Common.{◌≡◌, ℕ, ◌==◌, ◌&&◌, ◌||◌, Bool, true, false, nat_lt, List, [], ◌∷◌, Some, None, refl, sym, subst, inl, inr, arith}
 use Rattle.std.specs.Prelude.{◌⊎◌, if◌then◌else◌}
 use Rattle.std.proofs.lemmas.Bool.Decides.{nat_tests}
-use Rattle.ring.specs.Routes.{In}
+use Rattle.ring.specs.Lists.{In}
 use Rattle.resolver_doc.specs.declared.rule.Break.{Break}
-use Rattle.resolver_doc.specs.Break.{number_of, is_before, with_breaks, FirstIsTold, NoneIsTold}
+use Rattle.resolver_doc.specs.Break.{rule_number, is_before, with_breaks, FirstIsTold, NoneIsTold}
 
 -- the order of two places in the list of rules, by numbers alone
 abbrev before : ℕ → ℕ → ℕ → ℕ → Bool
@@ -34,7 +34,7 @@ least b [] r is =
     let same = inner b r is in
     record {
       there = inl (sym same);
-      not_before = subst (λ c. is_before b c ≡ false) same (itself b.start (number_of b.rule));
+      not_before = subst (λ c. is_before b c ≡ false) same (itself b.start (rule_number b.rule));
       none_before = λ o i. absurd i;
     }
 least b (x ∷ xs) r is = at (is_before x b) refl (least x xs r) (least b xs r) is
@@ -45,7 +45,7 @@ least b (x ∷ xs) r is = at (is_before x b) refl (least x xs r) (least b xs r) 
         let l = newer e in
         record {
           there = inr l.there;
-          not_before = passed x.start (number_of x.rule) b.start (number_of b.rule) r.start (number_of r.rule) earlier l.not_before;
+          not_before = passed x.start (rule_number x.rule) b.start (rule_number b.rule) r.start (rule_number r.rule) earlier l.not_before;
           none_before = λ o i. elim i [ inl same ↦ subst (λ c. is_before c r ≡ false) (sym same) l.not_before | inr later ↦ l.none_before o later ];
         }
     at false earlier newer older e =
@@ -55,7 +55,7 @@ least b (x ∷ xs) r is = at (is_before x b) refl (least x xs r) (least b xs r) 
           not_before = l.not_before;
           none_before = λ o i. elim i [
             | inl same ↦ subst (λ c. is_before c r ≡ false) (sym same)
-                (chained x.start (number_of x.rule) b.start (number_of b.rule) r.start (number_of r.rule) earlier l.not_before)
+                (chained x.start (rule_number x.rule) b.start (rule_number b.rule) r.start (rule_number r.rule) earlier l.not_before)
             | inr later ↦ l.none_before o later
           ];
         }

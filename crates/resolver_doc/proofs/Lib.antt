@@ -1,13 +1,13 @@
-pub mod Breaks
-pub mod First
-pub mod NumbersByTexts
-pub mod RightSets
-pub mod SetRings
-pub mod OneAnswer
-pub mod DocumentsAnswer
-pub mod Dots
-pub mod SeenNames
-pub mod PlanFaults
-pub mod HaveChoices
-pub mod PointersNamed
-pub mod ApartContexts
+mod Breaks
+mod First
+mod NumbersByTexts
+mod RightSets
+mod SetRings
+mod OneAnswer
+mod DocumentsAnswer
+mod Dots
+mod SeenNames
+mod PlanFaults
+mod HaveChoices
+mod PointersNamed
+mod ApartContexts

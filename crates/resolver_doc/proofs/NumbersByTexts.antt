@@ -13,7 +13,7 @@ use Rattle.std.specs.Option.{option_or}
 use Rattle.std.specs.Ordering.{is_eq}
 use Rattle.std.specs.Str.{bytes_eq}
 use Rattle.tk_io.specs.Order.{text_cmp}
-use Rattle.tk_io.specs.Shown.{shown_by}
+use Rattle.tk_io.specs.View.{entries_view}
 use Rattle.json_span.specs.Tree.{Entry}
 use Rattle.json_span.specs.View.{field_view}
 use Rattle.json_span.specs.declared.fields.Field.{Field}
@@ -22,7 +22,7 @@ use Rattle.tk_io.proofs.MapViews as views
 use Rattle.tk_io.proofs.MapViews.{at_insert}
 use Rattle.tk_io.proofs.TextMaps.{text_cmp-IsAntisymmetric}
 use Rattle.resolver_doc.specs.Document.{pointer}
-use Rattle.resolver_doc.specs.inner.Known.{fields_of}
+use Rattle.resolver_doc.specs.inner.Known.{entries_of_fields}
 use Rattle.resolver_doc.specs.inner.Pointers.{Numbers, AddsFirst, Completes}
 
 same_option : {X : Type 0} (o : Option X) → option_map (λ v. v) o ≡ o
@@ -31,7 +31,7 @@ same_option (Some v) = refl
 
 module _ {Z : Type 0} where
   abbrev pub by_text : List (Vec ℕ Z × ℕ) → Numbers
-  by_text es = map.from_entries (shown_by (λ text. text.items) (λ v. v) es)
+  by_text es = map.from_entries (entries_view (λ text. text.items) (λ v. v) es)
 
   pub text_get : (es : List (Vec ℕ Z × ℕ)) (q : List ℕ) → lookup (λ k. is_eq (text_cmp q k.items)) es ≡ map.get (by_text es) q
   text_get es q = sym (views.get_shown nat_list_cmp_total text_cmp-IsAntisymmetric (λ text. text.items) (λ v. v) es q ∙ same_option _)
@@ -96,8 +96,8 @@ pub completes_first : (name : List ℕ) (numbers : Numbers) (all : List Entry) �
 completes_first name numbers all e q = ap (λ o. option_or o (position_from (λ x. bytes_eq (pointer name x) q) 0 all)) (ap (λ m. map.get m q) e ∙ map.get-empty text_cmp q)
 
 -- the members from a number on, and behind the last
-pub next_fields : (fields : List Field) (n : ℕ) (x : Field) → n < length fields → x ≡ get_or fields n x → fields_of (drop n fields) ≡ field_view x ∷ fields_of (drop (n + 1) fields)
-next_fields fields n x h is = ap fields_of (drop_more fields n x h) ∙ ap (λ y. field_view y ∷ fields_of (drop (n + 1) fields)) (sym is)
+pub next_fields : (fields : List Field) (n : ℕ) (x : Field) → n < length fields → x ≡ get_or fields n x → entries_of_fields (drop n fields) ≡ field_view x ∷ entries_of_fields (drop (n + 1) fields)
+next_fields fields n x h is = ap entries_of_fields (drop_more fields n x h) ∙ ap (λ y. field_view y ∷ entries_of_fields (drop (n + 1) fields)) (sym is)
 
-pub no_fields : (fields : List Field) (n : ℕ) → length fields ≤ n → fields_of (drop n fields) ≡ []
-no_fields fields n h = ap fields_of (drop_all n fields h)
+pub no_fields : (fields : List Field) (n : ℕ) → length fields ≤ n → entries_of_fields (drop n fields) ≡ []
+no_fields fields n h = ap entries_of_fields (drop_all n fields h)

@@ -15,7 +15,7 @@ use Rattle.resolver_doc.specs.Document.{SetData, ItemData, resolver_of, set_entr
 use Rattle.resolver_doc.specs.Form.{form_breaks, entries_at}
 use Rattle.resolver_doc.specs.Naming.{set_breaks, modifier_breaks, item_breaks, repeats, naming_breaks}
 use Rattle.resolver_doc.specs.Rings.{set_needs, IsRingOfSets, HasNoRingOfSets, ring_string, are_sets_right, are_items_right}
-use Rattle.resolver_doc.specs.inner.Faults.{IsRingAt, IsRingFault, IsNamedFault, told}
+use Rattle.resolver_doc.specs.inner.Faults.{IsSetRingAt, IsSetRingFault, IsNamedFault, break_fault}
 use Rattle.resolver_doc.proofs.Breaks.{with_breaks-append}
 use Rattle.resolver_doc.proofs.First.{none_is_told}
 use Rattle.resolver_doc.proofs.HaveChoices.{order_chosen}
@@ -53,20 +53,17 @@ naming_taken root sets modifiers f g h i s m p q r t =
 pub none_broken : (bs : List Break) (i : Option Break) → first_of bs ≡ i → i ≡ None → bs ≡ []
 none_broken bs i e f = none_is_told bs (e ∙ f)
 
-pub some_named : (root : Placed) (b : Break) (i : Option Break) → first_of (naming_breaks root) ≡ i → i ≡ Some b → IsNamedFault root (told b [])
+pub some_named : (root : Placed) (b : Break) (i : Option Break) → first_of (naming_breaks root) ≡ i → i ≡ Some b → IsNamedFault root (break_fault b [])
 some_named root b i e f = (e ∙ f, refl)
 
 -- a break of a phase as the document's
-
-pub form_fault : (root : Placed) (b : Break) → first_of (form_breaks root) ≡ Some b → IsPlanFault root (told b [])
-form_fault root b e = inl (record { first = e; no_ring = refl })
 
 pub named_fault : (root : Placed) (f : PlanFault) → form_breaks root ≡ [] → IsNamedFault root f → IsPlanFault root f
 named_fault root (Broken rule start end ring) forms is = inr (inl (record { forms = forms; first = is.0; no_ring = is.1 }))
 named_fault root NoMemory forms is = tt
 
 pub ring_fault : (root : Placed) (sets : List Entry) (listed : List SetData) (f : PlanFault) → form_breaks root ≡ [] → naming_breaks root ≡ []
-    → sets ≡ set_entries root → listed ≡ (resolver_of root).sets → IsRingFault sets listed f → IsPlanFault root f
+    → sets ≡ set_entries root → listed ≡ (resolver_of root).sets → IsSetRingFault sets listed f → IsPlanFault root f
 ring_fault root sets listed (Broken rule start end names) forms named s l (ring, is, at) =
     inr (inr (record {
       forms = forms;
@@ -85,9 +82,6 @@ ring_fault root sets listed (Broken rule start end names) forms named s l (ring,
 ring_fault root sets listed NoMemory forms named s l is = tt
 
 -- the sets of a document are listed by what is known of them
-
-pub listed_known : (root : Placed) (sets : List Entry) (listed : List SetData) → sets ≡ set_entries root → listed ≡ (resolver_of root).sets → listed ≡ map (set_of sets) sets
-listed_known root sets listed s l = subst (λ (es : List Entry). listed ≡ map (set_of es) es) (sym s) l
 
 pub listed_sets : (root : Placed) (listed : List SetData) → listed ≡ (resolver_of root).sets → are_sets_right listed listed ≡ true
 listed_sets root listed l = subst (λ (xs : List SetData). are_sets_right xs xs ≡ true) (sym l) (listed_right (set_entries root))
@@ -111,7 +105,7 @@ module _ (graph : List (Vec ℕ Global)) (listed : List SetData) (rows : (v : �
 pub closes_of : (sets : List Entry) (listed : List SetData) (ring : List ℕ) → listed ≡ map (set_of sets) sets → IsRingOfSets listed ring → (string : Placed) × (ring_string sets ring ≡ Some string)
 closes_of sets listed ring l is = ring_closes sets ring (subst (λ (xs : List SetData). IsRingOfSets xs ring) l is)
 
-pub told_of : (sets : List Entry) (listed : List SetData) (ring : List ℕ) (f : PlanFault) → IsRingOfSets listed ring → IsRingAt sets ring f → IsRingFault sets listed f
+pub told_of : (sets : List Entry) (listed : List SetData) (ring : List ℕ) (f : PlanFault) → IsRingOfSets listed ring → IsSetRingAt sets ring f → IsSetRingFault sets listed f
 told_of sets listed ring (Broken rule start end names) is at = (ring, is, at)
 told_of sets listed ring NoMemory is at = absurd at
 

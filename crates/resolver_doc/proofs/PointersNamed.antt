@@ -5,7 +5,7 @@ use Rattle.std.specs.List.{position_from}
 use Rattle.std.specs.Str.{bytes_eq}
 use Rattle.json_span.specs.Tree.{Entry}
 use Rattle.name_path.proofs.Joins.{one_pointer}
-use Rattle.ring.specs.Routes.{In}
+use Rattle.ring.specs.Lists.{In}
 use Rattle.resolver_doc.specs.Document.{pointer}
 use Rattle.resolver_doc.specs.Laws.{PointersSpell, PointersFind}
 use Rattle.resolver_doc.proofs.RightSets.{found_from}

@@ -4,10 +4,10 @@ use Rattle.std.proofs.lemmas.Option.{slice_get-map}
 use Rattle.std.proofs.lemmas.Slice.Eq.{bytes_eq-Decides}
 use Rattle.std.specs.List.{position_from}
 use Rattle.std.specs.Str.{bytes_eq}
-use Rattle.json_span.specs.Tree.{Placed, Entry, under}
-use Rattle.resolver_doc.specs.Document.{SetData, set_item, resolver_of, elements_at, text_at, pointer, set_entries, modifier_entries, order_items, set_number, modifier_number, name_in, members_in, set_or_file, source_by, source_of, sources_of, sources_in, set_of, context_of, text_in, modifier_of, named_modifier, named_item, own_name, item_by, item_of}
-use Rattle.resolver_doc.specs.Form.{counted, context_entries, entries_at}
-use Rattle.resolver_doc.specs.Rings.{has_name, is_right, are_right, are_sets_right, is_item_right, are_items_right}
+use Rattle.json_span.specs.Tree.{Placed, Entry, value_of_name}
+use Rattle.resolver_doc.specs.Document.{SetData, set_item, resolver_of, elements_at, text_at, pointer, set_entries, modifier_entries, order_items, set_number, modifier_number, name_in, member_entries, set_or_file, source_by, source_of, sources_of, sources_in, set_of, context_of, text_in, modifier_of, named_modifier, named_item, own_name, item_by, item_of}
+use Rattle.resolver_doc.specs.Form.{unreserved, context_entries, entries_at}
+use Rattle.resolver_doc.specs.Rings.{is_set_named, is_right, are_right, are_sets_right, is_item_right, are_items_right}
 
 -- where a test first passes, there is an item
 pub record Stands {K : Type 0} (xs : List K) (k v : ℕ) : Type 0 where
@@ -50,11 +50,11 @@ module _ (sets : List Entry) where
   abbrev listed : List SetData
   listed = map (set_of sets) sets
 
-  named_right : (v : ℕ) (s : Stands sets 0 v) → has_name (name_in sets v) (slice_get listed v) ≡ true
+  named_right : (v : ℕ) (s : Stands sets 0 v) → is_set_named (name_in sets v) (slice_get listed v) ≡ true
   named_right v s =
       let z : v - 0 ≡ v = omega arith in
       let e : slice_get sets v ≡ Some s.item = subst (λ i. slice_get sets i ≡ Some s.item) z s.is in
-      ap (has_name (name_in sets v)) (slice_get-map (set_of sets) sets v ∙ ap (option_map (set_of sets)) e)
+      ap (is_set_named (name_in sets v)) (slice_get-map (set_of sets) sets v ∙ ap (option_map (set_of sets)) e)
       ∙ (ap (λ (name : List ℕ). bytes_eq s.item.name name) (ap (λ (o : Option Entry). unwrap_or (option_map (λ x. x.name) o) []) e) ∙ same_name s.item.name)
 
   named_by : (string : Placed) (o : Option ℕ) → set_number sets (text_at string) ≡ o → is_right listed (set_or_file sets string o) ≡ true
@@ -62,7 +62,7 @@ module _ (sets : List Entry) where
   named_by string (Some v) e = named_right v (found_from (λ x. bytes_eq (pointer (codes "sets") x) (text_at string)) 0 sets v e)
 
   source_right : (n : Placed) → is_right listed (source_of sets n) ≡ true
-  source_right n = at (under (codes "$ref") (entries_at n))
+  source_right n = at (value_of_name (codes "$ref") (entries_at n))
     where
       at : (o : Option Placed) → is_right listed (source_by sets n o) ≡ true
       at None = refl
@@ -73,7 +73,7 @@ module _ (sets : List Entry) where
   all_right (n ∷ ns) = ap (λ b. b && are_right listed (map (source_of sets) ns)) (source_right n) ∙ all_right ns
 
   sources_right : (es : List Entry) → are_right listed (sources_in sets es) ≡ true
-  sources_right es = at (under (codes "sources") es)
+  sources_right es = at (value_of_name (codes "sources") es)
     where
       at : (o : Option Placed) → are_right listed (unwrap_or (option_map (sources_of sets) o) []) ≡ true
       at None = refl
@@ -88,18 +88,18 @@ module _ (sets : List Entry) where
   contexts_right (e ∷ es) = ap (λ b. b && are_sets_right listed (map (context_of sets) es)) (all_right (elements_at e.value)) ∙ contexts_right es
 
   modifier_right : (name : List ℕ) (es : List Entry) → is_item_right listed (modifier_of sets name es) ≡ true
-  modifier_right name es = contexts_right (counted (context_entries es))
+  modifier_right name es = contexts_right (unreserved (context_entries es))
 
   item_right : (modifiers : List Entry) (n : Placed) → is_item_right listed (item_of sets modifiers n) ≡ true
-  item_right modifiers n = at (under (codes "$ref") (entries_at n))
+  item_right modifiers n = at (value_of_name (codes "$ref") (entries_at n))
     where
       modifier_named : (o : Option ℕ) → is_item_right listed (named_modifier sets modifiers o) ≡ true
       modifier_named None = refl
-      modifier_named (Some v) = modifier_right (name_in modifiers v) (members_in modifiers v)
+      modifier_named (Some v) = modifier_right (name_in modifiers v) (member_entries modifiers v)
 
       named : (text : List ℕ) (o : Option ℕ) → is_item_right listed (named_item sets modifiers text o) ≡ true
       named text None = modifier_named (modifier_number modifiers text)
-      named text (Some v) = sources_right (members_in sets v)
+      named text (Some v) = sources_right (member_entries sets v)
 
       own : (b : Bool) → is_item_right listed (if b then set_item (sources_in sets (entries_at n)) else modifier_of sets (own_name (entries_at n)) (entries_at n)) ≡ true
       own true = sources_right (entries_at n)

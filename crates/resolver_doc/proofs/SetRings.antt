@@ -7,13 +7,14 @@ use Rattle.std.proofs.lemmas.Option.{slice_get-map, slice_get_within}
 use Rattle.std.specs.List.{range_with_len}
 use Rattle.std.specs.declared.alloc.Global.{Global}
 use Rattle.std.specs.declared.vec.Vec.{Vec}
-use Rattle.json_span.specs.Tree.{Placed, Entry, under}
+use Rattle.json_span.specs.Tree.{Placed, Entry, value_of_name}
 use Rattle.ring.specs.Graph.{needs_in, IsGraph}
-use Rattle.ring.specs.Routes.{In, Leads, IsRoute, IsRing}
+use Rattle.ring.specs.Lists.{In}
+use Rattle.ring.specs.Routes.{IsChain, IsRoute, IsRing}
 use Rattle.ring.proofs.Ends.{in_cases, leads_tail}
-use Rattle.resolver_doc.specs.Document.{SourceData, file_source, set_source, inline_source, SetData, elements_at, text_at, set_number, members_in, set_or_file, source_by, source_of, sources_of, set_of}
+use Rattle.resolver_doc.specs.Document.{SourceData, file_source, set_source, inline_source, SetData, elements_at, text_at, set_number, member_entries, set_or_file, source_by, source_of, sources_of, set_of}
 use Rattle.resolver_doc.specs.Form.{entries_at}
-use Rattle.resolver_doc.specs.Rings.{set_in, sets_in, set_rows, set_needs, has_name, is_right, are_right, are_sets_right, is_set, naming_string, sources_at, last_of, ring_string}
+use Rattle.resolver_doc.specs.Rings.{set_in, sets_in, set_rows, set_needs, is_set_named, is_right, are_right, are_sets_right, is_set, naming_string, sources_at, last_of, ring_string}
 use Rattle.resolver_doc.proofs.RightSets.{listed_right}
 
 -- the rows of a table are its needs
@@ -48,7 +49,7 @@ both : (a b : Bool) → (a && b) ≡ true → (a ≡ true) × (b ≡ true)
 both true b e = (refl, e)
 both false b e = cc
 
-named_below : (sets : List SetData) (name : List ℕ) (v : ℕ) (o : Option SetData) → slice_get sets v ≡ o → has_name name o ≡ true → v < length sets
+named_below : (sets : List SetData) (name : List ℕ) (v : ℕ) (o : Option SetData) → slice_get sets v ≡ o → is_set_named name o ≡ true → v < length sets
 named_below sets name v None e h = cc
 named_below sets name v (Some s) e h = slice_get_within sets v s e
 
@@ -117,7 +118,7 @@ record Round (needs : ℕ → List ℕ) (ring : List ℕ) : Type 0 where
   first : ℕ
   rest : List ℕ
   is : ring ≡ first ∷ rest
-  leads : Leads needs first (rest ++ first ∷ [])
+  leads : IsChain needs first (rest ++ first ∷ [])
 
 round_of : (needs : ℕ → List ℕ) (root : ℕ) (ring : List ℕ) → IsRing needs root ring → Round needs ring
 round_of needs root ring r =
@@ -125,20 +126,20 @@ round_of needs root ring r =
     let e : r.route ≡ p.before ++ p.last ∷ (p.rest ++ p.last ∷ []) = p.whole ∙ ap (λ (xs : List ℕ). p.before ++ (xs ++ p.last ∷ [])) p.begins in
     record { first = p.last; rest = p.rest; is = p.begins; leads = behind p.before p.last (p.rest ++ p.last ∷ []) (subst (IsRoute needs root) e r.first.closed.steps) }
   where
-    behind : (xs : List ℕ) (x : ℕ) (ys : List ℕ) → IsRoute needs root (xs ++ x ∷ ys) → Leads needs x ys
+    behind : (xs : List ℕ) (x : ℕ) (ys : List ℕ) → IsRoute needs root (xs ++ x ∷ ys) → IsChain needs x ys
     behind [] x ys s = s.1
     behind (z ∷ xs) x ys s = leads_tail needs z xs x ys s.1
 
-closes_last : (needs : ℕ → List ℕ) (v first : ℕ) (vs : List ℕ) → Leads needs v (vs ++ first ∷ []) → In first (needs (last_of v vs))
+closes_last : (needs : ℕ → List ℕ) (v first : ℕ) (vs : List ℕ) → IsChain needs v (vs ++ first ∷ []) → In first (needs (last_of v vs))
 closes_last needs v first [] l = l.0
 closes_last needs v first (w ∷ ws) l = closes_last needs w first ws l.1
 
 module _ (n : ℕ) (needs : ℕ → List ℕ) (below : (v w : ℕ) → In w (needs v) → w < n) where
-  pub first_below : (v first : ℕ) (vs : List ℕ) → Leads needs v (vs ++ first ∷ []) → first < n
+  pub first_below : (v first : ℕ) (vs : List ℕ) → IsChain needs v (vs ++ first ∷ []) → first < n
   first_below v first [] l = below v first l.0
   first_below v first (w ∷ ws) l = first_below w first ws l.1
 
-  last_below : (v first : ℕ) (vs : List ℕ) → v < n → Leads needs v (vs ++ first ∷ []) → last_of v vs < n
+  last_below : (v first : ℕ) (vs : List ℕ) → v < n → IsChain needs v (vs ++ first ∷ []) → last_of v vs < n
   last_below v first [] h l = h
   last_below v first (w ∷ ws) h l = last_below w first ws (below v w l.0) l.1
 
@@ -173,7 +174,7 @@ named_at sets w n ns (Some string) later j = named_here sets w ns string (set_nu
 named_found : (sets : List Entry) (w : ℕ) (ns : List Placed) → In w (sets_in (map (source_of sets) ns)) → Found Placed (naming_string sets w ns)
 named_found sets w [] i = absurd i
 named_found sets w (n ∷ ns) i =
-    named_at sets w n ns (under (codes "$ref") (entries_at n)) (named_found sets w ns)
+    named_at sets w n ns (value_of_name (codes "$ref") (entries_at n)) (named_found sets w ns)
     (in_cases (set_in (source_of sets n)) (sets_in (map (source_of sets) ns)) w i)
 
 -- the row of a set
@@ -199,9 +200,9 @@ module _ (sets : List Entry) where
       let e = within sets v (subst (λ n. v < n) (length-map sets (set_of sets)) h) in
       let s : slice_get listed v ≡ Some (set_of sets e.item) = slice_get-map (set_of sets) sets v ∙ ap (option_map (set_of sets)) e.is in
       let row = row_of listed (range_with_len 0 (length listed) ∷ []) v (set_of sets e.item) s in
-      let members : members_in sets v ≡ entries_at e.item.value = ap (λ (o : Option Entry). unwrap_or (option_map (λ x. entries_at x.value) o) []) e.is in
-      subst (λ (es : List Entry). Found Placed (naming_string sets w (unwrap_or (option_map elements_at (under (codes "sources") es)) []))) (sym members)
-      (at (under (codes "sources") (entries_at e.item.value)) (subst (In w) row i))
+      let members : member_entries sets v ≡ entries_at e.item.value = ap (λ (o : Option Entry). unwrap_or (option_map (λ x. entries_at x.value) o) []) e.is in
+      subst (λ (es : List Entry). Found Placed (naming_string sets w (unwrap_or (option_map elements_at (value_of_name (codes "sources") es)) []))) (sym members)
+      (at (value_of_name (codes "sources") (entries_at e.item.value)) (subst (In w) row i))
     where
       at : (o : Option Placed) → In w (sets_in (unwrap_or (option_map (sources_of sets) o) [])) → Found Placed (naming_string sets w (unwrap_or (option_map elements_at o) []))
       at None j = absurd j
@@ -249,5 +250,5 @@ ring_string_is sets (v ∷ vs) first last f l =
 
 -- the string among the sources of the last set
 pub ring_string_at : (sets : List Entry) (ring : List ℕ) (first last : ℕ) (o : Option Placed) → Some first ≡ slice_get ring 0 → Some last ≡ slice_get ring (length ring - 1)
-    → o ≡ under (codes "sources") (members_in sets last) → naming_string sets first (unwrap_or (option_map elements_at o) []) ≡ ring_string sets ring
+    → o ≡ value_of_name (codes "sources") (member_entries sets last) → naming_string sets first (unwrap_or (option_map elements_at o) []) ≡ ring_string sets ring
 ring_string_at sets ring first last o f l e = ap (λ (x : Option Placed). naming_string sets first (unwrap_or (option_map elements_at x) [])) e ∙ ring_string_is sets ring first last f l

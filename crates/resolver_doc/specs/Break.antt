@@ -1,34 +1,34 @@
 -- Broken rules with their spans, and which of several is told.
 use Rattle.std.specs.Prelude.{◌≡◌, ℕ, ◌==◌, ◌&&◌, ◌||◌, Bool, false, nat_lt, fold, List, [], ◌∷◌, Option, Some, None, if◌then◌else◌}
 use Rattle.json_span.specs.Tree.{Placed, Entry, start_of, end_of}
-use Rattle.ring.specs.Routes.{In}
+use Rattle.ring.specs.Lists.{In}
 use Rattle.resolver_doc.specs.declared.rule.PlanRule.{PlanRule}
 use Rattle.resolver_doc.specs.declared.rule.PlanRule.TheVariants.{Version, Shape, Reference, ModifierInSet, Contexts, Default, Duplicate, Cycle}
 use Rattle.resolver_doc.specs.declared.rule.Break.{Break}
 
 -- the place of a rule among the rules
-abbrev pub number_of : PlanRule → ℕ
-number_of Version = 1
-number_of Shape = 2
-number_of Reference = 3
-number_of ModifierInSet = 4
-number_of Contexts = 5
-number_of Default = 6
-number_of Duplicate = 7
-number_of Cycle = 8
+abbrev pub rule_number : PlanRule → ℕ
+rule_number Version = 1
+rule_number Shape = 2
+rule_number Reference = 3
+rule_number ModifierInSet = 4
+rule_number Contexts = 5
+rule_number Default = 6
+rule_number Duplicate = 7
+rule_number Cycle = 8
 
 -- a break whose span starts earlier, and of equal starts that of the lower number
 abbrev pub is_before : Break → Break → Bool
-is_before a b = nat_lt a.start b.start || ((a.start == b.start) && nat_lt (number_of a.rule) (number_of b.rule))
+is_before a b = nat_lt a.start b.start || ((a.start == b.start) && nat_lt (rule_number a.rule) (rule_number b.rule))
 
 -- the first of a break so far and another
-abbrev pub taken : Option Break → Break → Option Break
-taken None new = Some new
-taken (Some old) new = if is_before new old then Some new else Some old
+abbrev pub earlier : Option Break → Break → Option Break
+earlier None new = Some new
+earlier (Some old) new = if is_before new old then Some new else Some old
 
 -- the first of a break so far and others
 abbrev pub with_breaks : Option Break → List Break → Option Break
-with_breaks first breaks = fold taken first breaks
+with_breaks first breaks = fold earlier first breaks
 
 -- the first of the breaks
 abbrev pub first_of : List Break → Option Break

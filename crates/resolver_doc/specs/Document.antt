@@ -3,10 +3,11 @@
 use Rattle.std.specs.Prelude.{ℕ, Bool, true, false, ◌==◌, ◌&&◌, List, [], ◌∷◌, codes, map, Option, Some, None, if◌then◌else◌, option_map, option_and_then, unwrap_or, slice_get}
 use Rattle.std.specs.List.{position_from, list_all}
 use Rattle.std.specs.Str.{bytes_eq}
-use Rattle.json_span.specs.Tree.{Placed, Entry, tree_of, start_of, end_of, string_in, array_in, under}
+use Rattle.tk_io.specs.Characters.{full_stop, solidus}
+use Rattle.json_span.specs.Tree.{Placed, Entry, tree_of, start_of, end_of, string_in, array_in, value_of_name}
 use Rattle.name_path.specs.Reference.{pointer_text}
-use Rattle.ring.specs.Routes.{AreApart}
-use Rattle.resolver_doc.specs.Form.{counted, context_entries, entries_at}
+use Rattle.ring.specs.Lists.{AreApart}
+use Rattle.resolver_doc.specs.Form.{unreserved, context_entries, entries_at}
 
 -- A source as it is written: a file by its name and the span of the string that names it, a set by its name and its number,
 -- or tokens that are written in the document.
@@ -38,7 +39,7 @@ text_at n = unwrap_or (string_in (tree_of n)) []
 
 -- the members of an object that count, and where an object has the name of a section, those of that section
 abbrev pub section : List ℕ → List Entry → List Entry
-section name es = counted (unwrap_or (option_map entries_at (under name es)) [])
+section name es = unreserved (unwrap_or (option_map entries_at (value_of_name name es)) [])
 
 abbrev pub set_entries : Placed → List Entry
 set_entries root = section (codes "sets") (entries_at root)
@@ -47,34 +48,34 @@ abbrev pub modifier_entries : Placed → List Entry
 modifier_entries root = section (codes "modifiers") (entries_at root)
 
 abbrev pub order_items : Placed → List Placed
-order_items root = unwrap_or (option_map elements_at (under (codes "resolutionOrder") (entries_at root))) []
+order_items root = unwrap_or (option_map elements_at (value_of_name (codes "resolutionOrder") (entries_at root))) []
 
 -- the members of a section are named by pointers: `#/sets/` and a set's name, `#/modifiers/` and a modifier's name
 abbrev pub pointer : List ℕ → Entry → List ℕ
 pointer name e = pointer_text (name ∷ e.name ∷ [])
 
 -- the number of the first member that the text points to
-abbrev pub pointed : List ℕ → List Entry → List ℕ → Option ℕ
-pointed name es text = position_from (λ e. bytes_eq (pointer name e) text) 0 es
+abbrev pub pointed_number : List ℕ → List Entry → List ℕ → Option ℕ
+pointed_number name es text = position_from (λ e. bytes_eq (pointer name e) text) 0 es
 
 abbrev pub set_number : List Entry → List ℕ → Option ℕ
-set_number sets text = pointed (codes "sets") sets text
+set_number sets text = pointed_number (codes "sets") sets text
 
 abbrev pub modifier_number : List Entry → List ℕ → Option ℕ
-modifier_number modifiers text = pointed (codes "modifiers") modifiers text
+modifier_number modifiers text = pointed_number (codes "modifiers") modifiers text
 
 -- the name and the members of the member of a number
 abbrev pub name_in : List Entry → ℕ → List ℕ
 name_in es v = unwrap_or (option_map (λ e. e.name) (slice_get es v)) []
 
-abbrev pub members_in : List Entry → ℕ → List Entry
-members_in es v = unwrap_or (option_map (λ e. entries_at e.value) (slice_get es v)) []
+abbrev pub member_entries : List Entry → ℕ → List Entry
+member_entries es v = unwrap_or (option_map (λ e. entries_at e.value) (slice_get es v)) []
 
 -- a file's name is the text without its leading `./`, as often as that stands there
 abbrev pub without_dots : List ℕ → List ℕ
 without_dots [] = []
 without_dots (b ∷ []) = b ∷ []
-without_dots (b ∷ c ∷ cs) = if (b == 46) && (c == 47) then without_dots cs else b ∷ c ∷ cs
+without_dots (b ∷ c ∷ cs) = if (b == full_stop) && (c == solidus) then without_dots cs else b ∷ c ∷ cs
 
 -- the source that a string names: a set, and else a file
 abbrev pub set_or_file : List Entry → Placed → Option ℕ → SourceData
@@ -87,14 +88,14 @@ source_by sets n (Some string) = set_or_file sets string (set_number sets (text_
 
 -- an object with `$ref` is a reference, and any other is tokens
 abbrev pub source_of : List Entry → Placed → SourceData
-source_of sets n = source_by sets n (under (codes "$ref") (entries_at n))
+source_of sets n = source_by sets n (value_of_name (codes "$ref") (entries_at n))
 
 abbrev pub sources_of : List Entry → Placed → List SourceData
 sources_of sets n = map (source_of sets) (elements_at n)
 
 -- the sources of a set with these members
 abbrev pub sources_in : List Entry → List Entry → List SourceData
-sources_in sets es = unwrap_or (option_map (sources_of sets) (under (codes "sources") es)) []
+sources_in sets es = unwrap_or (option_map (sources_of sets) (value_of_name (codes "sources") es)) []
 
 abbrev pub set_of : List Entry → Entry → SetData
 set_of sets e = record { name = e.name; sources = sources_in sets (entries_at e.value) }
@@ -104,20 +105,20 @@ context_of sets e = record { name = e.name; sources = sources_of sets e.value }
 
 -- the text of a member, where it is one
 abbrev pub text_in : List ℕ → List Entry → Option (List ℕ)
-text_in name es = option_and_then (λ n. string_in (tree_of n)) (under name es)
+text_in name es = option_and_then (λ n. string_in (tree_of n)) (value_of_name name es)
 
 -- a modifier of this name with these members
 abbrev pub modifier_of : List Entry → List ℕ → List Entry → ItemData
-modifier_of sets name es = modifier_item name (map (context_of sets) (counted (context_entries es))) (text_in (codes "default") es)
+modifier_of sets name es = modifier_item name (map (context_of sets) (unreserved (context_entries es))) (text_in (codes "default") es)
 
 -- an item that is a reference is what it names
 abbrev pub named_modifier : List Entry → List Entry → Option ℕ → ItemData
 named_modifier sets modifiers None = set_item []
-named_modifier sets modifiers (Some v) = modifier_of sets (name_in modifiers v) (members_in modifiers v)
+named_modifier sets modifiers (Some v) = modifier_of sets (name_in modifiers v) (member_entries modifiers v)
 
 abbrev pub named_item : List Entry → List Entry → List ℕ → Option ℕ → ItemData
 named_item sets modifiers text None = named_modifier sets modifiers (modifier_number modifiers text)
-named_item sets modifiers text (Some v) = set_item (sources_in sets (members_in sets v))
+named_item sets modifiers text (Some v) = set_item (sources_in sets (member_entries sets v))
 
 -- any other is a set or a modifier of its own
 abbrev pub own_name : List Entry → List ℕ
@@ -133,7 +134,7 @@ item_by sets modifiers es None = own_item sets es
 item_by sets modifiers es (Some string) = named_item sets modifiers (text_at string) (set_number sets (text_at string))
 
 abbrev pub item_of : List Entry → List Entry → Placed → ItemData
-item_of sets modifiers n = item_by sets modifiers (entries_at n) (under (codes "$ref") (entries_at n))
+item_of sets modifiers n = item_by sets modifiers (entries_at n) (value_of_name (codes "$ref") (entries_at n))
 
 -- what the document says
 abbrev pub resolver_of : Placed → ResolverData

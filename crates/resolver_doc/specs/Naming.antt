@@ -2,12 +2,12 @@
 use Rattle.std.specs.Prelude.{ℕ, Bool, ◌||◌, List, [], ◌∷◌, ◌++◌, codes, nat_eq, Option, Some, None, is_some, if◌then◌else◌, unwrap_or}
 use Rattle.std.specs.List.{flat_map, list_any, starts_with}
 use Rattle.std.specs.Str.{bytes_eq}
-use Rattle.json_span.specs.Tree.{Placed, Entry, under}
+use Rattle.json_span.specs.Tree.{Placed, Entry, value_of_name}
 use Rattle.edit_script.specs.Script.{is_path}
 use Rattle.resolver_doc.specs.declared.rule.PlanRule.TheVariants.{Reference, ModifierInSet, Duplicate}
 use Rattle.resolver_doc.specs.declared.rule.Break.{Break}
 use Rattle.resolver_doc.specs.Break.{at_value}
-use Rattle.resolver_doc.specs.Form.{counted, context_entries, entries_at}
+use Rattle.resolver_doc.specs.Form.{unreserved, context_entries, entries_at}
 use Rattle.resolver_doc.specs.Document.{elements_at, text_at, set_entries, modifier_entries, order_items, set_number, modifier_number, name_in, without_dots, text_in}
 
 -- a source names a set, or a file whose name is a path; none names a modifier
@@ -25,16 +25,16 @@ of_each breaks None = []
 of_each breaks (Some x) = breaks x
 
 abbrev pub source_breaks : List Entry → Placed → List Break
-source_breaks sets n = of_each (named_breaks sets) (under (codes "$ref") (entries_at n))
+source_breaks sets n = of_each (named_breaks sets) (value_of_name (codes "$ref") (entries_at n))
 
 abbrev pub sources_breaks : List Entry → Placed → List Break
 sources_breaks sets n = flat_map (source_breaks sets) (elements_at n)
 
 abbrev pub set_breaks : List Entry → List Entry → List Break
-set_breaks sets es = of_each (sources_breaks sets) (under (codes "sources") es)
+set_breaks sets es = of_each (sources_breaks sets) (value_of_name (codes "sources") es)
 
 abbrev pub modifier_breaks : List Entry → List Entry → List Break
-modifier_breaks sets es = flat_map (λ e. sources_breaks sets e.value) (counted (context_entries es))
+modifier_breaks sets es = flat_map (λ e. sources_breaks sets e.value) (unreserved (context_entries es))
 
 -- an item names a set or a modifier
 abbrev pub names_item : List Entry → List Entry → List ℕ → Bool
@@ -54,7 +54,7 @@ item_breaks_by sets modifiers es None = own_breaks sets es
 item_breaks_by sets modifiers es (Some string) = named_item_breaks sets modifiers string
 
 abbrev pub item_breaks : List Entry → List Entry → Placed → List Break
-item_breaks sets modifiers n = item_breaks_by sets modifiers (entries_at n) (under (codes "$ref") (entries_at n))
+item_breaks sets modifiers n = item_breaks_by sets modifiers (entries_at n) (value_of_name (codes "$ref") (entries_at n))
 
 -- the name of an item, and the string that says it; a reference that names nothing has none
 abbrev pub name_of_number : List Entry → List Entry → Option ℕ → Option ℕ → Option (List ℕ)
@@ -68,14 +68,14 @@ item_name_by sets modifiers es (Some string) =
     name_of_number sets modifiers (set_number sets (text_at string)) (modifier_number modifiers (text_at string))
 
 abbrev pub item_name : List Entry → List Entry → Placed → Option (List ℕ)
-item_name sets modifiers n = item_name_by sets modifiers (entries_at n) (under (codes "$ref") (entries_at n))
+item_name sets modifiers n = item_name_by sets modifiers (entries_at n) (value_of_name (codes "$ref") (entries_at n))
 
 abbrev pub name_string_by : List Entry → Option Placed → Option Placed
-name_string_by es None = under (codes "name") es
+name_string_by es None = value_of_name (codes "name") es
 name_string_by es (Some string) = Some string
 
 abbrev pub name_string : Placed → Option Placed
-name_string n = name_string_by (entries_at n) (under (codes "$ref") (entries_at n))
+name_string n = name_string_by (entries_at n) (value_of_name (codes "$ref") (entries_at n))
 
 -- a name that an earlier item has
 abbrev pub is_among : List ℕ → List (List ℕ) → Bool
@@ -89,7 +89,7 @@ abbrev pub with_name : List (List ℕ) → Option (List ℕ) → List (List ℕ)
 with_name before None = before
 with_name before (Some name) = name ∷ before
 
--- of items, behind others that have these names
+-- of items, after others that have these names
 abbrev pub repeats : List Entry → List Entry → List (List ℕ) → List Placed → List Break
 repeats sets modifiers before [] = []
 repeats sets modifiers before (n ∷ ns) =

@@ -5,11 +5,11 @@ use Rattle.std.specs.List.{flat_map, list_all, range_with_len}
 use Rattle.std.specs.Str.{bytes_eq}
 use Rattle.std.specs.declared.alloc.Global.{Global}
 use Rattle.std.specs.declared.vec.Vec.{Vec}
-use Rattle.json_span.specs.Tree.{Placed, Entry, start_of, end_of, under}
+use Rattle.json_span.specs.Tree.{Placed, Entry, start_of, end_of, value_of_name}
 use Rattle.ring.specs.Graph.{needs_in}
 use Rattle.ring.specs.Routes.{IsRing, HasNoRing}
 use Rattle.resolver_doc.specs.Form.{entries_at}
-use Rattle.resolver_doc.specs.Document.{SourceData, file_source, set_source, inline_source, SetData, ItemData, set_item, modifier_item, elements_at, set_entries, name_in, members_in, source_of, resolver_of}
+use Rattle.resolver_doc.specs.Document.{SourceData, file_source, set_source, inline_source, SetData, ItemData, set_item, modifier_item, elements_at, set_entries, name_in, member_entries, source_of, resolver_of}
 
 -- the numbers of the sets that sources name, in order
 abbrev pub set_in : SourceData → List ℕ
@@ -39,13 +39,13 @@ abbrev pub HasNoRingOfSets : List SetData → Type 0
 HasNoRingOfSets sets = HasNoRing (set_needs sets) (length sets)
 
 -- each reference to a set has the name and the number of one of the sets
-abbrev pub has_name : List ℕ → Option SetData → Bool
-has_name name None = false
-has_name name (Some s) = bytes_eq s.name name
+abbrev pub is_set_named : List ℕ → Option SetData → Bool
+is_set_named name None = false
+is_set_named name (Some s) = bytes_eq s.name name
 
 abbrev pub is_right : List SetData → SourceData → Bool
 is_right sets (file_source name start end) = true
-is_right sets (set_source name v) = has_name name (slice_get sets v)
+is_right sets (set_source name v) = is_set_named name (slice_get sets v)
 is_right sets (inline_source n) = true
 
 abbrev pub are_right : List SetData → List SourceData → Bool
@@ -70,10 +70,10 @@ is_set v (inline_source n) = false
 abbrev pub naming_string : List Entry → ℕ → List Placed → Option Placed
 naming_string sets v [] = None
 naming_string sets v (n ∷ ns) =
-    if is_set v (source_of sets n) then under (codes "$ref") (entries_at n) else naming_string sets v ns
+    if is_set v (source_of sets n) then value_of_name (codes "$ref") (entries_at n) else naming_string sets v ns
 
 abbrev pub sources_at : List Entry → ℕ → List Placed
-sources_at sets v = unwrap_or (option_map elements_at (under (codes "sources") (members_in sets v))) []
+sources_at sets v = unwrap_or (option_map elements_at (value_of_name (codes "sources") (member_entries sets v))) []
 
 abbrev pub last_of : ℕ → List ℕ → ℕ
 last_of v [] = v

@@ -2,10 +2,10 @@
 
 ghost use Rattle.std.specs.Prelude.{◌≡◌, IfOk, OnOk, codes};
 ghost use Rattle.std.specs.List.{flat_map};
-ghost use Rattle.json_span.specs.Tree.{under};
+ghost use Rattle.json_span.specs.Tree.{value_of_name};
 ghost use Rattle.json_span.specs.View.{ref_view, fields_view};
 ghost use Rattle.resolver_doc.specs.Break.{with_breaks, first_of};
-ghost use Rattle.resolver_doc.specs.Form.{counted, optional, needed, each_value, set, modifier, a_list, typed, item_type, item_members, item, version, document_members, form_breaks};
+ghost use Rattle.resolver_doc.specs.Form.{unreserved, optional_member, needed_member, each_value, set_form, modifier_form, list_with, typed_form, item_type, item_members, item_form, version_form, document_members, form_breaks};
 
 use crate::form::{
     is_counted, is_reference, modifier, modifier_members, needed_text, optional_text, reference,
@@ -24,7 +24,8 @@ fn typed(
     word: &str,
     first: &mut Option<Break>,
 ) -> Result<(), NoMemory>
-    ensures { OnOk result (first.new ≡ with_breaks first.old (typed (ref_view owner.entry) (fields_view fields.now) (ref_view node.entry) word.now)) }
+    ensures { OnOk result (first.new ≡ with_breaks first.old
+        (typed_form (ref_view owner.entry) (fields_view fields.now) (ref_view node.entry) word.now)) }
 {
     if word == "set" {
         needed_text(owner, fields, "name", first);
@@ -47,7 +48,8 @@ fn item_type(
     node: NodeRef<'_, '_>,
     first: &mut Option<Break>,
 ) -> Result<(), NoMemory>
-    ensures { OnOk result (first.new ≡ with_breaks first.old (item_type (ref_view owner.entry) (fields_view fields.now) (ref_view node.entry))) }
+    ensures { OnOk result (first.new ≡ with_breaks first.old
+        (item_type (ref_view owner.entry) (fields_view fields.now) (ref_view node.entry))) }
 {
     let Some(word) = node.as_text(alloc)? else {
         at_value(PlanRule::Shape, node, first);
@@ -63,7 +65,8 @@ fn item_members(
     fields: &Fields<'_, '_>,
     first: &mut Option<Break>,
 ) -> Result<(), NoMemory>
-    ensures { OnOk result (first.new ≡ with_breaks first.old (item_members (ref_view owner.entry) (fields_view fields.now))) }
+    ensures { OnOk result (first.new
+        ≡ with_breaks first.old (item_members (ref_view owner.entry) (fields_view fields.now))) }
 {
     if is_reference(fields) {
         reference(alloc, fields, first)?;
@@ -78,7 +81,7 @@ fn item_members(
 }
 
 fn item(alloc: Global, node: NodeRef<'_, '_>, first: &mut Option<Break>) -> Result<(), NoMemory>
-    ensures { OnOk result (first.new ≡ with_breaks first.old (item (ref_view node.entry))) }
+    ensures { OnOk result (first.new ≡ with_breaks first.old (item_form (ref_view node.entry))) }
 {
     let Some(fields) = node.as_object() else {
         at_value(PlanRule::Shape, node, first);
@@ -89,7 +92,8 @@ fn item(alloc: Global, node: NodeRef<'_, '_>, first: &mut Option<Break>) -> Resu
 }
 
 fn items(alloc: Global, node: NodeRef<'_, '_>, first: &mut Option<Break>) -> Result<(), NoMemory>
-    ensures { OnOk result (first.new ≡ with_breaks first.old (a_list item (ref_view node.entry))) }
+    ensures { OnOk result
+        (first.new ≡ with_breaks first.old (list_with item_form (ref_view node.entry))) }
 {
     let Some(items) = node.as_array() else {
         at_value(PlanRule::Shape, node, first);
@@ -107,7 +111,9 @@ fn order(
     fields: &Fields<'_, '_>,
     first: &mut Option<Break>,
 ) -> Result<(), NoMemory>
-    ensures { OnOk result (first.new ≡ with_breaks first.old (needed (a_list item) (ref_view root.entry) (under (codes "resolutionOrder") (fields_view fields.now)))) }
+    ensures { OnOk result (first.new ≡ with_breaks first.old
+        (needed_member (list_with item_form) (ref_view root.entry)
+        (value_of_name (codes "resolutionOrder") (fields_view fields.now)))) }
 {
     let Some(node) = fields.get("resolutionOrder") else {
         at_value(PlanRule::Shape, root, first);
@@ -118,7 +124,8 @@ fn order(
 }
 
 fn each_set(alloc: Global, node: NodeRef<'_, '_>, first: &mut Option<Break>) -> Result<(), NoMemory>
-    ensures { OnOk result (first.new ≡ with_breaks first.old (each_value set (ref_view node.entry))) }
+    ensures { OnOk result
+        (first.new ≡ with_breaks first.old (each_value set_form (ref_view node.entry))) }
 {
     let Some(fields) = node.as_object() else {
         at_value(PlanRule::Shape, node, first);
@@ -133,7 +140,8 @@ fn each_set(alloc: Global, node: NodeRef<'_, '_>, first: &mut Option<Break>) -> 
 }
 
 fn sets(alloc: Global, fields: &Fields<'_, '_>, first: &mut Option<Break>) -> Result<(), NoMemory>
-    ensures { OnOk result (first.new ≡ with_breaks first.old (optional (each_value set) (under (codes "sets") (fields_view fields.now)))) }
+    ensures { OnOk result (first.new ≡ with_breaks first.old
+        (optional_member (each_value set_form) (value_of_name (codes "sets") (fields_view fields.now)))) }
 {
     let Some(node) = fields.get("sets") else {
         return Ok(());
@@ -147,7 +155,8 @@ fn each_modifier(
     node: NodeRef<'_, '_>,
     first: &mut Option<Break>,
 ) -> Result<(), NoMemory>
-    ensures { OnOk result (first.new ≡ with_breaks first.old (each_value modifier (ref_view node.entry))) }
+    ensures { OnOk result
+        (first.new ≡ with_breaks first.old (each_value modifier_form (ref_view node.entry))) }
 {
     let Some(fields) = node.as_object() else {
         at_value(PlanRule::Shape, node, first);
@@ -166,7 +175,9 @@ fn modifiers(
     fields: &Fields<'_, '_>,
     first: &mut Option<Break>,
 ) -> Result<(), NoMemory>
-    ensures { OnOk result (first.new ≡ with_breaks first.old (optional (each_value modifier) (under (codes "modifiers") (fields_view fields.now)))) }
+    ensures { OnOk result (first.new ≡ with_breaks first.old
+        (optional_member (each_value modifier_form)
+        (value_of_name (codes "modifiers") (fields_view fields.now)))) }
 {
     let Some(node) = fields.get("modifiers") else {
         return Ok(());
@@ -176,7 +187,7 @@ fn modifiers(
 }
 
 fn version(alloc: Global, root: NodeRef<'_, '_>, first: &mut Option<Break>) -> Result<(), NoMemory>
-    ensures { OnOk result (first.new ≡ with_breaks first.old (version (ref_view root.entry))) }
+    ensures { OnOk result (first.new ≡ with_breaks first.old (version_form (ref_view root.entry))) }
 {
     let Some(fields) = root.as_object() else {
         at_value(PlanRule::Version, root, first);
@@ -203,7 +214,8 @@ fn members(
     fields: &Fields<'_, '_>,
     first: &mut Option<Break>,
 ) -> Result<(), NoMemory>
-    ensures { OnOk result (first.new ≡ with_breaks first.old (document_members (ref_view root.entry) (fields_view fields.now))) }
+    ensures { OnOk result (first.new
+        ≡ with_breaks first.old (document_members (ref_view root.entry) (fields_view fields.now))) }
 {
     optional_text(fields, "name", first);
     optional_text(fields, "description", first);

@@ -9,7 +9,7 @@ use std::alloc::{AllocError, AllocFailed};
 use tk_io::NoMemory;
 
 /// Why a resolver document is refused.
-#[derive(Drop)]
+#[derive(Debug, Drop)]
 pub enum PlanFault<'s> {
     /// A rule is broken: the first break of the first phase that has one. The forms are looked at first, then references
     /// and names of items, and then rings of sets.

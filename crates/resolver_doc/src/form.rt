@@ -2,11 +2,11 @@
 
 ghost use Rattle.std.specs.Prelude.{◌≡◌, not, is_some, codes, IfOk, OnOk};
 ghost use Rattle.std.specs.List.{flat_map};
-ghost use Rattle.json_span.specs.Tree.{string_in, under};
+ghost use Rattle.json_span.specs.Tree.{string_in, value_of_name};
 ghost use Rattle.json_span.specs.View.{ref_view, json_view, field_view, fields_view};
 ghost use Rattle.resolver_doc.specs.Break.{with_breaks, at_name};
 ghost use Rattle.resolver_doc.specs.declared.rule.PlanRule.TheVariants.{Shape};
-ghost use Rattle.resolver_doc.specs.Form.{is_reserved, counted, optional, needed, text, reference, is_reference, source, sources, set_members, set, has_context, context, counts_some, contexts, context_entries, default, modifier_members, modifier};
+ghost use Rattle.resolver_doc.specs.Form.{is_reserved, unreserved, optional_member, needed_member, text_form, reference_form, has_ref, source_form, sources_form, set_members, set_form, has_context, context_form, counts_some, contexts_form, context_entries, default_form, modifier_members, modifier_form};
 
 use crate::rule::{Break, PlanRule, at_name, at_value};
 use json_span::{Field, Fields, NodeRef, ValueType};
@@ -27,7 +27,7 @@ fn is_text(node: NodeRef<'_, '_>) -> bool
 }
 
 fn text(node: NodeRef<'_, '_>, first: &mut Option<Break>)
-    ensures { first.new ≡ with_breaks first.old (text (ref_view node.entry)) }
+    ensures { first.new ≡ with_breaks first.old (text_form (ref_view node.entry)) }
 {
     if !is_text(node) {
         at_value(PlanRule::Shape, node, first);
@@ -35,7 +35,8 @@ fn text(node: NodeRef<'_, '_>, first: &mut Option<Break>)
 }
 
 pub(crate) fn optional_text(fields: &Fields<'_, '_>, name: &str, first: &mut Option<Break>)
-    ensures { first.new ≡ with_breaks first.old (optional text (under name.now (fields_view fields.now))) }
+    ensures { first.new ≡ with_breaks first.old
+        (optional_member text_form (value_of_name name.now (fields_view fields.now))) }
 {
     if let Some(node) = fields.get(name) {
         text(node, first);
@@ -48,7 +49,8 @@ pub(crate) fn needed_text(
     name: &str,
     first: &mut Option<Break>,
 )
-    ensures { first.new ≡ with_breaks first.old (needed text (ref_view owner.entry) (under name.now (fields_view fields.now))) }
+    ensures { first.new ≡ with_breaks first.old
+        (needed_member text_form (ref_view owner.entry) (value_of_name name.now (fields_view fields.now))) }
 {
     match fields.get(name) {
         Some(node) => text(node, first),
@@ -72,7 +74,8 @@ fn neighbors(
     fields: &Fields<'_, '_>,
     first: &mut Option<Break>,
 ) -> Result<(), NoMemory>
-    ensures { OnOk result (first.new ≡ with_breaks first.old (flat_map (at_name Shape) (counted (fields_view fields.now)))) }
+    ensures { OnOk result (first.new
+        ≡ with_breaks first.old (flat_map (at_name Shape) (unreserved (fields_view fields.now)))) }
 {
     for field in *fields {
         if is_counted(alloc, field)? {
@@ -83,7 +86,7 @@ fn neighbors(
 }
 
 pub(crate) fn is_reference(fields: &Fields<'_, '_>) -> bool
-    ensures { result ≡ is_reference (fields_view fields.now) }
+    ensures { result ≡ has_ref (fields_view fields.now) }
 {
     fields.get("$ref").is_some()
 }
@@ -93,7 +96,8 @@ pub(crate) fn reference(
     fields: &Fields<'_, '_>,
     first: &mut Option<Break>,
 ) -> Result<(), NoMemory>
-    ensures { OnOk result (first.new ≡ with_breaks first.old (reference (fields_view fields.now))) }
+    ensures { OnOk result
+        (first.new ≡ with_breaks first.old (reference_form (fields_view fields.now))) }
 {
     optional_text(fields, "$ref", first);
     neighbors(alloc, fields, first)?;
@@ -101,7 +105,7 @@ pub(crate) fn reference(
 }
 
 fn source(alloc: Global, node: NodeRef<'_, '_>, first: &mut Option<Break>) -> Result<(), NoMemory>
-    ensures { OnOk result (first.new ≡ with_breaks first.old (source (ref_view node.entry))) }
+    ensures { OnOk result (first.new ≡ with_breaks first.old (source_form (ref_view node.entry))) }
 {
     let Some(fields) = node.as_object() else {
         at_value(PlanRule::Shape, node, first);
@@ -115,7 +119,7 @@ fn source(alloc: Global, node: NodeRef<'_, '_>, first: &mut Option<Break>) -> Re
 }
 
 fn sources(alloc: Global, node: NodeRef<'_, '_>, first: &mut Option<Break>) -> Result<(), NoMemory>
-    ensures { OnOk result (first.new ≡ with_breaks first.old (sources (ref_view node.entry))) }
+    ensures { OnOk result (first.new ≡ with_breaks first.old (sources_form (ref_view node.entry))) }
 {
     let Some(items) = node.as_array() else {
         at_value(PlanRule::Shape, node, first);
@@ -133,7 +137,8 @@ pub(crate) fn set_members(
     fields: &Fields<'_, '_>,
     first: &mut Option<Break>,
 ) -> Result<(), NoMemory>
-    ensures { OnOk result (first.new ≡ with_breaks first.old (set_members (ref_view owner.entry) (fields_view fields.now))) }
+    ensures { OnOk result (first.new
+        ≡ with_breaks first.old (set_members (ref_view owner.entry) (fields_view fields.now))) }
 {
     match fields.get("sources") {
         Some(node) => sources(alloc, node, first)?,
@@ -147,7 +152,7 @@ pub(crate) fn set(
     node: NodeRef<'_, '_>,
     first: &mut Option<Break>,
 ) -> Result<(), NoMemory>
-    ensures { OnOk result (first.new ≡ with_breaks first.old (set (ref_view node.entry))) }
+    ensures { OnOk result (first.new ≡ with_breaks first.old (set_form (ref_view node.entry))) }
 {
     let Some(fields) = node.as_object() else {
         at_value(PlanRule::Shape, node, first);
@@ -175,7 +180,8 @@ fn each_context(
     fields: &Fields<'_, '_>,
     first: &mut Option<Break>,
 ) -> Result<(), NoMemory>
-    ensures { OnOk result (first.new ≡ with_breaks first.old (flat_map context (counted (fields_view fields.now)))) }
+    ensures { OnOk result (first.new
+        ≡ with_breaks first.old (flat_map context_form (unreserved (fields_view fields.now)))) }
 {
     for field in *fields {
         if is_counted(alloc, field)? {
@@ -197,7 +203,8 @@ fn counts_some(alloc: Global, fields: &Fields<'_, '_>) -> Result<bool, NoMemory>
 }
 
 fn contexts(alloc: Global, node: NodeRef<'_, '_>, first: &mut Option<Break>) -> Result<(), NoMemory>
-    ensures { OnOk result (first.new ≡ with_breaks first.old (contexts (ref_view node.entry))) }
+    ensures { OnOk result
+        (first.new ≡ with_breaks first.old (contexts_form (ref_view node.entry))) }
 {
     let Some(fields) = node.as_object() else {
         at_value(PlanRule::Shape, node, first);
@@ -214,7 +221,8 @@ fn contexts(alloc: Global, node: NodeRef<'_, '_>, first: &mut Option<Break>) -> 
 
 // Whether the text is the name of a context of the modifier.
 fn names_context(alloc: Global, name: &str, fields: &Fields<'_, '_>) -> Result<bool, NoMemory>
-    ensures { IfOk result (λ names. names ≡ has_context name.now (context_entries (fields_view fields.now))) }
+    ensures { IfOk result
+        (λ names. names ≡ has_context name.now (context_entries (fields_view fields.now))) }
 {
     let Some(node) = fields.get("contexts") else {
         return Ok(false);
@@ -231,7 +239,8 @@ fn default(
     node: NodeRef<'_, '_>,
     first: &mut Option<Break>,
 ) -> Result<(), NoMemory>
-    ensures { OnOk result (first.new ≡ with_breaks first.old (default (context_entries (fields_view fields.now)) (ref_view node.entry))) }
+    ensures { OnOk result (first.new ≡ with_breaks first.old
+        (default_form (context_entries (fields_view fields.now)) (ref_view node.entry))) }
 {
     let Some(name) = node.as_text(alloc)? else {
         at_value(PlanRule::Shape, node, first);
@@ -251,7 +260,8 @@ fn needed_contexts(
     fields: &Fields<'_, '_>,
     first: &mut Option<Break>,
 ) -> Result<(), NoMemory>
-    ensures { OnOk result (first.new ≡ with_breaks first.old (needed contexts (ref_view owner.entry) (under (codes "contexts") (fields_view fields.now)))) }
+    ensures { OnOk result (first.new ≡ with_breaks first.old (needed_member contexts_form
+        (ref_view owner.entry) (value_of_name (codes "contexts") (fields_view fields.now)))) }
 {
     match fields.get("contexts") {
         Some(node) => contexts(alloc, node, first)?,
@@ -265,7 +275,9 @@ fn optional_default(
     fields: &Fields<'_, '_>,
     first: &mut Option<Break>,
 ) -> Result<(), NoMemory>
-    ensures { OnOk result (first.new ≡ with_breaks first.old (optional (default (context_entries (fields_view fields.now))) (under (codes "default") (fields_view fields.now)))) }
+    ensures { OnOk result (first.new ≡ with_breaks first.old
+        (optional_member (default_form (context_entries (fields_view fields.now)))
+        (value_of_name (codes "default") (fields_view fields.now)))) }
 {
     let Some(node) = fields.get("default") else {
         return Ok(());
@@ -280,7 +292,8 @@ pub(crate) fn modifier_members(
     fields: &Fields<'_, '_>,
     first: &mut Option<Break>,
 ) -> Result<(), NoMemory>
-    ensures { OnOk result (first.new ≡ with_breaks first.old (modifier_members (ref_view owner.entry) (fields_view fields.now))) }
+    ensures { OnOk result (first.new ≡ with_breaks first.old
+        (modifier_members (ref_view owner.entry) (fields_view fields.now))) }
 {
     needed_contexts(alloc, owner, fields, first)?;
     optional_default(alloc, fields, first)?;
@@ -292,7 +305,8 @@ pub(crate) fn modifier(
     node: NodeRef<'_, '_>,
     first: &mut Option<Break>,
 ) -> Result<(), NoMemory>
-    ensures { OnOk result (first.new ≡ with_breaks first.old (modifier (ref_view node.entry))) }
+    ensures { OnOk result
+        (first.new ≡ with_breaks first.old (modifier_form (ref_view node.entry))) }
 {
     let Some(fields) = node.as_object() else {
         at_value(PlanRule::Shape, node, first);

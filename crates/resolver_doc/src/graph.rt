@@ -35,7 +35,8 @@ fn numbers_below(alloc: Global, n: usize) -> Result<Vec<usize>, NoMemory>
 
 // What each set names, by numbers.
 fn rows(alloc: Global, sets: &[SetDef<'_, '_>]) -> Result<Vec<Vec<usize>>, NoMemory>
-    ensures { IfOk result (λ rows. map (λ row. row.items) rows.items ≡ map (λ set. sets_in set.sources) (sets_view sets.now)) }
+    ensures { IfOk result (λ rows. map (λ row. row.items) rows.items
+        ≡ map (λ set. sets_in set.sources) (sets_view sets.now)) }
 {
     let mut rows = Vec::new(alloc);
     for set in sets {

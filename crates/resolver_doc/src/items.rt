@@ -4,8 +4,8 @@ ghost use Rattle.std.specs.Prelude.{◌≡◌, IfOk, OnOk, Option, map};
 ghost use Rattle.std.specs.List.{flat_map};
 ghost use Rattle.json_span.specs.View.{ref_view, field_view};
 ghost use Rattle.resolver_doc.specs.Break.{with_breaks};
-ghost use Rattle.resolver_doc.specs.Document.{set_item, context_of, set_of, sources_in, members_in, name_in, text_in, modifier_of, own_item, item_of, named_item, text_at, set_number, order_items};
-ghost use Rattle.resolver_doc.specs.Form.{counted, context_entries, entries_at};
+ghost use Rattle.resolver_doc.specs.Document.{set_item, context_of, set_of, sources_in, member_entries, name_in, text_in, modifier_of, own_item, item_of, named_item, text_at, set_number, order_items};
+ghost use Rattle.resolver_doc.specs.Form.{unreserved, context_entries, entries_at};
 ghost use Rattle.resolver_doc.specs.Naming.{sources_breaks, set_breaks, modifier_breaks, own_breaks, item_breaks, named_item_breaks};
 ghost use Rattle.resolver_doc.specs.View.{set_view, sets_view, item_view, order_view};
 ghost use Rattle.resolver_doc.specs.inner.Known.{known_sets, known_modifiers};
@@ -26,8 +26,10 @@ pub(crate) fn sets<'a, 's>(
     known: &Known<'a, 's>,
     first: &mut Option<Break>,
 ) -> Result<Sets<'a, 's>, NoMemory>
-    ensures sets { IfOk result (λ sets. sets_view sets ≡ map (set_of (known_sets known.now)) (known_sets known.now)) }
-    ensures breaks { OnOk result (first.new ≡ with_breaks first.old (flat_map (λ e. set_breaks (known_sets known.now) (entries_at e.value)) (known_sets known.now))) }
+    ensures sets { IfOk result
+        (λ sets. sets_view sets ≡ map (set_of (known_sets known.now)) (known_sets known.now)) }
+    ensures breaks { OnOk result (first.new ≡ with_breaks first.old (flat_map
+        (λ e. set_breaks (known_sets known.now) (entries_at e.value)) (known_sets known.now))) }
 {
     let mut sets = Sets::new(alloc);
     for field in known.sets.as_slice() {
@@ -42,8 +44,10 @@ fn set<'a, 's>(
     field: Field<'a, 's>,
     first: &mut Option<Break>,
 ) -> Result<SetDef<'a, 's>, NoMemory>
-    ensures set { IfOk result (λ set. set_view set ≡ set_of (known_sets known.now) (field_view field.entry)) }
-    ensures breaks { OnOk result (first.new ≡ with_breaks first.old (set_breaks (known_sets known.now) (entries_at (field_view field.entry).value))) }
+    ensures set { IfOk result
+        (λ set. set_view set ≡ set_of (known_sets known.now) (field_view field.entry)) }
+    ensures breaks { OnOk result (first.new ≡ with_breaks first.old
+        (set_breaks (known_sets known.now) (entries_at (field_view field.entry).value))) }
 {
     let name = field.name(alloc)?;
     let sources = set_sources(alloc, known, field.value(), first)?;
@@ -56,8 +60,10 @@ fn context<'a, 's>(
     field: Field<'a, 's>,
     first: &mut Option<Break>,
 ) -> Result<SetDef<'a, 's>, NoMemory>
-    ensures context { IfOk result (λ context. set_view context ≡ context_of (known_sets known.now) (field_view field.entry)) }
-    ensures breaks { OnOk result (first.new ≡ with_breaks first.old (sources_breaks (known_sets known.now) (field_view field.entry).value)) }
+    ensures context { IfOk result
+        (λ context. set_view context ≡ context_of (known_sets known.now) (field_view field.entry)) }
+    ensures breaks { OnOk result (first.new ≡ with_breaks first.old
+        (sources_breaks (known_sets known.now) (field_view field.entry).value)) }
 {
     let name = field.name(alloc)?;
     let sources = sources(alloc, known, field.value(), first)?;
@@ -71,8 +77,11 @@ fn contexts<'a, 's>(
     modifier: NodeRef<'a, 's>,
     first: &mut Option<Break>,
 ) -> Result<Contexts<'a, 's>, NoMemory>
-    ensures contexts { IfOk result (λ contexts. sets_view contexts ≡ map (context_of (known_sets known.now)) (counted (context_entries (entries_at (ref_view modifier.entry))))) }
-    ensures breaks { OnOk result (first.new ≡ with_breaks first.old (modifier_breaks (known_sets known.now) (entries_at (ref_view modifier.entry)))) }
+    ensures contexts { IfOk result
+        (λ contexts. sets_view contexts ≡ map (context_of (known_sets known.now))
+        (unreserved (context_entries (entries_at (ref_view modifier.entry))))) }
+    ensures breaks { OnOk result (first.new ≡ with_breaks first.old
+        (modifier_breaks (known_sets known.now) (entries_at (ref_view modifier.entry)))) }
 {
     let mut contexts = Contexts::new(alloc);
     let Some(node) = member(modifier, "contexts") else {
@@ -95,7 +104,9 @@ pub(crate) fn check_modifiers(
     known: &Known<'_, '_>,
     first: &mut Option<Break>,
 ) -> Result<(), NoMemory>
-    ensures { OnOk result (first.new ≡ with_breaks first.old (flat_map (λ e. modifier_breaks (known_sets known.now) (entries_at e.value)) (known_modifiers known.now))) }
+    ensures { OnOk result (first.new ≡ with_breaks first.old
+        (flat_map (λ e. modifier_breaks (known_sets known.now) (entries_at e.value))
+        (known_modifiers known.now))) }
 {
     for field in known.modifiers.as_slice() {
         let _ = contexts(alloc, known, field.value(), first)?;
@@ -111,8 +122,10 @@ fn modifier<'a, 's>(
     node: NodeRef<'a, 's>,
     first: &mut Option<Break>,
 ) -> Result<Item<'a, 's>, NoMemory>
-    ensures modifier { IfOk result (λ item. item_view item ≡ modifier_of (known_sets known.now) name.entry (entries_at (ref_view node.entry))) }
-    ensures breaks { OnOk result (first.new ≡ with_breaks first.old (modifier_breaks (known_sets known.now) (entries_at (ref_view node.entry)))) }
+    ensures modifier { IfOk result (λ item. item_view item
+        ≡ modifier_of (known_sets known.now) name.entry (entries_at (ref_view node.entry))) }
+    ensures breaks { OnOk result (first.new ≡ with_breaks first.old
+        (modifier_breaks (known_sets known.now) (entries_at (ref_view node.entry)))) }
 {
     let contexts = contexts(alloc, known, node, first)?;
     let default = member_text(alloc, node, "default")?;
@@ -125,7 +138,8 @@ fn named_set<'a, 's>(
     known: &Known<'a, 's>,
     number: usize,
 ) -> Result<Item<'a, 's>, NoMemory>
-    ensures { IfOk result (λ item. item_view item ≡ set_item (sources_in (known_sets known.now) (members_in (known_sets known.now) number))) }
+    ensures { IfOk result (λ item. item_view item ≡ set_item
+        (sources_in (known_sets known.now) (member_entries (known_sets known.now) number))) }
 {
     let Some(field) = known.sets.get(number) else {
         return Ok(Item::Set(Written::new(alloc)));
@@ -141,7 +155,9 @@ fn named_modifier<'a, 's>(
     known: &Known<'a, 's>,
     number: usize,
 ) -> Result<Item<'a, 's>, NoMemory>
-    ensures { IfOk result (λ item. item_view item ≡ modifier_of (known_sets known.now) (name_in (known_modifiers known.now) number) (members_in (known_modifiers known.now) number)) }
+    ensures { IfOk result (λ item. item_view item ≡ modifier_of (known_sets known.now)
+        (name_in (known_modifiers known.now) number)
+        (member_entries (known_modifiers known.now) number)) }
 {
     let Some(field) = known.modifiers.get(number) else {
         return Ok(Item::Modifier(Text::of(""), Contexts::new(alloc), None));
@@ -158,8 +174,10 @@ fn own_item<'a, 's>(
     node: NodeRef<'a, 's>,
     first: &mut Option<Break>,
 ) -> Result<Item<'a, 's>, NoMemory>
-    ensures item { IfOk result (λ item. item_view item ≡ own_item (known_sets known.now) (entries_at (ref_view node.entry))) }
-    ensures breaks { OnOk result (first.new ≡ with_breaks first.old (own_breaks (known_sets known.now) (entries_at (ref_view node.entry)))) }
+    ensures item { IfOk result (λ item. item_view item
+        ≡ own_item (known_sets known.now) (entries_at (ref_view node.entry))) }
+    ensures breaks { OnOk result (first.new ≡ with_breaks first.old
+        (own_breaks (known_sets known.now) (entries_at (ref_view node.entry)))) }
 {
     let kind = text_or_empty(alloc, node, "type")?;
     if kind.as_str() == "set" {
@@ -176,8 +194,11 @@ fn named_item<'a, 's>(
     string: NodeRef<'a, 's>,
     first: &mut Option<Break>,
 ) -> Result<Item<'a, 's>, NoMemory>
-    ensures item { IfOk result (λ item. item_view item ≡ named_item (known_sets known.now) (known_modifiers known.now) (text_at (ref_view string.entry)) (set_number (known_sets known.now) (text_at (ref_view string.entry)))) }
-    ensures breaks { OnOk result (first.new ≡ with_breaks first.old (named_item_breaks (known_sets known.now) (known_modifiers known.now) (ref_view string.entry))) }
+    ensures item { IfOk result (λ item. item_view item ≡ named_item
+        (known_sets known.now) (known_modifiers known.now) (text_at (ref_view string.entry))
+        (set_number (known_sets known.now) (text_at (ref_view string.entry)))) }
+    ensures breaks { OnOk result (first.new ≡ with_breaks first.old (named_item_breaks
+        (known_sets known.now) (known_modifiers known.now) (ref_view string.entry))) }
 {
     let text = text_at(alloc, string)?;
     if let Some(number) = known.set_number(&text) {
@@ -196,8 +217,10 @@ fn item<'a, 's>(
     node: NodeRef<'a, 's>,
     first: &mut Option<Break>,
 ) -> Result<Item<'a, 's>, NoMemory>
-    ensures item { IfOk result (λ item. item_view item ≡ item_of (known_sets known.now) (known_modifiers known.now) (ref_view node.entry)) }
-    ensures breaks { OnOk result (first.new ≡ with_breaks first.old (item_breaks (known_sets known.now) (known_modifiers known.now) (ref_view node.entry))) }
+    ensures item { IfOk result (λ item. item_view item
+        ≡ item_of (known_sets known.now) (known_modifiers known.now) (ref_view node.entry)) }
+    ensures breaks { OnOk result (first.new ≡ with_breaks first.old
+        (item_breaks (known_sets known.now) (known_modifiers known.now) (ref_view node.entry))) }
 {
     match member(node, "$ref") {
         Some(string) => named_item(alloc, known, string, first),
@@ -212,8 +235,12 @@ pub(crate) fn order<'a, 's>(
     root: NodeRef<'a, 's>,
     first: &mut Option<Break>,
 ) -> Result<Order<'a, 's>, NoMemory>
-    ensures order { IfOk result (λ order. order_view order ≡ map (item_of (known_sets known.now) (known_modifiers known.now)) (order_items (ref_view root.entry))) }
-    ensures breaks { OnOk result (first.new ≡ with_breaks first.old (flat_map (item_breaks (known_sets known.now) (known_modifiers known.now)) (order_items (ref_view root.entry)))) }
+    ensures order { IfOk result (λ order. order_view order
+        ≡ map (item_of (known_sets known.now) (known_modifiers known.now))
+        (order_items (ref_view root.entry))) }
+    ensures breaks { OnOk result (first.new ≡ with_breaks first.old
+        (flat_map (item_breaks (known_sets known.now) (known_modifiers known.now))
+        (order_items (ref_view root.entry)))) }
 {
     let mut order = Order::new(alloc);
     let Some(node) = member(root, "resolutionOrder") else {

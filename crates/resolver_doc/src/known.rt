@@ -19,8 +19,10 @@ pub(crate) struct Known<'a, 's> {
     set_numbers: Pointers,
     pub modifiers: Vec<Field<'a, 's>>,
     modifier_numbers: Pointers,
-    pub ghost sets_numbered: { (text : List ℕ) → map.get set_numbers text ≡ set_number (map_list field_view sets.items) text } by { Prim.hlevel props },
-    pub ghost modifiers_numbered: { (text : List ℕ) → map.get modifier_numbers text ≡ modifier_number (map_list field_view modifiers.items) text } by { Prim.hlevel props },
+    pub ghost sets_numbered: { (text : List ℕ) → map.get set_numbers text
+        ≡ set_number (map_list field_view sets.items) text } by { Prim.hlevel props },
+    pub ghost modifiers_numbered: { (text : List ℕ) → map.get modifier_numbers text
+        ≡ modifier_number (map_list field_view modifiers.items) text } by { Prim.hlevel props },
 }
 
 impl<'a, 's> Known<'a, 's> {
@@ -32,7 +34,8 @@ impl<'a, 's> Known<'a, 's> {
     /// Those of the document.
     pub(crate) fn new(alloc: Global, root: NodeRef<'a, 's>) -> Result<Known<'a, 's>, NoMemory>
         ensures sets { IfOk result (λ k. known_sets k ≡ set_entries (ref_view root.entry)) }
-        ensures modifiers { IfOk result (λ k. known_modifiers k ≡ modifier_entries (ref_view root.entry)) }
+        ensures modifiers { IfOk result
+            (λ k. known_modifiers k ≡ modifier_entries (ref_view root.entry)) }
     {
         let sets = members(alloc, root, "sets")?;
         let set_numbers = numbers(alloc, "sets", sets.as_slice())?;

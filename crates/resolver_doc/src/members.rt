@@ -2,10 +2,10 @@
 
 ghost use Rattle.std.specs.Prelude.{◌≡◌, [], ℕ, List, IfOk, OnOk, option_map, unwrap_or, map as map_list};
 ghost use Rattle.std.specs.FinMap as map;
-ghost use Rattle.json_span.specs.Tree.{under};
+ghost use Rattle.json_span.specs.Tree.{value_of_name};
 ghost use Rattle.json_span.specs.View.{ref_view, field_view};
 ghost use Rattle.resolver_doc.specs.Form.{entries_at};
-ghost use Rattle.resolver_doc.specs.Document.{section, pointer, pointed, name_in, text_at, text_in};
+ghost use Rattle.resolver_doc.specs.Document.{section, pointer, pointed_number, name_in, text_at, text_in};
 ghost use Rattle.resolver_doc.specs.inner.Pointers.{AddsFirst};
 
 use crate::form::is_counted;
@@ -16,7 +16,7 @@ use tk_io::{NoMemory, Text};
 
 /// The value of the member of this name.
 pub(crate) fn member<'a, 's>(node: NodeRef<'a, 's>, name: &str) -> Option<NodeRef<'a, 's>>
-    ensures { option_map ref_view result ≡ under name.now (entries_at (ref_view node.entry)) }
+    ensures { option_map ref_view result ≡ value_of_name name.now (entries_at (ref_view node.entry)) }
 {
     let Some(fields) = node.as_object() else {
         return None;
@@ -40,7 +40,8 @@ pub(crate) fn members<'a, 's>(
     root: NodeRef<'a, 's>,
     name: &str,
 ) -> Result<Vec<Field<'a, 's>>, NoMemory>
-    ensures { IfOk result (λ members. map_list field_view members.items ≡ section name.now (entries_at (ref_view root.entry))) }
+    ensures { IfOk result (λ members. map_list field_view members.items
+        ≡ section name.now (entries_at (ref_view root.entry))) }
 {
     let mut members = Vec::new(alloc);
     let Some(node) = member(root, name) else {
@@ -64,7 +65,8 @@ fn add_number(
     number: usize,
     numbers: &mut Pointers,
 ) -> Result<(), NoMemory>
-    ensures { OnOk result (AddsFirst numbers.old numbers.new (pointer name.now (field_view field.entry)) number) }
+    ensures { OnOk result
+        (AddsFirst numbers.old numbers.new (pointer name.now (field_view field.entry)) number) }
 {
     let text = pointer(alloc, name, &field.name(alloc)?)?;
     numbers.put_first(text.as_slice(), number)
@@ -76,7 +78,8 @@ pub(crate) fn numbers(
     name: &str,
     members: &[Field<'_, '_>],
 ) -> Result<Pointers, NoMemory>
-    ensures { IfOk result (λ numbers. (text : List ℕ) → map.get numbers text ≡ pointed name.now (map_list field_view members.now) text) }
+    ensures { IfOk result (λ numbers. (text : List ℕ)
+        → map.get numbers text ≡ pointed_number name.now (map_list field_view members.now) text) }
 {
     let mut numbers = Pointers::new(alloc);
     for (number, field) in members.iter().enumerate() {
@@ -119,7 +122,8 @@ pub(crate) fn text_or_empty<'s>(
     node: NodeRef<'_, 's>,
     name: &str,
 ) -> Result<Text<'s>, NoMemory>
-    ensures { IfOk result (λ text. text ≡ unwrap_or (text_in name.now (entries_at (ref_view node.entry))) []) }
+    ensures { IfOk result
+        (λ text. text ≡ unwrap_or (text_in name.now (entries_at (ref_view node.entry))) []) }
 {
     match member_text(alloc, node, name)? {
         Some(text) => Ok(text),

@@ -23,13 +23,14 @@ impl Model for Pointers {
     ghost use Rattle.std.specs.FinMap as map;
     ghost use Rattle.std.specs.Coded.{coded_list, coded_ℕ};
     ghost use Rattle.tk_io.specs.Order.{text_cmp};
-    ghost use Rattle.tk_io.specs.Shown.{shown_by};
+    ghost use Rattle.tk_io.specs.View.{entries_view};
 
     ghost Value = { map.FinMap text_cmp ℕ };
 
     ghost coded = { map.code (coded_list coded_ℕ) coded_ℕ };
 
-    ghost view = { λ p. map.from_entries (shown_by (λ text. text.items) (λ number. number) p.numbers.entries) };
+    ghost view = { λ p. map.from_entries
+        (entries_view (λ text. text.items) (λ number. number) p.numbers.entries) };
 }
 
 impl Pointers {

@@ -8,7 +8,7 @@ ghost use Rattle.resolver_doc.specs.Naming.{naming_breaks};
 ghost use Rattle.resolver_doc.specs.ResolverView.{resolver_view};
 ghost use Rattle.resolver_doc.specs.Rings.{HasNoRingOfSets};
 ghost use Rattle.resolver_doc.specs.View.{sets_view, order_view};
-ghost use Rattle.resolver_doc.specs.inner.Faults.{IsNamedFault, told};
+ghost use Rattle.resolver_doc.specs.inner.Faults.{IsNamedFault, break_fault};
 ghost use Rattle.resolver_doc.specs.inner.Known.{known_sets};
 
 use crate::document::form_break;
@@ -33,7 +33,7 @@ struct Said<'a, 's> {
 }
 
 fn broken<'s>(alloc: Global, found: Break) -> PlanFault<'s>
-    ensures { result ≡ told found [] }
+    ensures { result ≡ break_fault found [] }
 {
     PlanFault::Broken {
         rule: found.rule,
@@ -45,9 +45,12 @@ fn broken<'s>(alloc: Global, found: Break) -> PlanFault<'s>
 
 // What a document says whose references all name something, and whose items have different names.
 fn read_said<'a, 's>(alloc: Global, root: NodeRef<'a, 's>) -> Result<Said<'a, 's>, PlanFault<'s>>
-    ensures known { IfOk result (λ said. known_sets said.known ≡ set_entries (ref_view root.entry)) }
-    ensures sets { IfOk result (λ said. sets_view said.sets ≡ (resolver_of (ref_view root.entry)).sets) }
-    ensures order { IfOk result (λ said. order_view said.order ≡ (resolver_of (ref_view root.entry)).order) }
+    ensures known { IfOk result
+        (λ said. known_sets said.known ≡ set_entries (ref_view root.entry)) }
+    ensures sets { IfOk result
+        (λ said. sets_view said.sets ≡ (resolver_of (ref_view root.entry)).sets) }
+    ensures order { IfOk result
+        (λ said. order_view said.order ≡ (resolver_of (ref_view root.entry)).order) }
     ensures named { OnOk result (naming_breaks (ref_view root.entry) ≡ []) }
     ensures broken { IfErr result (IsNamedFault (ref_view root.entry)) }
 {

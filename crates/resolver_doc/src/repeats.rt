@@ -6,7 +6,7 @@ ghost use Rattle.resolver_doc.specs.Break.{with_breaks};
 ghost use Rattle.resolver_doc.specs.Document.{order_items};
 ghost use Rattle.resolver_doc.specs.Naming.{item_name, name_string, of_each, repeat_at, repeats, with_name};
 ghost use Rattle.resolver_doc.specs.inner.Known.{known_sets, known_modifiers};
-ghost use Rattle.resolver_doc.specs.inner.Pointers.{Keeps};
+ghost use Rattle.resolver_doc.specs.inner.Pointers.{HoldsTexts};
 
 use crate::known::Known;
 use crate::members::{member, member_text, text_at};
@@ -22,7 +22,8 @@ fn item_name<'s>(
     known: &Known<'_, 's>,
     item: NodeRef<'_, 's>,
 ) -> Result<Option<Text<'s>>, NoMemory>
-    ensures { IfOk result (λ name. name ≡ item_name (known_sets known.now) (known_modifiers known.now) (ref_view item.entry)) }
+    ensures { IfOk result (λ name. name
+        ≡ item_name (known_sets known.now) (known_modifiers known.now) (ref_view item.entry)) }
 {
     let Some(string) = member(item, "$ref") else {
         return member_text(alloc, item, "name");
@@ -54,7 +55,9 @@ fn repeat_at(
     names: &Pointers,
     first: &mut Option<Break>,
 )
-    ensures { (before : List (List ℕ)) → Keeps names.now before → first.new ≡ with_breaks first.old (of_each (repeat_at before (Some name.now)) (option_map ref_view string.entry)) }
+    ensures { (before : List (List ℕ)) → HoldsTexts names.now before
+        → first.new ≡ with_breaks first.old
+        (of_each (repeat_at before (Some name.now)) (option_map ref_view string.entry)) }
 {
     let Some(string) = string else {
         return;
@@ -72,8 +75,13 @@ fn repeat<'s>(
     names: &mut Pointers,
     first: &mut Option<Break>,
 ) -> Result<(), NoMemory>
-    ensures breaks { OnOk result ((before : List (List ℕ)) → Keeps names.old before → first.new ≡ with_breaks first.old (of_each (repeat_at before (item_name (known_sets known.now) (known_modifiers known.now) (ref_view item.entry))) (name_string (ref_view item.entry)))) }
-    ensures names { OnOk result ((before : List (List ℕ)) → Keeps names.old before → Keeps names.new (with_name before (item_name (known_sets known.now) (known_modifiers known.now) (ref_view item.entry)))) }
+    ensures breaks { OnOk result ((before : List (List ℕ)) → HoldsTexts names.old before
+        → first.new ≡ with_breaks first.old (of_each (repeat_at before
+        (item_name (known_sets known.now) (known_modifiers known.now) (ref_view item.entry)))
+        (name_string (ref_view item.entry)))) }
+    ensures names { OnOk result ((before : List (List ℕ)) → HoldsTexts names.old before
+        → HoldsTexts names.new (with_name before
+        (item_name (known_sets known.now) (known_modifiers known.now) (ref_view item.entry)))) }
 {
     let Some(name) = item_name(alloc, known, item)? else {
         return Ok(());
@@ -89,7 +97,8 @@ fn repeats_among<'a, 's>(
     items: Items<'a, 's>,
     first: &mut Option<Break>,
 ) -> Result<(), NoMemory>
-    ensures { OnOk result (first.new ≡ with_breaks first.old (repeats (known_sets known.now) (known_modifiers known.now) [] (items_view items.entry))) }
+    ensures { OnOk result (first.new ≡ with_breaks first.old
+        (repeats (known_sets known.now) (known_modifiers known.now) [] (items_view items.entry))) }
 {
     let mut names = Pointers::new(alloc);
     for item in items {
@@ -105,7 +114,9 @@ pub(crate) fn repeats<'a, 's>(
     root: NodeRef<'a, 's>,
     first: &mut Option<Break>,
 ) -> Result<(), NoMemory>
-    ensures { OnOk result (first.new ≡ with_breaks first.old (repeats (known_sets known.now) (known_modifiers known.now) [] (order_items (ref_view root.entry)))) }
+    ensures { OnOk result (first.new ≡ with_breaks first.old
+        (repeats (known_sets known.now) (known_modifiers known.now) []
+        (order_items (ref_view root.entry)))) }
 {
     let Some(node) = member(root, "resolutionOrder") else {
         return Ok(());

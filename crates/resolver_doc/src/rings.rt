@@ -1,12 +1,12 @@
 // Rings of sets that name each other.
 
 ghost use Rattle.std.specs.Prelude.{◌≡◌, Some, IfOk, IfErr, OnOk, IsTrue, codes, map, option_map};
-ghost use Rattle.json_span.specs.Tree.{Placed, under};
+ghost use Rattle.json_span.specs.Tree.{Placed, value_of_name};
 ghost use Rattle.json_span.specs.View.{ref_view};
-ghost use Rattle.resolver_doc.specs.Document.{name_in, members_in, set_of, elements_at};
+ghost use Rattle.resolver_doc.specs.Document.{name_in, member_entries, set_of, elements_at};
 ghost use Rattle.resolver_doc.specs.Rings.{HasNoRingOfSets, are_sets_right, is_set, ring_string, naming_string};
 ghost use Rattle.resolver_doc.specs.View.{set_view, sets_view, source_view};
-ghost use Rattle.resolver_doc.specs.inner.Faults.{IsRingFault, IsRingAt};
+ghost use Rattle.resolver_doc.specs.inner.Faults.{IsSetRingFault, IsSetRingAt};
 ghost use Rattle.resolver_doc.specs.inner.Known.{known_sets};
 
 use crate::fault::PlanFault;
@@ -40,7 +40,8 @@ fn naming_string<'a, 's>(
     sources: NodeRef<'a, 's>,
     number: usize,
 ) -> Result<Option<NodeRef<'a, 's>>, NoMemory>
-    ensures { IfOk result (λ string. option_map ref_view string ≡ naming_string (known_sets known.now) number (elements_at (ref_view sources.entry))) }
+    ensures { IfOk result (λ string. option_map ref_view string
+        ≡ naming_string (known_sets known.now) number (elements_at (ref_view sources.entry))) }
 {
     let Some(items) = sources.as_array() else {
         return Ok(None);
@@ -57,7 +58,8 @@ fn naming_string<'a, 's>(
 
 // The sources of the set of the number.
 fn sources_of_set<'a, 's>(known: &Known<'a, 's>, number: usize) -> Option<NodeRef<'a, 's>>
-    ensures { option_map ref_view result ≡ under (codes "sources") (members_in (known_sets known.now) number) }
+    ensures { option_map ref_view result
+        ≡ value_of_name (codes "sources") (member_entries (known_sets known.now) number) }
 {
     match known.sets.get(number) {
         Some(field) => member(field.value(), "sources"),
@@ -71,7 +73,8 @@ fn ring_string<'a, 's>(
     known: &Known<'a, 's>,
     ring: &[usize],
 ) -> Result<Option<NodeRef<'a, 's>>, NoMemory>
-    ensures { IfOk result (λ string. option_map ref_view string ≡ ring_string (known_sets known.now) ring.now) }
+    ensures { IfOk result
+        (λ string. option_map ref_view string ≡ ring_string (known_sets known.now) ring.now) }
 {
     let (Some(first), Some(last)) = (ring.first(), ring.last()) else {
         return Ok(None);
@@ -103,7 +106,7 @@ fn ring_fault<'s>(
     ring: &[usize],
 ) -> Result<PlanFault<'s>, NoMemory>
     requires { (string : Placed) × (ring_string (known_sets known.now) ring.now ≡ Some string) }
-    ensures { IfOk result (IsRingAt (known_sets known.now) ring.now) }
+    ensures { IfOk result (IsSetRingAt (known_sets known.now) ring.now) }
 {
     let Some(string) = ring_string(alloc, known, ring)? else {
         unreachable!()
@@ -122,10 +125,11 @@ pub(crate) fn check_rings<'s>(
     known: &Known<'_, 's>,
     sets: &[SetDef<'_, 's>],
 ) -> Result<(), PlanFault<'s>>
-    requires known { sets_view sets.now ≡ map (set_of (known_sets known.now)) (known_sets known.now) }
+    requires known { sets_view sets.now
+        ≡ map (set_of (known_sets known.now)) (known_sets known.now) }
     requires right { IsTrue (are_sets_right (sets_view sets.now) (sets_view sets.now)) }
     ensures ok { OnOk result (HasNoRingOfSets (sets_view sets.now)) }
-    ensures ring { IfErr result (IsRingFault (known_sets known.now) (sets_view sets.now)) }
+    ensures ring { IfErr result (IsSetRingFault (known_sets known.now) (sets_view sets.now)) }
 {
     let graph = graph_of(alloc, sets)?;
     match ring_or_order(alloc, graph.as_slice(), sets.len())? {

@@ -2,7 +2,7 @@
 
 ghost use Rattle.std.specs.Prelude.{◌≡◌};
 ghost use Rattle.json_span.specs.View.{ref_view, field_view};
-ghost use Rattle.resolver_doc.specs.Break.{number_of, is_before, taken, with_breaks, at_value, at_name};
+ghost use Rattle.resolver_doc.specs.Break.{rule_number, is_before, earlier, with_breaks, at_value, at_name};
 
 use json_span::{Field, NodeRef};
 
@@ -38,7 +38,7 @@ pub struct Break {
 impl PlanRule {
     /// The rule's place among the rules: of two breaks that start at one place the one of the lower number is told.
     pub fn number(self) -> u8
-        ensures { result ≡ number_of self }
+        ensures { result ≡ rule_number self }
     {
         match self {
             PlanRule::Version => 1,
@@ -61,7 +61,7 @@ fn is_before(new: Break, old: Break) -> bool
 
 /// The first of the break so far and the new one.
 pub(crate) fn take(first: &mut Option<Break>, new: Break)
-    ensures { first.new ≡ taken first.old new }
+    ensures { first.new ≡ earlier first.old new }
 {
     match *first {
         None => *first = Some(new),

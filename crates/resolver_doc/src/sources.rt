@@ -1,6 +1,7 @@
 // Sources as they are written, and the references among them that name nothing.
 
 ghost use Rattle.std.specs.Prelude.{◌≡◌, ◌≢◌, ◌∷◌, ℕ, List, IfOk, OnOk, MatchOption};
+ghost use Rattle.tk_io.specs.Characters.{full_stop, solidus};
 ghost use Rattle.json_span.specs.View.{ref_view};
 ghost use Rattle.resolver_doc.specs.Break.{with_breaks};
 ghost use Rattle.resolver_doc.specs.Document.{text_at, set_number, without_dots, set_or_file, source_of, sources_of, sources_in};
@@ -19,7 +20,9 @@ use std::alloc::Global;
 use tk_io::{NoMemory, Text};
 
 fn behind_dot(text: &str) -> Option<&str>
-    ensures { MatchOption result ((rest : List ℕ) → text.now ≢ 46 ∷ (47 ∷ rest)) (λ rest. text.now ≡ 46 ∷ (47 ∷ rest.now)) }
+    ensures { MatchOption result
+        ((rest : List ℕ) → text.now ≢ full_stop ∷ (solidus ∷ rest))
+        (λ rest. text.now ≡ full_stop ∷ (solidus ∷ rest.now)) }
 {
     let Some(rest) = text.strip_prefix('.') else {
         return None;
@@ -78,7 +81,8 @@ fn set_or_file<'a, 's>(
     number: Option<usize>,
 ) -> Result<WrittenSource<'a, 's>, NoMemory>
     requires { text ≡ text_at (ref_view string) }
-    ensures { IfOk result (λ source. source_view source ≡ set_or_file (known_sets known.now) (ref_view string.entry) number) }
+    ensures { IfOk result (λ source. source_view source
+        ≡ set_or_file (known_sets known.now) (ref_view string.entry) number) }
 {
     match number {
         Some(number) => Ok(WrittenSource::SetRef(known.set_name(alloc, number)?, number)),
@@ -92,8 +96,12 @@ fn named<'a, 's>(
     string: NodeRef<'a, 's>,
     first: &mut Option<Break>,
 ) -> Result<WrittenSource<'a, 's>, NoMemory>
-    ensures source { IfOk result (λ source. source_view source ≡ set_or_file (known_sets known.now) (ref_view string.entry) (set_number (known_sets known.now) (text_at (ref_view string.entry)))) }
-    ensures breaks { OnOk result (first.new ≡ with_breaks first.old (named_breaks_by (ref_view string.entry) (set_number (known_sets known.now) (text_at (ref_view string.entry))))) }
+    ensures source { IfOk result
+        (λ source. source_view source ≡ set_or_file (known_sets known.now) (ref_view string.entry)
+        (set_number (known_sets known.now) (text_at (ref_view string.entry)))) }
+    ensures breaks { OnOk result (first.new ≡ with_breaks first.old
+        (named_breaks_by (ref_view string.entry)
+        (set_number (known_sets known.now) (text_at (ref_view string.entry))))) }
 {
     let text = text_at(alloc, string)?;
     let number = known.set_number(&text);
@@ -108,8 +116,10 @@ pub(crate) fn source<'a, 's>(
     node: NodeRef<'a, 's>,
     first: &mut Option<Break>,
 ) -> Result<WrittenSource<'a, 's>, NoMemory>
-    ensures source { IfOk result (λ source. source_view source ≡ source_of (known_sets known.now) (ref_view node.entry)) }
-    ensures breaks { OnOk result (first.new ≡ with_breaks first.old (source_breaks (known_sets known.now) (ref_view node.entry))) }
+    ensures source { IfOk result
+        (λ source. source_view source ≡ source_of (known_sets known.now) (ref_view node.entry)) }
+    ensures breaks { OnOk result (first.new
+        ≡ with_breaks first.old (source_breaks (known_sets known.now) (ref_view node.entry))) }
 {
     match member(node, "$ref") {
         Some(string) => named(alloc, known, string, first),
@@ -124,8 +134,10 @@ pub(crate) fn sources<'a, 's>(
     node: NodeRef<'a, 's>,
     first: &mut Option<Break>,
 ) -> Result<Written<'a, 's>, NoMemory>
-    ensures sources { IfOk result (λ sources. sources_view sources ≡ sources_of (known_sets known.now) (ref_view node.entry)) }
-    ensures breaks { OnOk result (first.new ≡ with_breaks first.old (sources_breaks (known_sets known.now) (ref_view node.entry))) }
+    ensures sources { IfOk result (λ sources. sources_view sources
+        ≡ sources_of (known_sets known.now) (ref_view node.entry)) }
+    ensures breaks { OnOk result (first.new
+        ≡ with_breaks first.old (sources_breaks (known_sets known.now) (ref_view node.entry))) }
 {
     let mut written = Written::new(alloc);
     let Some(items) = node.as_array() else {
@@ -144,8 +156,10 @@ pub(crate) fn set_sources<'a, 's>(
     set: NodeRef<'a, 's>,
     first: &mut Option<Break>,
 ) -> Result<Written<'a, 's>, NoMemory>
-    ensures sources { IfOk result (λ sources. sources_view sources ≡ sources_in (known_sets known.now) (entries_at (ref_view set.entry))) }
-    ensures breaks { OnOk result (first.new ≡ with_breaks first.old (set_breaks (known_sets known.now) (entries_at (ref_view set.entry)))) }
+    ensures sources { IfOk result (λ sources. sources_view sources
+        ≡ sources_in (known_sets known.now) (entries_at (ref_view set.entry))) }
+    ensures breaks { OnOk result (first.new ≡ with_breaks first.old
+        (set_breaks (known_sets known.now) (entries_at (ref_view set.entry)))) }
 {
     match member(set, "sources") {
         Some(node) => sources(alloc, known, node, first),

@@ -10,10 +10,10 @@ abbrev pub Tells : Table → Type 0
 Tells t = IsTable (set_sources (sets_view t.sets.now)) (length (sets_view t.sets.now)) (rows_view t.rows.items)
 
 -- what a part adds to the sources, and what it leaves on the stack
-abbrev pub added : PartData → List TokenSource
-added (own source) = source ∷ []
-added (whole_set v) = []
+abbrev pub sources_added : PartData → List TokenSource
+sources_added (own source) = source ∷ []
+sources_added (whole_set v) = []
 
-abbrev pub left : List RowData → PartData → List PartData
-left rows (own source) = []
-left rows (whole_set v) = reverse (row_at rows v).parts
+abbrev pub parts_left : List RowData → PartData → List PartData
+parts_left rows (own source) = []
+parts_left rows (whole_set v) = reverse (row_at rows v).parts

@@ -1,11 +1,11 @@
 -- Orders of the sets of a document.
 use Rattle.std.specs.Prelude.{ℕ, List, [], ◌<◌, length}
 use Rattle.ring.specs.Order.{Follows}
-use Rattle.ring.specs.Routes.{In, AreApart}
+use Rattle.ring.specs.Lists.{In, AreApart}
 use Rattle.resolver_doc.specs.Document.{SetData}
 use Rattle.resolver_doc.specs.Rings.{set_needs}
 
--- each set once, behind those that it names
+-- a topological order: each set once, after those that it names
 pub record IsSetOrder (sets : List SetData) (order : List ℕ) : Type 0 where
   pub follows : Follows (set_needs sets) [] order
   pub apart : AreApart order

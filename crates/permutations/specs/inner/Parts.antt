@@ -2,9 +2,9 @@
 use Rattle.std.specs.Prelude.{◌≡◌, ◌<◌, ℕ, List, [], ◌∷◌, All, length, map, min, slice_get, slice_set, unwrap_or}
 use Rattle.std.specs.List.{flat_map, sum_by}
 use Rattle.json_span.specs.View.{ref_view}
-use Rattle.ring.specs.Routes.{In}
+use Rattle.ring.specs.Lists.{In}
 use Rattle.resolver_doc.specs.Document.{SourceData, file_source, set_source, inline_source, SetData}
-use Rattle.permutations.specs.Permutation.{TokenSource, file, inline, written_in}
+use Rattle.permutations.specs.Permutation.{TokenSource, file, inline, sources_written}
 use Rattle.resolver_doc.specs.View.{source_view}
 use Rattle.resolver_doc.specs.declared.written.WrittenSource.{WrittenSource}
 use Rattle.resolver_doc.specs.declared.written.Item.{Item}
@@ -72,21 +72,21 @@ row_in rows sources = record { parts = parts_in rows sources; count = counts_in 
 
 -- the rows with that of one more set
 abbrev pub with_row : List SetData → List RowData → ℕ → List RowData
-with_row sets rows v = slice_set rows v (row_in rows (written_in sets v))
+with_row sets rows v = slice_set rows v (row_in rows (sources_written sets v))
 
 -- a source names a set that has a row
-abbrev pub IsKnown : ℕ → SourceData → Type 0
-IsKnown rows (file_source name start end) = Unit {0}
-IsKnown rows (set_source name v) = v < rows
-IsKnown rows (inline_source n) = Unit {0}
+abbrev pub HasRow : ℕ → SourceData → Type 0
+HasRow rows (file_source name start end) = Unit {0}
+HasRow rows (set_source name v) = v < rows
+HasRow rows (inline_source n) = Unit {0}
 
 -- the same of sources, and of what an item has
-abbrev pub AreKnown : ℕ → List WrittenSource → Type 0
-AreKnown rows sources = All (λ s. IsKnown rows (source_view s)) sources
+abbrev pub HaveRows : ℕ → List WrittenSource → Type 0
+HaveRows rows sources = All (λ s. HasRow rows (source_view s)) sources
 
-abbrev pub IsKnownItem : ℕ → Item → Type 0
-IsKnownItem rows (Sources sources) = AreKnown rows sources
-IsKnownItem rows (Modifier name contexts default) = All (λ c. AreKnown rows c.sources) contexts
+abbrev pub ItemHasRows : ℕ → Item → Type 0
+ItemHasRows rows (Sources sources) = HaveRows rows sources
+ItemHasRows rows (Modifier name contexts default) = All (λ c. HaveRows rows c.sources) contexts
 
 -- a part is a source, or a set that has a row
 abbrev pub IsPlaced : ℕ → PartData → Type 0

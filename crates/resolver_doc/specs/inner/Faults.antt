@@ -12,7 +12,7 @@ use Rattle.resolver_doc.specs.Document.{SetData, name_in}
 use Rattle.resolver_doc.specs.Rings.{IsRingOfSets, ring_string}
 
 -- what is told of a ring
-pub record IsTold (sets : List Entry) (ring : List ℕ) (rule : PlanRule) (start end : ℕ) (names : List (List ℕ)) : Type 0 where
+pub record IsRingTold (sets : List Entry) (ring : List ℕ) (rule : PlanRule) (start end : ℕ) (names : List (List ℕ)) : Type 0 where
   pub rule_is : rule ≡ Cycle
   pub named : names ≡ map (name_in sets) ring
   pub string : Placed
@@ -20,18 +20,18 @@ pub record IsTold (sets : List Entry) (ring : List ℕ) (rule : PlanRule) (start
   pub starts : start ≡ start_of string
   pub ends : end ≡ end_of string
 
-abbrev pub IsRingAt : List Entry → List ℕ → PlanFault → Type 0
-IsRingAt sets ring (Broken rule start end names) = IsTold sets ring rule start end names
-IsRingAt sets ring NoMemory = ⊥
+abbrev pub IsSetRingAt : List Entry → List ℕ → PlanFault → Type 0
+IsSetRingAt sets ring (Broken rule start end names) = IsRingTold sets ring rule start end names
+IsSetRingAt sets ring NoMemory = ⊥
 
 -- the fault tells the first ring; memory may always run out
-abbrev pub IsRingFault : List Entry → List SetData → PlanFault → Type 0
-IsRingFault sets listed (Broken rule start end names) = (ring : List ℕ) × IsRingOfSets listed ring × IsTold sets ring rule start end names
-IsRingFault sets listed NoMemory = Unit {0}
+abbrev pub IsSetRingFault : List Entry → List SetData → PlanFault → Type 0
+IsSetRingFault sets listed (Broken rule start end names) = (ring : List ℕ) × IsRingOfSets listed ring × IsRingTold sets ring rule start end names
+IsSetRingFault sets listed NoMemory = Unit {0}
 
 -- a break as a fault
-abbrev pub told : Break → List (List ℕ) → PlanFault
-told b ring = Broken b.rule b.start b.end ring
+abbrev pub break_fault : Break → List (List ℕ) → PlanFault
+break_fault b ring = Broken b.rule b.start b.end ring
 
 -- the fault tells the first break of references and names; memory may always run out
 abbrev pub IsNamedFault : Placed → PlanFault → Type 0

@@ -5,11 +5,11 @@ use Rattle.json_span.specs.View.{field_view}
 use Rattle.json_span.specs.declared.fields.Field.{Field}
 use Rattle.resolver_doc.specs.declared.known.Known.{Known}
 
-abbrev pub fields_of : List Field → List Entry
-fields_of fields = map field_view fields
+abbrev pub entries_of_fields : List Field → List Entry
+entries_of_fields fields = map field_view fields
 
 abbrev pub known_sets : Known → List Entry
-known_sets k = fields_of k.sets.items
+known_sets k = entries_of_fields k.sets.items
 
 abbrev pub known_modifiers : Known → List Entry
-known_modifiers k = fields_of k.modifiers.items
+known_modifiers k = entries_of_fields k.modifiers.items

@@ -24,5 +24,5 @@ Completes name numbers n rest all =
     ≡ position_from (λ e. bytes_eq (pointer name e) q) 0 all
 
 -- something stands exactly under these texts
-abbrev pub Keeps : Numbers → List (List ℕ) → Type 0
-Keeps numbers texts = (q : List ℕ) → is_some (map.get numbers q) ≡ is_among q texts
+abbrev pub HoldsTexts : Numbers → List (List ℕ) → Type 0
+HoldsTexts numbers texts = (q : List ℕ) → is_some (map.get numbers q) ≡ is_among q texts

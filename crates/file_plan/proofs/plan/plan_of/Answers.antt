@@ -3,7 +3,7 @@ use Rattle.std.specs.Option.{option_copied}
 use Rattle.std.specs.Result.{IfOk, IfErr}
 use Rattle.file_plan.specs.Plan.{planned, Plans}
 use Rattle.file_plan.specs.Trees.{IsRead}
-use Rattle.file_plan.specs.View.{plan_view, IsRefusal}
+use Rattle.file_plan.specs.View.{plan_view, IsPlanRefusal}
 use Rattle.file_plan.proofs.FoundPlans.{read_by}
 use Rattle.file_plan.proofs.plan.plan_of.Goals as goal
 
@@ -14,5 +14,5 @@ returns-in-Some-clause-plan c = λ text is.
 
 pub returns-in-Some-clause-refused : goal.returns-in-Some-clause-refused
 returns-in-Some-clause-refused c = λ text is.
-    read_by (λ (t : Option (List ℕ)). IfErr c.plan_of_tree.result (IsRefusal (Plans t))) c.in-Some.tree.now c.plan_of_tree.ensures.refused text
+    read_by (λ (t : Option (List ℕ)). IfErr c.plan_of_tree.result (IsPlanRefusal (Plans t))) c.in-Some.tree.now c.plan_of_tree.ensures.refused text
     (subst (λ r. IsRead text (option_copied r)) c.in-Some.is is)

@@ -1,6 +1,6 @@
 use Rattle.std.proofs.Common.{◌<◌, ℕ, length, map, take, ap, ap₂, sym, ◌∙◌, arith}
 use Rattle.std.specs.Prelude.{max}
-use Rattle.permutations.specs.Answer.{told}
+use Rattle.permutations.specs.Answer.{told_number}
 use Rattle.resolver_doc.specs.View.{sets_view, sources_view}
 use Rattle.permutations.specs.Permutation.{greatest}
 use Rattle.permutations.specs.declared.fault.TheConstants.{LAST_NUMBER}
@@ -16,6 +16,6 @@ loop-context-preserved c =
     let before = greatest (map (λ d. source_count sets d.sources) (sets_view (take i c.args.contexts.now))) in
     let here = source_count sets (sources_view c.context-item.result.sources) in
     c.max-most.ensures
-    ∙ (ap₂ (λ (a b : ℕ). max a b) (c.source_count.ensures ∙ ap (λ ss. told (source_count sets (sources_view ss))) c.as_slice.ensures) c.loop-context.invariant
+    ∙ (ap₂ (λ (a b : ℕ). max a b) (c.source_count.ensures ∙ ap (λ ss. told_number (source_count sets (sources_view ss))) c.as_slice.ensures) c.loop-context.invariant
     ∙ (told_max before here LAST_NUMBER
-    ∙ ap told (sym (most_more (λ d. source_count sets d.sources) c.args.contexts.now i c.context-item.result within c.context-item.is))))
+    ∙ ap told_number (sym (most_more (λ d. source_count sets d.sources) c.args.contexts.now i c.context-item.result within c.context-item.is))))

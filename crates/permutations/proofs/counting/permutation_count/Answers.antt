@@ -1,5 +1,5 @@
 use Rattle.std.proofs.Common.{◌≡◌, ◌+◌, ◌*◌, ◌<◌, ℕ, min, length, drop, ap, sym, ◌∙◌, arith}
-use Rattle.permutations.specs.Answer.{told}
+use Rattle.permutations.specs.Answer.{told_number}
 use Rattle.resolver_doc.specs.View.{item_view, order_view}
 use Rattle.permutations.specs.Permutation.{picks, choices}
 use Rattle.permutations.specs.declared.fault.TheConstants.{LAST_NUMBER}
@@ -19,8 +19,8 @@ loop-item-preserved c =
     omega (arith, c.saturating_mul.ensures, c.min-count.ensures)) in
     record {
       ways =
-          ap (λ (n : ℕ). told (n * left)) count
+          ap (λ (n : ℕ). told_number (n * left)) count
           ∙ (told_product c.loop-item.count options left LAST_NUMBER
-          ∙ (ap (λ (n : ℕ). told (c.loop-item.count * n)) (sym (ways_more order i c.item-item.result within c.item-item.is)) ∙ c.loop-item.invariant.ways));
+          ∙ (ap (λ (n : ℕ). told_number (c.loop-item.count * n)) (sym (ways_more order i c.item-item.result within c.item-item.is)) ∙ c.loop-item.invariant.ways));
       small = omega arith;
     }

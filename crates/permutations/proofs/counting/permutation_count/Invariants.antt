@@ -1,6 +1,6 @@
 -- The count times the ways to pick from the items to come are all ways.
 use Rattle.std.proofs.Common.{◌≡◌, ◌*◌, ◌≤◌, length, drop}
-use Rattle.permutations.specs.Answer.{told}
+use Rattle.permutations.specs.Answer.{told_number}
 use Rattle.resolver_doc.specs.View.{order_view}
 use Rattle.permutations.specs.Permutation.{choices}
 use Rattle.permutations.specs.declared.fault.TheConstants.{LAST_NUMBER}
@@ -8,6 +8,6 @@ use Rattle.permutations.proofs.counting.permutation_count.Given as goal
 
 abbrev pub invariant-loop-item : goal.invariant-loop-item
 invariant-loop-item l = record {
-  ways : told (l.count * length (choices (order_view (drop l.item-index l.order)))) ≡ told (length (choices (order_view l.order)));
+  ways : told_number (l.count * length (choices (order_view (drop l.item-index l.order)))) ≡ told_number (length (choices (order_view l.order)));
   small : l.count ≤ LAST_NUMBER;
 }

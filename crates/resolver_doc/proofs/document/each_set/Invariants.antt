@@ -3,10 +3,10 @@ use Rattle.std.proofs.Common.{◌≡◌}
 use Rattle.std.specs.List.{flat_map}
 use Rattle.json_span.specs.View.{ref_view, fields_view}
 use Rattle.resolver_doc.specs.Break.{with_breaks}
-use Rattle.resolver_doc.specs.Form.{set, counted, each_value}
+use Rattle.resolver_doc.specs.Form.{set_form, unreserved, each_value}
 use Rattle.resolver_doc.proofs.document.each_set.Given as goal
 
 abbrev pub invariant-loop-field : goal.invariant-loop-field
 invariant-loop-field l =
     (goal.iterator-loop-field).can_next l.field-iterator × (goal.iterator-loop-field).is_finite l.field-iterator
-    × (with_breaks l.first (flat_map (λ e. set e.value) (counted (fields_view l.field-iterator))) ≡ with_breaks l.fn.first (each_value set (ref_view l.node)))
+    × (with_breaks l.first (flat_map (λ e. set_form e.value) (unreserved (fields_view l.field-iterator))) ≡ with_breaks l.fn.first (each_value set_form (ref_view l.node)))

@@ -3,10 +3,10 @@ use Rattle.std.proofs.Common.{◌≡◌}
 use Rattle.std.specs.List.{flat_map}
 use Rattle.json_span.specs.View.{fields_view}
 use Rattle.resolver_doc.specs.Break.{with_breaks}
-use Rattle.resolver_doc.specs.Form.{context, counted}
+use Rattle.resolver_doc.specs.Form.{context_form, unreserved}
 use Rattle.resolver_doc.proofs.form.each_context.Given as goal
 
 abbrev pub invariant-loop-field : goal.invariant-loop-field
 invariant-loop-field l =
     (goal.iterator-loop-field).can_next l.field-iterator × (goal.iterator-loop-field).is_finite l.field-iterator
-    × (with_breaks l.first (flat_map context (counted (fields_view l.field-iterator))) ≡ with_breaks l.fn.first (flat_map context (counted (fields_view l.fields))))
+    × (with_breaks l.first (flat_map context_form (unreserved (fields_view l.field-iterator))) ≡ with_breaks l.fn.first (flat_map context_form (unreserved (fields_view l.fields))))

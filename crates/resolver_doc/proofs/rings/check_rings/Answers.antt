@@ -11,7 +11,7 @@ use Rattle.json_span.specs.Tree.{Placed}
 use Rattle.resolver_doc.specs.Rings.{set_needs, IsRingOfSets, HasNoRingOfSets, ring_string}
 use Rattle.resolver_doc.specs.View.{set_view, sets_view}
 use Rattle.resolver_doc.specs.declared.written.SetDef.{SetDef}
-use Rattle.resolver_doc.specs.inner.Faults.{IsRingAt}
+use Rattle.resolver_doc.specs.inner.Faults.{IsSetRingAt}
 use Rattle.resolver_doc.specs.inner.Known.{known_sets}
 use Rattle.resolver_doc.proofs.PlanFaults.{no_ring_of, ring_of, closes_of, told_of}
 use Rattle.resolver_doc.proofs.rings.check_rings.Goals as goal
@@ -50,4 +50,4 @@ returns-clause-ring c =
     let sets = known_sets c.args.known.now in
     let f = c.in_ok-ring_fault-in-Ring.field-0 in
     let r = first_ring c.args.sets.now c.as_slice.result.now c.in_ok-graph.graph.items c.in_ok-ring_or_order.field-0 c.in-Ring.ring c.as_slice.ensures.value c.in_ok-graph.ensures.rows c.in-Ring.is c.in_ok-ring_or_order.ensures.ring in
-    told_of sets (sets_view c.args.sets.now) c.in-Ring.ring.items f r (subst (λ (ring : List ℕ). IsRingAt sets ring f) c.as_slice-in-Ring.ensures.value c.in_ok-ring_fault-in-Ring.ensures)
+    told_of sets (sets_view c.args.sets.now) c.in-Ring.ring.items f r (subst (λ (ring : List ℕ). IsSetRingAt sets ring f) c.as_slice-in-Ring.ensures.value c.in_ok-ring_fault-in-Ring.ensures)

@@ -4,7 +4,7 @@ use Rattle.std.specs.List.{All, fold}
 use Rattle.resolver_doc.specs.Rings.{are_sets_right, HasNoRingOfSets}
 use Rattle.resolver_doc.specs.View.{set_view, sets_view}
 use Rattle.permutations.specs.Permutation.{set_sources}
-use Rattle.permutations.specs.inner.Parts.{AreKnown, IsTable, row_view, rows_view, with_row}
+use Rattle.permutations.specs.inner.Parts.{HaveRows, IsTable, row_view, rows_view, with_row}
 use Rattle.permutations.specs.inner.Orders.{IsSetOrder}
 use Rattle.permutations.proofs.Filling.{table_made}
 use Rattle.permutations.proofs.Known.{known_sets}
@@ -15,7 +15,7 @@ fill-requires-clause-known c =
     let sets = c.as_slice-sets.result.now in
     let same : sets ≡ c.args.plan.now.sets = c.as_slice-sets.ensures in
     let right = subst (λ ss. are_sets_right (sets_view ss) (sets_view ss) ≡ true) (sym same) c.args.plan.now.sets_right in
-    subst (λ n. All (λ s. AreKnown n s.sources) sets) (length-map sets set_view) (known_sets (sets_view sets) sets right)
+    subst (λ n. All (λ s. HaveRows n s.sources) sets) (length-map sets set_view) (known_sets (sets_view sets) sets right)
 
 pub returns-clause-tells : goal.returns-clause-tells
 returns-clause-tells c =
