@@ -3,14 +3,15 @@ use Rattle.std.proofs.Common.{◌≡◌, ◌≢◌, ℕ, Bool, true, false, cond
 use Rattle.std.specs.Ordering.{is_gt, is_lt}
 use Rattle.std.specs.declared.cmp.Ordering.{Ordering}
 use Rattle.std.specs.declared.cmp.Ordering.TheVariants.{Less, Equal, Greater}
+use Rattle.json_span.specs.Plain.{plain_string_in, plain_array_in}
 use Rattle.json_span.specs.PlainView.{Value}
 use Rattle.dec_fix.specs.Decimal.{Decimal, IsExact}
-use Rattle.dec_fix.specs.Arithmetic.{IsFromZeroToOne, order_with, whole}
+use Rattle.dec_fix.specs.Arithmetic.{IsFromZeroToOne, order_with, whole_decimal}
 use Rattle.name_path.specs.declared.kind.Kind.{Kind}
 use Rattle.name_path.specs.declared.kind.Kind.TheVariants as kind
 use Rattle.type_rules.specs.declared.fault.ValueRule.TheVariants.{StrokeWord, StrokeCap}
 use Rattle.type_rules.specs.Checked.{or_broken}
-use Rattle.type_rules.specs.Forms.{string_in, array_in, number_in, members_in, if_text, named, member, member_or, list_in, some_in}
+use Rattle.type_rules.specs.Forms.{number_in, members_in, if_text, named, member, member_or, list_in, some_in}
 use Rattle.type_rules.specs.Words.{meaning, word_in}
 use Rattle.type_rules.specs.Value.{color_in, size_in, time_in, curve_in, families_in, weight_in, simple_value}
 use Rattle.type_rules.specs.Sound.{IsColor, IsSize, IsTime, IsCurve, IsFamilies, IsWeight}
@@ -46,7 +47,7 @@ strokes_by None v s e = dashes_keep v s e
 
 pub strokes_keep : (v : Value) (s : Stroke) → stroke_in v ≡ Ok s → IsStroke s
 unfolding stroke_in
-strokes_keep v s e = strokes_by (string_in v) v s e
+strokes_keep v s e = strokes_by (plain_string_in v) v s e
 
 -- borders and transitions
 
@@ -113,7 +114,7 @@ shadows_by None v items e = made (members_in v) _ items e (λ es h e2. unless_ke
 
 pub shadows_keep : (v : Value) (items : List ShadowItem) → shadows_in v ≡ Ok items → IsShadows items
 unfolding shadows_in
-shadows_keep v items e = shadows_by (array_in v) v items e
+shadows_keep v items e = shadows_by (plain_array_in v) v items e
 
 -- gradients
 
@@ -141,13 +142,13 @@ record IsClamped (d n : Decimal) : Type 0 where
   exact : IsExact d → IsExact n
   part : IsFromZeroToOne n
 
-zero_exact : IsExact (whole (pos 0))
+zero_exact : IsExact (whole_decimal (pos 0))
 zero_exact = record { size = omega arith; places = omega arith; short = inl refl }
 
-one_exact : IsExact (whole (pos 1))
+one_exact : IsExact (whole_decimal (pos 1))
 one_exact = record { size = omega arith; places = omega arith; short = inl refl }
 
-clamped_by : (d : Decimal) (b c : Bool) → is_lt (order_with d 0) ≡ b → is_gt (order_with d 1) ≡ c → IsClamped d (cond b (whole (pos 0)) (cond c (whole (pos 1)) d))
+clamped_by : (d : Decimal) (b c : Bool) → is_lt (order_with d 0) ≡ b → is_gt (order_with d 1) ≡ c → IsClamped d (cond b (whole_decimal (pos 0)) (cond c (whole_decimal (pos 1)) d))
 clamped_by d true c e f = record { exact = λ h. zero_exact; part = record { low = λ n. cc; high = λ n. cc } }
 clamped_by d false true e f = record { exact = λ h. one_exact; part = record { low = λ n. cc; high = λ n. cc } }
 clamped_by d false false e f = record { exact = λ h. h; part = record { low = not_less (order_with d 0) e; high = not_greater (order_with d 1) f } }

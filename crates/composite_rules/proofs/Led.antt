@@ -1,12 +1,12 @@
 -- The steps of breaks, followed into the value.
 use Rattle.std.proofs.Common.{◌≡◌, ℕ, List, [], ◌∷◌, codes, false, Option, Some, None, Err, refl}
-use Rattle.json_span.specs.Plain.{plain_null, plain_boolean, plain_number, plain_string, plain_array, plain_object}
-use Rattle.json_span.specs.PlainView.{Value, Entry}
+use Rattle.json_span.specs.Plain.{plain_null, plain_boolean, plain_number, plain_string, plain_array, plain_object, plain_string_in, plain_array_in, plain_object_in, plain_boolean_in}
+use Rattle.json_span.specs.PlainView.{Value, ValueEntry}
 use Rattle.name_path.specs.declared.kind.Kind.{Kind}
 use Rattle.name_path.specs.declared.kind.Kind.TheVariants as kind
 use Rattle.type_rules.specs.declared.fault.ValueRule.TheVariants.{ValueShape, StrokeWord, StrokeCap}
 use Rattle.type_rules.specs.Checked.{Break, broken, or_broken}
-use Rattle.type_rules.specs.Forms.{string_in, array_in, object_in, number_in, members_in, if_text, named, member, member_or, list_in, some_in}
+use Rattle.type_rules.specs.Forms.{number_in, members_in, if_text, named, member, member_or, list_in, some_in}
 use Rattle.type_rules.specs.Words.{meaning, word_in}
 use Rattle.type_rules.specs.Value.{color_in, size_in, time_in, curve_in, families_in, weight_in, simple_value}
 use Rattle.type_rules.specs.Trails.{BreaksLead}
@@ -14,7 +14,7 @@ use Rattle.type_rules.proofs.Leading.{Led, either, sound, own, own_or, by_name, 
 use Rattle.type_rules.proofs.Led.{numbers_lead, colors_lead, sizes_lead, times_lead, curves_lead, families_lead, weights_lead, values_lead as simples_lead}
 use Rattle.composite_rules.specs.declared.shadow.ShadowItem.{ShadowItem}
 use Rattle.composite_rules.specs.Words.{stroke_words, caps}
-use Rattle.composite_rules.specs.Value.{stroke_of_word, dashes_in, stroke_in, border_in, transition_in, boolean_of, boolean_in, shadow_item_in, unless_zero, one_item, one_shadow, if_list, shadows_in, stop_in, gradient_in, typography_in, simple_in, value_of}
+use Rattle.composite_rules.specs.Value.{stroke_of_word, dashes_in, stroke_in, border_in, transition_in, boolean_in, shadow_item_in, unless_zero, one_item, one_shadow, if_list, shadows_in, stop_in, gradient_in, typography_in, simple_in, value_of}
 
 -- stroke styles
 
@@ -33,7 +33,7 @@ strokes_by None v b e = dashes_lead v b e
 
 pub strokes_lead : BreaksLead stroke_in
 unfolding stroke_in
-strokes_lead v b e = strokes_by (string_in v) v b e
+strokes_lead v b e = strokes_by (plain_string_in v) v b e
 
 -- borders and transitions
 
@@ -59,7 +59,7 @@ transitions_lead v b e =
 
 booleans_lead : BreaksLead boolean_in
 unfolding boolean_in
-booleans_lead v b e = own_or v ValueShape (boolean_of v) b e
+booleans_lead v b e = own_or v ValueShape (plain_boolean_in v) b e
 
 pub shadow_items_lead : BreaksLead shadow_item_in
 unfolding shadow_item_in
@@ -77,7 +77,7 @@ one_lead : BreaksLead one_item
 unfolding one_item
 one_lead v b e = either (shadow_item_in v) _ b e (shadow_items_lead v b) (λ item h e2. sound _ b e2)
 
-unless_led : (o : Option Value) (v : Value) (es : List Entry) (b : Break) → object_in v ≡ Some es → named (codes "0") es ≡ o → unless_zero o (one_item v) ≡ Err b → Led v b
+unless_led : (o : Option Value) (v : Value) (es : List ValueEntry) (b : Break) → plain_object_in v ≡ Some es → named (codes "0") es ≡ o → unless_zero o (one_item v) ≡ Err b → Led v b
 unless_led (Some zero) v es b o n e = by_name {A = List ShadowItem} v zero es (codes "0") (broken ValueShape) b o n (λ c h. own {A = List ShadowItem} zero ValueShape c h) e
 unless_led None v es b o n e = one_lead v b e
 
@@ -88,7 +88,7 @@ shadows_by None v b e = either (members_in v) _ b e (members_led v b) (λ es h e
 
 pub shadows_lead : BreaksLead shadows_in
 unfolding shadows_in
-shadows_lead v b e = shadows_by (array_in v) v b e
+shadows_lead v b e = shadows_by (plain_array_in v) v b e
 
 -- gradients and typography
 
@@ -138,7 +138,7 @@ values_lead kind.Gradient v b e = either (gradient_in v) _ b e (gradients_lead v
 values_lead kind.Typography v b e = either (typography_in v) _ b e (typographies_lead v b) (λ x h e2. sound _ b e2)
 
 -- a member `0`
-pub array_none : (v : Value) (es : List Entry) → object_in v ≡ Some es → array_in v ≡ None
+pub array_none : (v : Value) (es : List ValueEntry) → plain_object_in v ≡ Some es → plain_array_in v ≡ None
 array_none plain_null es o = refl
 array_none (plain_boolean b) es o = refl
 array_none (plain_number k) es o = refl
@@ -146,6 +146,6 @@ array_none (plain_string s) es o = refl
 array_none (plain_array vs) es o = absurd (let h : ⊥ = cc in h)
 array_none (plain_object ms) es o = refl
 
-pub zeros_break : (v zero : Value) (es : List Entry) → object_in v ≡ Some es → named (codes "0") es ≡ Some zero → value_of kind.Shadow v ≡ Err (record { rule = ValueShape; trail = codes "0" ∷ [] })
+pub zeros_break : (v zero : Value) (es : List ValueEntry) → plain_object_in v ≡ Some es → named (codes "0") es ≡ Some zero → value_of kind.Shadow v ≡ Err (record { rule = ValueShape; trail = codes "0" ∷ [] })
 unfolding value_of shadows_in one_shadow members_in
 zeros_break v zero es o n = rw (array_none v es o, o, n) refl

@@ -1,7 +1,7 @@
-pub mod Simples
-pub mod WordFacts
-pub mod Kept
-pub mod Led
-pub mod Somes
-pub mod Typing
-pub mod Placing
+mod Simples
+mod WordFacts
+mod Kept
+mod Led
+mod Somes
+mod Typing
+mod Placing

@@ -1,14 +1,14 @@
 -- Where the parts of a value stand.
-use Rattle.std.proofs.Common.{◌≡◌, ℕ, ◌+◌, Bool, true, false, cond, List, [], ◌∷◌, map, codes, Option, Some, None, Ok, refl, ap, sym, subst, ◌∙◌}
-use Rattle.std.specs.Prelude.{option_and_then, option_map, ⊤}
+use Rattle.std.proofs.Common.{◌≡◌, ℕ, ◌+◌, Bool, true, false, cond, List, [], ◌∷◌, map, codes, Option, Some, None, Ok, refl, ap, sym, ◌∙◌}
+use Rattle.std.specs.Prelude.{option_and_then, option_map}
 use Rattle.std.specs.Fmt.{decimal}
 use Rattle.std.specs.Str.{bytes_eq}
-use Rattle.json_span.specs.Plain.{plain_null, plain_boolean, plain_number, plain_string, plain_array, plain_object}
-use Rattle.json_span.specs.PlainView.{Value, Entry}
+use Rattle.json_span.specs.Plain.{plain_array_in, plain_object_in}
+use Rattle.json_span.specs.PlainView.{Value, ValueEntry}
 use Rattle.name_path.specs.declared.kind.Kind.{Kind}
 use Rattle.name_path.specs.declared.kind.Kind.TheVariants as kind
-use Rattle.type_rules.specs.Checked.{Checked, under, ◌>>=◌}
-use Rattle.type_rules.specs.Forms.{array_in, object_in, members_in, named, each, some_in}
+use Rattle.type_rules.specs.Checked.{Checked, under}
+use Rattle.type_rules.specs.Forms.{members_in, named, each, some_in}
 use Rattle.type_rules.specs.Words.{meaning}
 use Rattle.type_rules.specs.Value.{simple_value}
 use Rattle.type_rules.specs.Trails.{item_at, child, plain_at}
@@ -89,7 +89,7 @@ gradient_stands v stops g (index ∷ name ∷ []) part p f = item_stands stop_in
 gradient_stands v stops g (a ∷ b ∷ c ∷ steps) part p f = absurd (let z : ⊥ = cc in z)
 
 -- a list is no object
-no_object : (v : Value) (vs : List Value) (es : List Entry) → array_in v ≡ Some vs → object_in v ≡ Some es → ⊥
+no_object : (v : Value) (vs : List Value) (es : List ValueEntry) → plain_array_in v ≡ Some vs → plain_object_in v ≡ Some es → ⊥
 no_object v vs es a o = let k : ◌≡◌ {A = Option (List Value)} None (Some vs) = sym (array_none v es o) ∙ a in cc
 
 listed_stands : (v : Value) (items : List ShadowItem) → some_in shadow_item_in v ≡ Ok items → StandAll v (typed.Shadow items)
@@ -116,7 +116,7 @@ shadow_by v items None e = made (members_in v) _ items e (λ es k e2. one_stands
 
 shadow_stands : (v : Value) (items : List ShadowItem) → shadows_in v ≡ Ok items → StandAll v (typed.Shadow items)
 unfolding shadows_in
-shadow_stands v items e = shadow_by v items (array_in v) e
+shadow_stands v items e = shadow_by v items (plain_array_in v) e
 
 simple_stands : (k : Kind) (v : Value) (t : Typed) → simple_in k v ≡ Ok t → StandAll v t
 unfolding simple_in

@@ -5,8 +5,8 @@ use Rattle.std.specs.Fmt.{decimal}
 use Rattle.std.specs.List.{AllByRecursion}
 use Rattle.std.specs.Str.{bytes_eq}
 use Rattle.std.proofs.lemmas.Fmt.{decimal_digit}
-use Rattle.json_span.specs.Plain.{plain_null, plain_boolean, plain_number, plain_string, plain_array, plain_object, plains_in, plain_entries_in}
-use Rattle.json_span.specs.PlainView.{Value, Entry}
+use Rattle.json_span.specs.Plain.{plain_null, plain_boolean, plain_number, plain_string, plain_array, plain_object, plains_in, plain_entries_in, plain_array_in, plain_object_in}
+use Rattle.json_span.specs.PlainView.{Value, ValueEntry}
 use Rattle.dec_fix.specs.Decimal.{Decimal}
 use Rattle.name_path.specs.declared.kind.Kind.{Kind}
 use Rattle.name_path.specs.declared.kind.Kind.TheVariants as kind
@@ -16,8 +16,8 @@ use Rattle.type_rules.specs.declared.size.Size.{Size}
 use Rattle.type_rules.specs.declared.time.Time.{Time}
 use Rattle.type_rules.specs.declared.curve.Curve.{Curve}
 use Rattle.type_rules.specs.declared.simple.Simple.TheVariants as simple
-use Rattle.type_rules.specs.Checked.{Checked, or_broken, under, ◌>>=◌}
-use Rattle.type_rules.specs.Forms.{array_in, object_in, number_in, members_in, some_items_in, named, member, member_or, each, some_in}
+use Rattle.type_rules.specs.Checked.{Checked, or_broken, under}
+use Rattle.type_rules.specs.Forms.{number_in, members_in, some_items_in, named, member, member_or, each, some_in}
 use Rattle.type_rules.specs.Words.{meaning}
 use Rattle.type_rules.specs.Value.{color_in, size_in, time_in, curve_in, families_in, weight_in, simple_value}
 use Rattle.type_rules.specs.Trails.{item_at, child, plain_at}
@@ -74,33 +74,33 @@ stroke_typed w x e = rw e refl
 
 -- rows: what stands under the name of a part has the part as its value
 
-pub record IsTypedIn (es : List Entry) (r : List ℕ × Typed) : Type 0 where
+pub record IsTypedIn (es : List ValueEntry) (r : List ℕ × Typed) : Type 0 where
   pub value : Value
   pub stands : named r.0 es ≡ Some value
   pub typed : value_of (kind_of r.1) value ≡ Ok r.1
 
 pub record Rows (v : Value) (row : Row) : Type 0 where
-  pub es : List Entry
-  pub object : object_in v ≡ Some es
+  pub es : List ValueEntry
+  pub object : plain_object_in v ≡ Some es
   pub typed : AllByRecursion (IsTypedIn es) row
 
-row_by : (es : List Entry) (r : List ℕ × Typed) (row : Row) (name : List ℕ) (x : Typed) (b : Bool) → bytes_eq r.0 name ≡ b → IsTypedIn es r → (meaning row name ≡ Some x → IsTypedIn es (name, x)) → cond b (Some r.1) (meaning row name) ≡ Some x → IsTypedIn es (name, x)
+row_by : (es : List ValueEntry) (r : List ℕ × Typed) (row : Row) (name : List ℕ) (x : Typed) (b : Bool) → bytes_eq r.0 name ≡ b → IsTypedIn es r → (meaning row name ≡ Some x → IsTypedIn es (name, x)) → cond b (Some r.1) (meaning row name) ≡ Some x → IsTypedIn es (name, x)
 row_by es r row name x true t here later e =
     let P : List ℕ → Type 0 = λ m. IsTypedIn es (m, r.1) in
     let Q : Typed → Type 0 = λ z. IsTypedIn es (name, z) in
     subst Q (some_is r.1 x e) (subst P (same_text r.0 name t) here)
 row_by es r row name x false t here later e = later e
 
-pub in_row : (es : List Entry) (row : Row) (name : List ℕ) (x : Typed) → AllByRecursion (IsTypedIn es) row → meaning row name ≡ Some x → IsTypedIn es (name, x)
+pub in_row : (es : List ValueEntry) (row : Row) (name : List ℕ) (x : Typed) → AllByRecursion (IsTypedIn es) row → meaning row name ≡ Some x → IsTypedIn es (name, x)
 in_row es [] name x h e = absurd (let k : ⊥ = cc in k)
 in_row es (r ∷ row) name x (h, hs) e = row_by es r row name x (bytes_eq r.0 name) refl h (λ k. in_row es row name x hs k) e
 
-member_is : {A : Type 0} (check : Value → Checked A) (name : List ℕ) (es : List Entry) (x : A) (t : Typed) → ((w : Value) → check w ≡ Ok x → value_of (kind_of t) w ≡ Ok t) → member check name es ≡ Ok x → IsTypedIn es (name, t)
+member_is : {A : Type 0} (check : Value → Checked A) (name : List ℕ) (es : List ValueEntry) (x : A) (t : Typed) → ((w : Value) → check w ≡ Ok x → value_of (kind_of t) w ≡ Ok t) → member check name es ≡ Ok x → IsTypedIn es (name, t)
 unfolding member
 member_is check name es x t to e = made (or_broken ValueShape (named name es)) (λ v. under name (check v)) x e (λ u h k. record { value = u; stands = from_some ValueShape (named name es) u h; typed = to u (from_part name (check u) x k) })
 
 -- the child of an object, and of a list
-pub child_named : (v : Value) (es : List Entry) (name : List ℕ) → object_in v ≡ Some es → child name v ≡ named name es
+pub child_named : (v : Value) (es : List ValueEntry) (name : List ℕ) → plain_object_in v ≡ Some es → child name v ≡ named name es
 child_named plain_null es name o = absurd (let h : ⊥ = cc in h)
 child_named (plain_boolean b) es name o = absurd (let h : ⊥ = cc in h)
 child_named (plain_number k) es name o = absurd (let h : ⊥ = cc in h)
@@ -108,7 +108,7 @@ child_named (plain_string s) es name o = absurd (let h : ⊥ = cc in h)
 child_named (plain_array vs) es name o = absurd (let h : ⊥ = cc in h)
 child_named (plain_object ms) es name o = ap (named name) (some_is (plain_entries_in ms) es o)
 
-pub child_item : (v : Value) (vs : List Value) (step : List ℕ) → array_in v ≡ Some vs → child step v ≡ item_at step 0 vs
+pub child_item : (v : Value) (vs : List Value) (step : List ℕ) → plain_array_in v ≡ Some vs → child step v ≡ item_at step 0 vs
 child_item plain_null vs step o = absurd (let h : ⊥ = cc in h)
 child_item (plain_boolean b) vs step o = absurd (let h : ⊥ = cc in h)
 child_item (plain_number k) vs step o = absurd (let h : ⊥ = cc in h)
@@ -269,7 +269,7 @@ pair check step i (v ∷ vs) xs w e n =
 -- a list with its items
 pub record Items {A : Type 0} (check : Value → Checked A) (v : Value) (xs : List A) : Type 0 where
   pub vs : List Value
-  pub array : array_in v ≡ Some vs
+  pub array : plain_array_in v ≡ Some vs
   pub every : each check 0 vs ≡ Ok xs
 
 pub items_are : {A : Type 0} (check : Value → Checked A) (v : Value) (xs : List A) → some_in check v ≡ Ok xs → Items check v xs
@@ -337,20 +337,20 @@ listed_parts v items g h (index ∷ name ∷ []) w part e p = item_part shadow_i
 listed_parts v items g h (a ∷ b ∷ c ∷ steps) w part e p = absurd (let z : ⊥ = cc in z)
 
 -- a shadow that is one object has no member `0`
-object_no_item : (v w : Value) (es : List Entry) (item : ShadowItem) (index name : List ℕ) (x : Typed) → object_in v ≡ Some es → named (codes "0") es ≡ None → plain_at v (index ∷ name ∷ []) ≡ Some w → option_and_then (λ row. meaning row name) (item_at index 0 (shadow_row item ∷ [])) ≡ Some x → ⊥
+object_no_item : (v w : Value) (es : List ValueEntry) (item : ShadowItem) (index name : List ℕ) (x : Typed) → plain_object_in v ≡ Some es → named (codes "0") es ≡ None → plain_at v (index ∷ name ∷ []) ≡ Some w → option_and_then (λ row. meaning row name) (item_at index 0 (shadow_row item ∷ [])) ≡ Some x → ⊥
 object_no_item v w es item index name x o n e m =
     some_then (λ u. plain_at u (name ∷ [])) (child index v) w e (λ u h k.
     some_then (λ row. meaning row name) (item_at index 0 (shadow_row item ∷ [])) x m (λ row r q.
     let there : named (codes "0") es ≡ Some u = ap (λ s. named s es) (only_zero (shadow_row item) row index r) ∙ (sym (child_named v es index o) ∙ h) in
     let both : ◌≡◌ {A = Option Value} None (Some u) = sym n ∙ there in cc))
 
-alone_parts : (v : Value) (es : List Entry) (item : ShadowItem) → object_in v ≡ Some es → named (codes "0") es ≡ None → shadow_item_in v ≡ Ok item → value_of kind.Shadow v ≡ Ok (typed.Shadow (item ∷ [])) → PartsOf v (typed.Shadow (item ∷ []))
+alone_parts : (v : Value) (es : List ValueEntry) (item : ShadowItem) → plain_object_in v ≡ Some es → named (codes "0") es ≡ None → shadow_item_in v ≡ Ok item → value_of kind.Shadow v ≡ Ok (typed.Shadow (item ∷ [])) → PartsOf v (typed.Shadow (item ∷ []))
 alone_parts v es item o n g h [] w part e p = whole_part v w (typed.Shadow (item ∷ [])) part h e p
 alone_parts v es item o n g h (name ∷ []) w part e p = member_part v w (shadow_row item) name part (shadow_rows v item g) e p
 alone_parts v es item o n g h (index ∷ name ∷ []) w part e p = absurd (object_no_item v w es item index name part o n e p)
 alone_parts v es item o n g h (a ∷ b ∷ c ∷ steps) w part e p = absurd (let z : ⊥ = cc in z)
 
-one_parts : (v : Value) (es : List Entry) (items : List ShadowItem) (o : Option Value) → object_in v ≡ Some es → named (codes "0") es ≡ o → unless_zero o (one_item v) ≡ Ok items → value_of kind.Shadow v ≡ Ok (typed.Shadow items) → PartsOf v (typed.Shadow items)
+one_parts : (v : Value) (es : List ValueEntry) (items : List ShadowItem) (o : Option Value) → plain_object_in v ≡ Some es → named (codes "0") es ≡ o → unless_zero o (one_item v) ≡ Ok items → value_of kind.Shadow v ≡ Ok (typed.Shadow items) → PartsOf v (typed.Shadow items)
 unfolding one_item
 one_parts v es items (Some zero) o n e h = absurd (let k : ⊥ = cc in k)
 one_parts v es items None o n e h =
@@ -365,7 +365,7 @@ shadow_by v items None e h = made (members_in v) _ items e (λ es k e2. one_part
 
 shadow_parts : (v : Value) (items : List ShadowItem) → shadows_in v ≡ Ok items → value_of kind.Shadow v ≡ Ok (typed.Shadow items) → PartsOf v (typed.Shadow items)
 unfolding shadows_in
-shadow_parts v items e h = shadow_by v items (array_in v) e h
+shadow_parts v items e h = shadow_by v items (plain_array_in v) e h
 
 abbrev Whole : Value → Typed → Type 0
 Whole v t = value_of (kind_of t) v ≡ Ok t

@@ -2,11 +2,12 @@
 use Rattle.std.specs.Prelude.{◌≡◌, ◌↔◌, ℕ, List, [], ◌∷◌, codes, Some, Ok, Err}
 use Rattle.dec_fix.specs.Decimal.{Decimal}
 use Rattle.dec_fix.specs.Arithmetic.{IsFromZeroToOne}
-use Rattle.json_span.specs.PlainView.{Value, Entry}
+use Rattle.json_span.specs.Plain.{plain_object_in}
+use Rattle.json_span.specs.PlainView.{Value, ValueEntry}
 use Rattle.name_path.specs.declared.kind.Kind.{Kind}
 use Rattle.name_path.specs.declared.kind.Kind.TheVariants as kind
 use Rattle.type_rules.specs.declared.fault.ValueRule.TheVariants.{ValueShape}
-use Rattle.type_rules.specs.Forms.{object_in, named}
+use Rattle.type_rules.specs.Forms.{named}
 use Rattle.type_rules.specs.Trails.{BreaksLead, plain_at}
 use Rattle.type_rules.specs.Words.{meaning}
 use Rattle.composite_rules.specs.declared.stroke.StrokeWord.{StrokeWord}
@@ -34,7 +35,7 @@ ValuesBreakInside = (kind : Kind) → BreaksLead (value_of kind)
 
 -- a shadow that is one object breaks the rule on shapes at a member `0`, whatever its other members are
 abbrev pub ZerosBreak : Type 0
-ZerosBreak = (v zero : Value) (es : List Entry) → object_in v ≡ Some es → named (codes "0") es ≡ Some zero
+ZerosBreak = (v zero : Value) (es : List ValueEntry) → plain_object_in v ≡ Some es → named (codes "0") es ≡ Some zero
     → value_of kind.Shadow v ≡ Err (record { rule = ValueShape; trail = codes "0" ∷ [] })
 
 -- a position within 0 to 1 stays, and every other is moved there

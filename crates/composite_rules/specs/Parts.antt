@@ -4,8 +4,8 @@ use Rattle.type_rules.specs.declared.color.Color.{Color}
 use Rattle.type_rules.specs.declared.size.Size.{Size}
 use Rattle.type_rules.specs.declared.time.Time.{Time}
 use Rattle.type_rules.specs.declared.simple.Simple.TheVariants as simple
-use Rattle.json_span.specs.PlainView.{Value, Entry}
-use Rattle.type_rules.specs.Forms.{array_in, object_in}
+use Rattle.json_span.specs.Plain.{plain_array_in, plain_object_in}
+use Rattle.json_span.specs.PlainView.{Value, ValueEntry}
 use Rattle.type_rules.specs.Trails.{item_at}
 use Rattle.type_rules.specs.Words.{meaning}
 use Rattle.composite_rules.specs.declared.border.Border.{Border}
@@ -92,6 +92,6 @@ part_at t (a ∷ b ∷ c ∷ steps) = None
 -- list.
 abbrev pub HasForm : Value → List (List ℕ) → Type 0
 HasForm v [] = ⊤
-HasForm v (name ∷ []) = (es : List Entry) × (object_in v ≡ Some es)
-HasForm v (index ∷ name ∷ []) = (vs : List Value) × (array_in v ≡ Some vs)
+HasForm v (name ∷ []) = (es : List ValueEntry) × (plain_object_in v ≡ Some es)
+HasForm v (index ∷ name ∷ []) = (vs : List Value) × (plain_array_in v ≡ Some vs)
 HasForm v (a ∷ b ∷ c ∷ steps) = ⊥

@@ -2,16 +2,16 @@
 -- with them the value under each kind, or the first rule that it breaks. The parts are checked in the order of the lines.
 use Rattle.std.specs.Prelude.{ℕ, Bool, false, List, [], ◌∷◌, codes, pos, Option, Some, None, Ok, if◌then◌else◌}
 use Rattle.std.specs.Ordering.{is_gt, is_lt}
-use Rattle.json_span.specs.Plain.{plain_null, plain_boolean, plain_number, plain_string, plain_array, plain_object}
-use Rattle.json_span.specs.PlainView.{Value, Entry}
+use Rattle.json_span.specs.Plain.{plain_boolean_in, plain_string_in, plain_array_in}
+use Rattle.json_span.specs.PlainView.{Value, ValueEntry}
 use Rattle.dec_fix.specs.Decimal.{Decimal}
-use Rattle.dec_fix.specs.Arithmetic.{order_with, whole}
+use Rattle.dec_fix.specs.Arithmetic.{order_with, whole_decimal}
 use Rattle.name_path.specs.declared.kind.Kind.{Kind}
 use Rattle.name_path.specs.declared.kind.Kind.TheVariants as kind
 use Rattle.type_rules.specs.declared.fault.ValueRule.TheVariants.{ValueShape, StrokeWord, StrokeCap}
 use Rattle.type_rules.specs.declared.size.Size.{Size}
 use Rattle.type_rules.specs.Checked.{Checked, broken, or_broken, under, ◌>>=◌}
-use Rattle.type_rules.specs.Forms.{string_in, array_in, number_in, members_in, if_text, named, member, member_or, list_in, some_in}
+use Rattle.type_rules.specs.Forms.{number_in, members_in, if_text, named, member, member_or, list_in, some_in}
 use Rattle.type_rules.specs.Words.{meaning, word_in}
 use Rattle.type_rules.specs.Value.{color_in, size_in, time_in, curve_in, families_in, weight_in, simple_value}
 use Rattle.composite_rules.specs.declared.stroke.Stroke.{Stroke}
@@ -31,7 +31,7 @@ stroke_of_word text = do
   word ← or_broken StrokeWord (meaning stroke_words text)
   Ok (stroke.Word word)
 
-abbrev pub lengths_member : List Entry → Checked (List Size)
+abbrev pub lengths_member : List ValueEntry → Checked (List Size)
 lengths_member es = member (list_in size_in) (codes "dashArray") es
 
 unfoldable pub dashes_in : Value → Checked Stroke
@@ -42,7 +42,7 @@ dashes_in v = do
   Ok (stroke.Dashes lengths cap)
 
 unfoldable pub stroke_in : Value → Checked Stroke
-stroke_in v = if_text (string_in v) stroke_of_word (dashes_in v)
+stroke_in v = if_text (plain_string_in v) stroke_of_word (dashes_in v)
 
 unfoldable pub border_in : Value → Checked Border
 border_in v = do
@@ -60,20 +60,12 @@ transition_in v = do
   timing ← member curve_in (codes "timingFunction") es
   Ok (record { duration = duration; delay = delay; timing = timing })
 
--- true or false, if it is that
-abbrev pub boolean_of : Value → Option Bool
-boolean_of plain_null = None
-boolean_of (plain_boolean b) = Some b
-boolean_of (plain_number k) = None
-boolean_of (plain_string s) = None
-boolean_of (plain_array vs) = None
-boolean_of (plain_object ms) = None
-
+-- true or false
 unfoldable pub boolean_in : Value → Checked Bool
-boolean_in v = or_broken ValueShape (boolean_of v)
+boolean_in v = or_broken ValueShape (plain_boolean_in v)
 
 -- without an `inset` a shadow is none that falls inside
-abbrev pub inset_member : List Entry → Checked Bool
+abbrev pub inset_member : List ValueEntry → Checked Bool
 inset_member es = member_or boolean_in false (codes "inset") es
 
 unfoldable pub shadow_item_in : Value → Checked ShadowItem
@@ -108,13 +100,13 @@ if_list (Some vs) list other = list
 
 -- one or more shadows
 unfoldable pub shadows_in : Value → Checked (List ShadowItem)
-shadows_in v = if_list (array_in v) (some_in shadow_item_in v) (one_shadow v)
+shadows_in v = if_list (plain_array_in v) (some_in shadow_item_in v) (one_shadow v)
 
 -- the nearest number from 0 to 1
 abbrev pub clamped : Decimal → Decimal
 clamped d =
-    if is_lt (order_with d 0) then whole (pos 0)
-    else (if is_gt (order_with d 1) then whole (pos 1) else d)
+    if is_lt (order_with d 0) then whole_decimal (pos 0)
+    else (if is_gt (order_with d 1) then whole_decimal (pos 1) else d)
 
 unfoldable pub stop_in : Value → Checked ColorStop
 stop_in v = do

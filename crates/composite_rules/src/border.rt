@@ -8,7 +8,7 @@ use std::alloc::Global;
 use type_rules::{Color, Part, Size, ValueFault, members_of, part_under};
 
 /// A border (Format Module 2025.10, border).
-#[derive(Drop)]
+#[derive(Debug, Drop)]
 pub struct Border {
     pub color: Color,
     pub width: Size,

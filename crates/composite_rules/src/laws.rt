@@ -1,6 +1,9 @@
 //! Laws over the definitions alone, for the layers above.
 
-ghost use Rattle.composite_rules.specs.Laws.{KindsStay, ValuesKeep, ValuesAreWritten, ValuesBreakInside, ZerosBreak, PositionsClamp, SharesStay, PartsAreTyped, PartsStand, StrokeWordsNamed, CapsNamed};
+ghost use Rattle.composite_rules.specs.Laws.{KindsStay, ValuesKeep, ValuesAreWritten};
+ghost use Rattle.composite_rules.specs.Laws.{ValuesBreakInside, ZerosBreak, PositionsClamp};
+ghost use Rattle.composite_rules.specs.Laws.{SharesStay, PartsAreTyped, PartsStand};
+ghost use Rattle.composite_rules.specs.Laws.{StrokeWordsNamed, CapsNamed};
 
 /// A value has the kind under which it is read, and lies in the ranges of the kind; its numbers are such as are read.
 /// Each such value is the value of some plain value. Where a rule is broken, the steps lead from the value to a part of

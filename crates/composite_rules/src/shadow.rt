@@ -4,14 +4,15 @@ ghost use Rattle.std.specs.Prelude.{◌≡◌, Ok, IfOk, IfErr, codes, false};
 ghost use Rattle.json_span.specs.PlainView.{plain_view, plain_fields_view};
 ghost use Rattle.type_rules.specs.Answer.{IsFound, IsBreak};
 ghost use Rattle.type_rules.specs.Forms.{member_or};
-ghost use Rattle.composite_rules.specs.Value.{boolean_of, boolean_in, inset_member, shadow_item_in, one_item, one_shadow, shadows_in};
+ghost use Rattle.composite_rules.specs.Value.{boolean_in, inset_member, shadow_item_in, one_item};
+ghost use Rattle.composite_rules.specs.Value.{one_shadow, shadows_in};
 
 use json_span::{Plain, PlainFields};
 use std::alloc::Global;
 use tk_io::Sequence;
 use type_rules::{
-    Color, Part, Size, ValueFault, ValueRule, as_array, broken, members_of, named, one, part_under,
-    some_of, under,
+    Color, Part, Size, ValueFault, ValueRule, broken, members_of, named, one, part_under, some_of,
+    under,
 };
 
 /// One shadow of a box (Format Module 2025.10, shadow).
@@ -29,21 +30,12 @@ pub struct ShadowItem {
 /// One or more shadows.
 pub type Shadows = Sequence<ShadowItem>;
 
-fn as_boolean(plain: &Plain<'_>) -> Option<bool>
-    ensures { result ≡ boolean_of (plain_view plain.now) }
-{
-    match plain {
-        Plain::Bool(truth) => Some(*truth),
-        _ => None,
-    }
-}
-
 #[tactic(auto, unfolding(crate::specs::Value::boolean_in))]
 fn check_boolean<'s>(alloc: Global, plain: &Plain<'s>) -> Result<bool, ValueFault<'s>>
     ensures ok { IfOk result (λ x. boolean_in (plain_view plain.now) ≡ Ok x) }
     ensures broken { IfErr result (IsBreak (boolean_in (plain_view plain.now))) }
 {
-    match as_boolean(plain) {
+    match plain.as_bool() {
         Some(truth) => Ok(truth),
         None => Err(broken(alloc, ValueRule::ValueShape)),
     }
@@ -111,7 +103,7 @@ pub(crate) fn shadows_of<'s>(alloc: Global, plain: &Plain<'s>) -> Result<Shadows
     ensures ok { IfOk result (λ items. shadows_in (plain_view plain.now) ≡ Ok items) }
     ensures broken { IfErr result (IsBreak (shadows_in (plain_view plain.now))) }
 {
-    match as_array(plain) {
+    match plain.as_array() {
         Some(_) => some_of::<ShadowItem>(alloc, plain),
         None => one_shadow(alloc, plain),
     }

@@ -12,8 +12,8 @@ use json_span::{Plain, PlainFields};
 use std::alloc::Global;
 use tk_io::Sequence;
 use type_rules::{
-    Part, Size, ValueFault, ValueRule, as_text, list_of, meaning, members_of, or_broken, required,
-    under, word_under,
+    Part, Size, ValueFault, ValueRule, list_of, meaning, members_of, or_broken, required, under,
+    word_under,
 };
 
 /// A style that has a word of its own (Format Module 2025.10, stroke style).
@@ -41,7 +41,7 @@ pub enum Cap {
 pub type Sizes = Sequence<Size>;
 
 /// How a stroke is drawn.
-#[derive(Drop)]
+#[derive(Debug, Drop)]
 pub enum Stroke {
     Word(StrokeWord),
     /// Dashes and gaps of these lengths in turn, and how the dashes end.
@@ -129,7 +129,7 @@ impl<'s> Part<'s> for Stroke {
     ghost part_in = { stroke_in };
 
     fn check(alloc: Global, plain: &Plain<'s>) -> Result<Stroke, ValueFault<'s>> {
-        match as_text(plain) {
+        match plain.as_text() {
             Some(text) => stroke_of_word(alloc, text.as_str()),
             None => dashes_of(alloc, plain),
         }

@@ -19,7 +19,7 @@ use std::alloc::Global;
 use type_rules::{Part, Simple, ValueFault, check_simple};
 
 /// A value of a kind.
-#[derive(Drop)]
+#[derive(Debug, Drop)]
 pub enum Typed<'s> {
     /// A value that is made of no values of other kinds.
     Simple(Simple<'s>),

@@ -8,7 +8,7 @@ use std::alloc::Global;
 use type_rules::{Families, Part, Size, ValueFault, Weight, members_of, part_under};
 
 /// How text is set (Format Module 2025.10, typography).
-#[derive(Drop)]
+#[derive(Debug, Drop)]
 pub struct Typography<'s> {
     pub family: Families<'s>,
     pub size: Size,

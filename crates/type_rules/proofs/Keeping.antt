@@ -3,7 +3,7 @@ use Rattle.std.proofs.Common.{◌≡◌, ◌≢◌, ℕ, ◌+◌, List, [], ◌�
 use Rattle.std.specs.Prelude.{slice_get}
 use Rattle.std.specs.Fmt.{decimal}
 use Rattle.std.specs.List.{AllByRecursion}
-use Rattle.json_span.specs.PlainView.{Value, Entry}
+use Rattle.json_span.specs.PlainView.{Value, ValueEntry}
 use Rattle.type_rules.specs.declared.fault.ValueRule.{ValueRule}
 use Rattle.type_rules.specs.declared.fault.ValueRule.TheVariants.{ValueShape}
 use Rattle.type_rules.specs.Checked.{Checked, or_broken, under, ◌>>=◌}
@@ -30,7 +30,7 @@ from_part step (Ok y) x e = e
 from_part step (Err b) x e = absurd (let h : ⊥ = cc in h)
 
 module _ {A : Type 0} (check : Value → Checked A) (P : A → Type 0) (each_keeps : (v : Value) (x : A) → check v ≡ Ok x → P x) where
-  pub member_keeps : (name : List ℕ) (es : List Entry) (x : A) → member check name es ≡ Ok x → P x
+  pub member_keeps : (name : List ℕ) (es : List ValueEntry) (x : A) → member check name es ≡ Ok x → P x
   unfolding member
   member_keeps name es x e = made (or_broken ValueShape (named name es)) (λ v. under name (check v)) x e (λ v h k. each_keeps v x (from_part name (check v) x k))
 
@@ -42,7 +42,7 @@ module _ {A : Type 0} (check : Value → Checked A) (P : A → Type 0) (each_kee
   member_if_keeps absent name None x h e = found P absent x e h
   member_if_keeps absent name (Some v) x h e = each_keeps v x (from_part name (check v) x e)
 
-  pub member_or_keeps : (absent : A) (name : List ℕ) (es : List Entry) (x : A) → P absent → member_or check absent name es ≡ Ok x → P x
+  pub member_or_keeps : (absent : A) (name : List ℕ) (es : List ValueEntry) (x : A) → P absent → member_or check absent name es ≡ Ok x → P x
   unfolding member_or
   member_or_keeps absent name es x h e = member_if_keeps absent name (named name es) x h e
 

@@ -1,5 +1,5 @@
 -- What typed values keep.
-use Rattle.std.proofs.Common.{◌≡◌, ◌≢◌, ℕ, ◌^◌, Bool, true, false, ◌&&◌, ◌==◌, cond, List, [], ◌∷◌, map, length, codes, pos, Option, Some, None, Ok, refl, ap, sym, subst, ◌∙◌, arith, inl}
+use Rattle.std.proofs.Common.{◌≡◌, ◌≢◌, ℕ, ◌^◌, Bool, true, false, ◌&&◌, ◌==◌, cond, List, [], ◌∷◌, map, length, codes, pos, Option, Some, None, Ok, refl, ap, subst, ◌∙◌, arith, inl}
 use Rattle.std.specs.Prelude.{IfSome, nat_lt}
 use Rattle.std.specs.Char.{is_ascii_hexdigit, to_ascii_lowercase}
 use Rattle.std.specs.Fmt.{decimal}
@@ -8,9 +8,10 @@ use Rattle.std.specs.Ordering.{is_ge, is_le}
 use Rattle.std.specs.declared.cmp.Ordering.{Ordering}
 use Rattle.std.specs.declared.cmp.Ordering.TheVariants.{Less, Equal, Greater}
 use Rattle.std.proofs.lemmas.Bool.Decides.{nat_tests}
+use Rattle.json_span.specs.Plain.{plain_string_in, plain_number_in}
 use Rattle.json_span.specs.PlainView.{Value}
 use Rattle.dec_fix.specs.Decimal.{Decimal, IsExact}
-use Rattle.dec_fix.specs.Arithmetic.{IsFromZeroToOne, order_with, whole}
+use Rattle.dec_fix.specs.Arithmetic.{IsFromZeroToOne, order_with, whole_decimal}
 use Rattle.dec_fix.specs.Reading.{number_of}
 use Rattle.dec_fix.proofs.ReadingBack.{read_exact}
 use Rattle.name_path.specs.declared.kind.Kind.{Kind}
@@ -29,7 +30,7 @@ use Rattle.type_rules.specs.declared.curve.Curve.{Curve}
 use Rattle.type_rules.specs.declared.simple.Simple.{Simple}
 use Rattle.type_rules.specs.declared.simple.Simple.TheVariants as simple
 use Rattle.type_rules.specs.Checked.{Checked, broken, or_broken, under}
-use Rattle.type_rules.specs.Forms.{string_in, spelling_in, number_in, text_in, members_in, if_text, items_of_length, member, member_or, item, some_in}
+use Rattle.type_rules.specs.Forms.{number_in, text_in, members_in, if_text, items_of_length, member, member_or, item, some_in}
 use Rattle.type_rules.specs.Ranges.{holds, ranged, share, ranges_of}
 use Rattle.type_rules.specs.Words.{meaning, word_in, size_units, time_units, weights, spaces}
 use Rattle.type_rules.specs.Value.{size_in, time_in, four_numbers, ranged_curve, curve_in, measure_in, families_in, weight_of_word, weight_of_number, weight_in, component_of_word, component_of_number, component_in, three_components, ranged_component, ranged_components, components_in, alpha_in, hex_digits, hex_in, color_in, simple_value}
@@ -41,7 +42,7 @@ use Rattle.type_rules.proofs.WordFacts.{all_meanings, and_left, and_right}
 
 pub numbers_keep : (v : Value) (d : Decimal) → number_in v ≡ Ok d → IsExact d
 unfolding number_in
-numbers_keep v d e = made (or_broken ValueShape (spelling_in v)) (λ s. or_broken NumberWide (number_of s)) d e (λ s h k. read_exact s d (from_some NumberWide (number_of s) d k))
+numbers_keep v d e = made (or_broken ValueShape (plain_number_in v)) (λ s. or_broken NumberWide (number_of s)) d e (λ s h k. read_exact s d (from_some NumberWide (number_of s) d k))
 
 by_test : (rule : ValueRule) (b : Bool) (d n : Decimal) → ◌≡◌ {A = Checked Decimal} (cond b (Ok d) (broken rule)) (Ok n) → (d ≡ n) × (b ≡ true)
 by_test rule true d n e = (ok_is d n e, refl)
@@ -136,24 +137,24 @@ families_by None v fs e = some_is_there text_in v fs e
 
 pub families_keep : (v : Value) (fs : List (List ℕ)) → families_in v ≡ Ok fs → IsFamilies fs
 unfolding families_in
-families_keep v fs e = families_by (string_in v) v fs e
+families_keep v fs e = families_by (plain_string_in v) v fs e
 
 -- font weights
 
 abbrev weight_test : ℕ → Bool
-weight_test n = holds (Within 1 1000) (whole (pos n)) && nat_lt n (10 ^ 30)
+weight_test n = holds (Within 1 1000) (whole_decimal (pos n)) && nat_lt n (10 ^ 30)
 
-whole_weight : (n : ℕ) → weight_test n ≡ true → IsWeight (whole (pos n))
+whole_weight : (n : ℕ) → weight_test n ≡ true → IsWeight (whole_decimal (pos n))
 whole_weight n t = record {
-  exact = record { size = (let h : nat_lt n (10 ^ 30) ≡ true = and_right (holds (Within 1 1000) (whole (pos n))) _ t in grind (arith, nat_tests)); places = omega arith; short = inl refl };
-  within = and_left (holds (Within 1 1000) (whole (pos n))) (nat_lt n (10 ^ 30)) t;
+  exact = record { size = (let h : nat_lt n (10 ^ 30) ≡ true = and_right (holds (Within 1 1000) (whole_decimal (pos n))) _ t in grind (arith, nat_tests)); places = omega arith; short = inl refl };
+  within = and_left (holds (Within 1 1000) (whole_decimal (pos n))) (nat_lt n (10 ^ 30)) t;
 }
 
 word_keeps : (word : List ℕ) (d : Decimal) → weight_of_word word ≡ Ok d → IsWeight d
 unfolding weight_of_word
 word_keeps word d e =
     made (or_broken WeightWord (meaning weights word)) _ d e (λ n h e2.
-    found IsWeight (whole (pos n)) d e2 (whole_weight n (all_meanings weight_test weights word n refl (from_some WeightWord (meaning weights word) n h))))
+    found IsWeight (whole_decimal (pos n)) d e2 (whole_weight n (all_meanings weight_test weights word n refl (from_some WeightWord (meaning weights word) n h))))
 
 number_keeps : (v : Value) (d : Decimal) → weight_of_number v ≡ Ok d → IsWeight d
 unfolding weight_of_number
@@ -165,7 +166,7 @@ weights_by None v d e = number_keeps v d e
 
 pub weights_keep : (v : Value) (d : Decimal) → weight_in v ≡ Ok d → IsWeight d
 unfolding weight_in
-weights_keep v d e = weights_by (string_in v) v d e
+weights_keep v d e = weights_by (plain_string_in v) v d e
 
 -- components of colours
 
@@ -183,7 +184,7 @@ component_by None v o e = made (number_in v) _ o e (λ n h e2. found MayBeExact 
 
 component_keeps : (v : Value) (o : Option Decimal) → component_in v ≡ Ok o → MayBeExact o
 unfolding component_in
-component_keeps v o e = component_by (string_in v) v o e
+component_keeps v o e = component_by (plain_string_in v) v o e
 
 record MayBeAllExact (cs : Components) : Type 0 where
   first : MayBeExact cs.first
@@ -236,10 +237,10 @@ alpha_keeps : (v : Value) (d : Decimal) → alpha_in v ≡ Ok d → IsShare d
 unfolding alpha_in
 alpha_keeps v d e = made (number_in v) _ d e (λ n h e2. is_share d (in_range ColorAlpha share n d (numbers_keep v n h) e2))
 
-one_share : IsShare (whole (pos 1))
+one_share : IsShare (whole_decimal (pos 1))
 one_share = record {
   exact = record { size = omega arith; places = omega arith; short = inl refl };
-  part = shares_are_parts (whole (pos 1)) refl;
+  part = shares_are_parts (whole_decimal (pos 1)) refl;
 }
 
 lower_digit : (b : ℕ) → is_ascii_hexdigit b ≡ true → is_hex_digit (to_ascii_lowercase b) ≡ true
@@ -290,7 +291,7 @@ colors_keep v c e =
     made (members_in v) _ c e (λ es h e1.
     made (member (word_in ColorSpace spaces) (codes "colorSpace") es) _ c e1 (λ space s e2.
     made (member (components_in space) (codes "components") es) _ c e2 (λ cs x e3.
-    made (member_or alpha_in (whole (pos 1)) (codes "alpha") es) _ c e3 (λ alpha a e4.
+    made (member_or alpha_in (whole_decimal (pos 1)) (codes "alpha") es) _ c e3 (λ alpha a e4.
     made (member_or hex_in None (codes "hex") es) _ c e4 (λ hex d e5.
     found IsColor (record { space = space; first = cs.first; second = cs.second; third = cs.third; alpha = alpha; hex = hex }) c e5
     (let in_ranges = member_keeps (components_in space) (AreInRanges (ranges_of space)) (components_keep space) (codes "components") es cs x in
@@ -298,7 +299,7 @@ colors_keep v c e =
       first = in_ranges.first;
       second = in_ranges.second;
       third = in_ranges.third;
-      alpha = member_or_keeps alpha_in IsShare alpha_keeps (whole (pos 1)) (codes "alpha") es alpha one_share a;
+      alpha = member_or_keeps alpha_in IsShare alpha_keeps (whole_decimal (pos 1)) (codes "alpha") es alpha one_share a;
       hex = member_or_keeps hex_in MayBeHex hex_keeps None (codes "hex") es hex tt d;
     }))))))
 

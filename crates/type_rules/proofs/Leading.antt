@@ -2,11 +2,12 @@
 use Rattle.std.proofs.Common.{◌≡◌, ℕ, zero, suc, ◌+◌, Bool, true, false, ◌==◌, cond, List, [], ◌∷◌, drop, length, Option, Some, None, Ok, Err, refl, ap, sym, subst, ◌∙◌, arith}
 use Rattle.std.specs.Prelude.{slice_get}
 use Rattle.std.specs.Fmt.{decimal}
-use Rattle.json_span.specs.PlainView.{Value, Entry}
+use Rattle.json_span.specs.Plain.{plain_string_in, plain_array_in, plain_object_in}
+use Rattle.json_span.specs.PlainView.{Value, ValueEntry}
 use Rattle.type_rules.specs.declared.fault.ValueRule.{ValueRule}
 use Rattle.type_rules.specs.declared.fault.ValueRule.TheVariants.{ValueShape}
 use Rattle.type_rules.specs.Checked.{Checked, Break, broken, or_broken, outside, under, ◌>>=◌}
-use Rattle.type_rules.specs.Forms.{string_in, array_in, object_in, text_in, items_in, members_in, items_of_length, one_or_more, some_items_in, named, member, member_if, member_or, item, each, list_in, some_in}
+use Rattle.type_rules.specs.Forms.{text_in, items_in, members_in, items_of_length, one_or_more, some_items_in, named, member, member_if, member_or, item, each, list_in, some_in}
 use Rattle.type_rules.specs.Words.{meaning, word_in}
 use Rattle.type_rules.proofs.Keeping.{made}
 use Rattle.type_rules.specs.Trails.{leads_nowhere, leads_by_name, leads_by_index, LeadsInto, BreaksLead}
@@ -55,27 +56,27 @@ pub inside : {A P : Type 0} (step : List ℕ) (p : Checked A) (b : Break) → un
 inside step (Ok x) b e k = sound x b e
 inside {A} step (Err c) b e k = k c refl (break_is {A = A} (outside step c) b e)
 
-pub by_name : {A : Type 0} (v w : Value) (es : List Entry) (name : List ℕ) (p : Checked A) (b : Break) → object_in v ≡ Some es → named name es ≡ Some w → ((c : Break) → p ≡ Err c → Led w c) → under name p ≡ Err b → Led v b
+pub by_name : {A : Type 0} (v w : Value) (es : List ValueEntry) (name : List ℕ) (p : Checked A) (b : Break) → plain_object_in v ≡ Some es → named name es ≡ Some w → ((c : Break) → p ≡ Err c → Led w c) → under name p ≡ Err b → Led v b
 by_name v w es name p b o n k e = inside name p b e (λ c h same. let P : Break → Type 0 = λ z. Led v z in subst P same (let (part, led) = k c h in (part, leads_by_name name c.trail v w part es o n led)))
 
-pub by_index : {A : Type 0} (v w : Value) (vs : List Value) (i : ℕ) (p : Checked A) (b : Break) → array_in v ≡ Some vs → slice_get vs i ≡ Some w → ((c : Break) → p ≡ Err c → Led w c) → under (decimal i) p ≡ Err b → Led v b
+pub by_index : {A : Type 0} (v w : Value) (vs : List Value) (i : ℕ) (p : Checked A) (b : Break) → plain_array_in v ≡ Some vs → slice_get vs i ≡ Some w → ((c : Break) → p ≡ Err c → Led w c) → under (decimal i) p ≡ Err b → Led v b
 by_index v w vs i p b o n k e = inside (decimal i) p b e (λ c h same. let P : Break → Type 0 = λ z. Led v z in subst P same (let (part, led) = k c h in (part, leads_by_index i c.trail v w part vs o n led)))
 
 pub members_led : (v : Value) (b : Break) → members_in v ≡ Err b → Led v b
 unfolding members_in
-members_led v b e = own_or v ValueShape (object_in v) b e
+members_led v b e = own_or v ValueShape (plain_object_in v) b e
 
-pub members_are : (v : Value) (es : List Entry) → members_in v ≡ Ok es → object_in v ≡ Some es
+pub members_are : (v : Value) (es : List ValueEntry) → members_in v ≡ Ok es → plain_object_in v ≡ Some es
 unfolding members_in
-members_are v es e = is_there ValueShape (object_in v) es e
+members_are v es e = is_there ValueShape (plain_object_in v) es e
 
 pub items_led : (v : Value) (b : Break) → items_in v ≡ Err b → Led v b
 unfolding items_in
-items_led v b e = own_or v ValueShape (array_in v) b e
+items_led v b e = own_or v ValueShape (plain_array_in v) b e
 
-pub items_are : (v : Value) (vs : List Value) → items_in v ≡ Ok vs → array_in v ≡ Some vs
+pub items_are : (v : Value) (vs : List Value) → items_in v ≡ Ok vs → plain_array_in v ≡ Some vs
 unfolding items_in
-items_are v vs e = is_there ValueShape (array_in v) vs e
+items_are v vs e = is_there ValueShape (plain_array_in v) vs e
 
 pub length_led : (n : ℕ) (v : Value) (b : Break) → items_of_length n v ≡ Err b → Led v b
 unfolding items_of_length
@@ -85,11 +86,11 @@ test_is : (t : Bool) (vs ws : List Value) → ◌≡◌ {A = Checked (List Value
 test_is true vs ws e = cc
 test_is false vs ws e = absurd (let h : ⊥ = cc in h)
 
-then_items : (n : ℕ) (v : Value) (p : Checked (List Value)) (ws : List Value) → p ≡ items_in v → (p >>= λ vs. cond (length vs == n) (Ok vs) (broken ValueShape)) ≡ Ok ws → array_in v ≡ Some ws
+then_items : (n : ℕ) (v : Value) (p : Checked (List Value)) (ws : List Value) → p ≡ items_in v → (p >>= λ vs. cond (length vs == n) (Ok vs) (broken ValueShape)) ≡ Ok ws → plain_array_in v ≡ Some ws
 then_items n v (Ok vs) ws h e = items_are v ws (sym h ∙ ap Ok (test_is (length vs == n) vs ws e))
 then_items n v (Err b) ws h e = absurd (let h : ⊥ = cc in h)
 
-pub length_are : (n : ℕ) (v : Value) (ws : List Value) → items_of_length n v ≡ Ok ws → array_in v ≡ Some ws
+pub length_are : (n : ℕ) (v : Value) (ws : List Value) → items_of_length n v ≡ Ok ws → plain_array_in v ≡ Some ws
 unfolding items_of_length
 length_are n v ws e = then_items n v (items_in v) ws refl e
 
@@ -97,7 +98,7 @@ some_items_led : (v : Value) (b : Break) → some_items_in v ≡ Err b → Led v
 unfolding some_items_in
 some_items_led v b e = either (items_in v) _ b e (items_led v b) (λ vs h e2. own_some v vs b e2)
 
-pub some_items_are : (v : Value) (ws : List Value) → some_items_in v ≡ Ok ws → array_in v ≡ Some ws
+pub some_items_are : (v : Value) (ws : List Value) → some_items_in v ≡ Ok ws → plain_array_in v ≡ Some ws
 unfolding some_items_in
 some_items_are v ws e = made (items_in v) _ ws e (λ vs h e2. items_are v ws (h ∙ ap Ok (some_is vs ws e2)))
 
@@ -119,21 +120,21 @@ drop_more (y ∷ ys) zero x xs e = cc
 drop_more (y ∷ ys) (suc i) x xs e = let k : suc i + 1 ≡ suc (i + 1) = omega arith in ap (λ k. drop k (y ∷ ys)) k ∙ drop_more ys i x xs e
 
 module _ {A : Type 0} (check : Value → Checked A) (leads : BreaksLead check) where
-  pub member_led : (v : Value) (es : List Entry) (name : List ℕ) (b : Break) → object_in v ≡ Some es → member check name es ≡ Err b → Led v b
+  pub member_led : (v : Value) (es : List ValueEntry) (name : List ℕ) (b : Break) → plain_object_in v ≡ Some es → member check name es ≡ Err b → Led v b
   unfolding member
   member_led v es name b o e =
       either (or_broken ValueShape (named name es)) (λ w. under name (check w)) b e (own_or v ValueShape (named name es) b)
       (λ w h e2. by_name v w es name (check w) b o (is_there ValueShape (named name es) w h) (leads w) e2)
 
-  pub member_if_led : (v : Value) (es : List Entry) (absent : A) (name : List ℕ) (m : Option Value) (b : Break) → object_in v ≡ Some es → named name es ≡ m → member_if check absent name m ≡ Err b → Led v b
+  pub member_if_led : (v : Value) (es : List ValueEntry) (absent : A) (name : List ℕ) (m : Option Value) (b : Break) → plain_object_in v ≡ Some es → named name es ≡ m → member_if check absent name m ≡ Err b → Led v b
   member_if_led v es absent name None b o n e = sound absent b e
   member_if_led v es absent name (Some w) b o n e = by_name v w es name (check w) b o n (leads w) e
 
-  pub member_or_led : (v : Value) (es : List Entry) (absent : A) (name : List ℕ) (b : Break) → object_in v ≡ Some es → member_or check absent name es ≡ Err b → Led v b
+  pub member_or_led : (v : Value) (es : List ValueEntry) (absent : A) (name : List ℕ) (b : Break) → plain_object_in v ≡ Some es → member_or check absent name es ≡ Err b → Led v b
   unfolding member_or
   member_or_led v es absent name b o e = member_if_led v es absent name (named name es) b o refl e
 
-  pub item_led : (v : Value) (vs : List Value) (i : ℕ) (b : Break) → array_in v ≡ Some vs → item check i vs ≡ Err b → Led v b
+  pub item_led : (v : Value) (vs : List Value) (i : ℕ) (b : Break) → plain_array_in v ≡ Some vs → item check i vs ≡ Err b → Led v b
   unfolding item
   item_led v vs i b o e =
       either (or_broken ValueShape (slice_get vs i)) (λ w. under (decimal i) (check w)) b e (own_or v ValueShape (slice_get vs i) b)
@@ -144,7 +145,7 @@ module _ {A : Type 0} (check : Value → Checked A) (leads : BreaksLead check) w
   unfolding item
   item_there vs i x e k = there_by check i (slice_get vs i) x e k
 
-  pub each_led : (v : Value) (all rest : List Value) (i : ℕ) (b : Break) → array_in v ≡ Some all → drop i all ≡ rest → each check i rest ≡ Err b → Led v b
+  pub each_led : (v : Value) (all rest : List Value) (i : ℕ) (b : Break) → plain_array_in v ≡ Some all → drop i all ≡ rest → each check i rest ≡ Err b → Led v b
   each_led v all [] i b o d e = sound _ b e
   each_led v all (x ∷ xs) i b o d e =
       either (under (decimal i) (check x)) _ b e (by_index v x all i (check x) b o (at_drop all i x xs d) (leads x)) (λ t h e2.
@@ -161,7 +162,7 @@ module _ {A : Type 0} (check : Value → Checked A) (leads : BreaksLead check) w
 
 pub texts_lead : BreaksLead text_in
 unfolding text_in
-texts_lead v b e = own_or v ValueShape (string_in v) b e
+texts_lead v b e = own_or v ValueShape (plain_string_in v) b e
 
 pub words_lead : {A : Type 0} (rule : ValueRule) (table : List (List ℕ × A)) → BreaksLead (word_in rule table)
 unfolding word_in

@@ -2,9 +2,10 @@
 use Rattle.std.proofs.Common.{◌≡◌, ℕ, List, [], ◌∷◌, codes, pos, Option, Some, None, Ok, Err}
 use Rattle.std.specs.Prelude.{slice_get}
 use Rattle.std.specs.Fmt.{decimal}
+use Rattle.json_span.specs.Plain.{plain_number_in, plain_string_in, plain_array_in}
 use Rattle.json_span.specs.PlainView.{Value}
 use Rattle.dec_fix.specs.Decimal.{Decimal}
-use Rattle.dec_fix.specs.Arithmetic.{whole}
+use Rattle.dec_fix.specs.Arithmetic.{whole_decimal}
 use Rattle.dec_fix.specs.Reading.{number_of}
 use Rattle.name_path.specs.declared.kind.Kind.{Kind}
 use Rattle.name_path.specs.declared.kind.Kind.TheVariants as kind
@@ -18,7 +19,7 @@ use Rattle.type_rules.specs.declared.components.Components.{Components}
 use Rattle.type_rules.specs.declared.curve.Curve.{Curve}
 use Rattle.type_rules.specs.declared.simple.Simple.{Simple}
 use Rattle.type_rules.specs.Checked.{Checked, Break, or_broken, under}
-use Rattle.type_rules.specs.Forms.{spelling_in, string_in, array_in, number_in, text_in, members_in, if_text, items_of_length, member, member_or, item, some_in}
+use Rattle.type_rules.specs.Forms.{number_in, text_in, members_in, if_text, items_of_length, member, member_or, item, some_in}
 use Rattle.type_rules.specs.Ranges.{holds, ranged, share, ranges_of}
 use Rattle.type_rules.specs.Words.{meaning, word_in, size_units, time_units, weights, spaces}
 use Rattle.type_rules.specs.Value.{size_in, time_in, four_numbers, ranged_curve, curve_in, measure_in, families_in, weight_of_word, weight_of_number, weight_in, component_of_word, component_of_number, component_in, three_components, ranged_component, ranged_components, components_in, alpha_in, hex_digits, hex_in, color_in, simple_value}
@@ -28,7 +29,7 @@ use Rattle.type_rules.specs.Trails.{BreaksLead}
 
 pub numbers_lead : BreaksLead number_in
 unfolding number_in
-numbers_lead v b e = either (or_broken ValueShape (spelling_in v)) _ b e (own_or v ValueShape (spelling_in v) b) (λ s h e2. own_or v NumberWide (number_of s) b e2)
+numbers_lead v b e = either (or_broken ValueShape (plain_number_in v)) _ b e (own_or v ValueShape (plain_number_in v) b) (λ s h e2. own_or v NumberWide (number_of s) b e2)
 
 measures_lead : {U : Type 0} (rule : ValueRule) (units : List (List ℕ × U)) → BreaksLead (measure_in rule units)
 unfolding measure_in
@@ -50,7 +51,7 @@ own_range : (v : Value) (rule : ValueRule) (range : Range) (d : Decimal) (b : Br
 unfolding ranged
 own_range v rule range d b e = own_test v rule (holds range d) d b e
 
-ranged_led : {A : Type 0} (v : Value) (vs : List Value) (i : ℕ) (p : Checked A) (b : Break) → array_in v ≡ Some vs → ((w : Value) × (slice_get vs i ≡ Some w)) → ((w : Value) (c : Break) → p ≡ Err c → Led w c) → under (decimal i) p ≡ Err b → Led v b
+ranged_led : {A : Type 0} (v : Value) (vs : List Value) (i : ℕ) (p : Checked A) (b : Break) → plain_array_in v ≡ Some vs → ((w : Value) × (slice_get vs i ≡ Some w)) → ((w : Value) (c : Break) → p ≡ Err c → Led w c) → under (decimal i) p ≡ Err b → Led v b
 ranged_led v vs i p b o (w, n) k e = by_index v w vs i p b o n (k w) e
 
 -- an item that is there
@@ -69,7 +70,7 @@ four_led v b e =
     either (item number_in 3 vs) _ b e4 (item_led number_in numbers_lead v vs 3 b (length_are 4 v vs h)) (λ y2 l e5.
     sound _ b e5)))))
 
-four_there : {P : Type 0} (v : Value) (c : Curve) → four_numbers v ≡ Ok c → ((vs : List Value) → array_in v ≡ Some vs → There vs 0 → There vs 2 → P) → P
+four_there : {P : Type 0} (v : Value) (c : Curve) → four_numbers v ≡ Ok c → ((vs : List Value) → plain_array_in v ≡ Some vs → There vs 0 → There vs 2 → P) → P
 unfolding four_numbers
 four_there v c e k =
     made (items_of_length 4 v) _ c e (λ vs h e1.
@@ -80,7 +81,7 @@ four_there v c e k =
     item_there number_in numbers_lead vs 2 x2 l (λ u m.
     k vs (length_are 4 v vs h) (w, n) (u, m)))))))
 
-ranged_curve_led : (v : Value) (vs : List Value) (c : Curve) (b : Break) → array_in v ≡ Some vs → There vs 0 → There vs 2 → ranged_curve c ≡ Err b → Led v b
+ranged_curve_led : (v : Value) (vs : List Value) (c : Curve) (b : Break) → plain_array_in v ≡ Some vs → There vs 0 → There vs 2 → ranged_curve c ≡ Err b → Led v b
 unfolding ranged_curve
 ranged_curve_led v vs c b o n m e =
     either (under (decimal 0) (ranged BezierRange share c.x1)) _ b e (ranged_led v vs 0 (ranged BezierRange share c.x1) b o n (λ w d h. own_range w BezierRange share c.x1 d h)) (λ x1 i e2.
@@ -99,7 +100,7 @@ families_by None v b e = some_lead text_in texts_lead v b e
 
 pub families_lead : BreaksLead families_in
 unfolding families_in
-families_lead v b e = families_by (string_in v) v b e
+families_lead v b e = families_by (plain_string_in v) v b e
 
 -- font weights
 
@@ -110,7 +111,7 @@ weights_by None v b e = either (number_in v) _ b e (numbers_lead v b) (λ n h e2
 
 pub weights_lead : BreaksLead weight_in
 unfolding weight_in
-weights_lead v b e = weights_by (string_in v) v b e
+weights_lead v b e = weights_by (plain_string_in v) v b e
 
 -- colours
 
@@ -121,7 +122,7 @@ component_by None v b e = either (number_in v) _ b e (numbers_lead v b) (λ n h 
 
 component_led : BreaksLead component_in
 unfolding component_in
-component_led v b e = component_by (string_in v) v b e
+component_led v b e = component_by (plain_string_in v) v b e
 
 three_led : BreaksLead three_components
 unfolding three_components
@@ -132,7 +133,7 @@ three_led v b e =
     either (item component_in 2 vs) _ b e3 (item_led component_in component_led v vs 2 b (length_are 3 v vs h)) (λ z k e4.
     sound _ b e4))))
 
-three_there : {P : Type 0} (v : Value) (cs : Components) → three_components v ≡ Ok cs → ((vs : List Value) → array_in v ≡ Some vs → There vs 0 → There vs 1 → There vs 2 → P) → P
+three_there : {P : Type 0} (v : Value) (cs : Components) → three_components v ≡ Ok cs → ((vs : List Value) → plain_array_in v ≡ Some vs → There vs 0 → There vs 1 → There vs 2 → P) → P
 unfolding three_components
 three_there v cs e k =
     made (items_of_length 3 v) _ cs e (λ vs h e1.
@@ -149,7 +150,7 @@ unfolding ranged_component
 own_component v range None b e = sound _ b e
 own_component v range (Some d) b e = either (ranged ColorRange range d) _ b e (own_range v ColorRange range d b) (λ n h e2. sound _ b e2)
 
-ranged_components_led : (v : Value) (vs : List Value) (ranges : Ranges) (cs : Components) (b : Break) → array_in v ≡ Some vs → There vs 0 → There vs 1 → There vs 2 → ranged_components ranges cs ≡ Err b → Led v b
+ranged_components_led : (v : Value) (vs : List Value) (ranges : Ranges) (cs : Components) (b : Break) → plain_array_in v ≡ Some vs → There vs 0 → There vs 1 → There vs 2 → ranged_components ranges cs ≡ Err b → Led v b
 unfolding ranged_components
 ranged_components_led v vs ranges cs b o n m q e =
     either (under (decimal 0) (ranged_component ranges.first cs.first)) _ b e (ranged_led v vs 0 (ranged_component ranges.first cs.first) b o n (λ w d h. own_component w ranges.first cs.first d h)) (λ x i e2.
@@ -180,7 +181,7 @@ colors_lead v b e =
     either (members_in v) _ b e (members_led v b) (λ es h e1.
     either (member (word_in ColorSpace spaces) (codes "colorSpace") es) _ b e1 (member_led (word_in ColorSpace spaces) (words_lead ColorSpace spaces) v es (codes "colorSpace") b (members_are v es h)) (λ space i e2.
     either (member (components_in space) (codes "components") es) _ b e2 (member_led (components_in space) (components_led space) v es (codes "components") b (members_are v es h)) (λ cs j e3.
-    either (member_or alpha_in (whole (pos 1)) (codes "alpha") es) _ b e3 (member_or_led alpha_in alpha_led v es (whole (pos 1)) (codes "alpha") b (members_are v es h)) (λ alpha k e4.
+    either (member_or alpha_in (whole_decimal (pos 1)) (codes "alpha") es) _ b e3 (member_or_led alpha_in alpha_led v es (whole_decimal (pos 1)) (codes "alpha") b (members_are v es h)) (λ alpha k e4.
     either (member_or hex_in None (codes "hex") es) _ b e4 (member_or_led hex_in hex_led v es None (codes "hex") b (members_are v es h)) (λ hex l e5.
     sound _ b e5)))))
 

@@ -1,7 +1,7 @@
 pub mod Breaks
 pub mod Finding
-pub mod Places
-pub mod Eaches
+mod Places
+mod Eaches
 pub mod WordFacts
 pub mod Keeping
 pub mod Kept

@@ -8,7 +8,7 @@ use Rattle.std.specs.Ordering.{is_ge, is_le}
 use Rattle.std.specs.declared.cmp.Ordering.{Ordering}
 use Rattle.std.specs.declared.cmp.Ordering.TheVariants.{Less, Equal, Greater}
 use Rattle.json_span.specs.Plain.{plain_number, plain_string, plain_array, plain_object, plains_of, plain_members_of, plains_in}
-use Rattle.json_span.specs.PlainView.{Value, Entry}
+use Rattle.json_span.specs.PlainView.{Value, ValueEntry}
 use Rattle.dec_fix.specs.Decimal.{Decimal, IsExact}
 use Rattle.dec_fix.specs.Arithmetic.{IsFromZeroToOne, order_with}
 use Rattle.dec_fix.specs.Writing.{spelling}
@@ -34,10 +34,10 @@ use Rattle.type_rules.specs.Sound.{kind_of, IsInRange, IsShare, IsHex, is_hex_di
 use Rattle.type_rules.proofs.WordFacts.{and_left, and_right, space_found, size_found, time_found}
 
 -- a member, and an object of members
-abbrev pub entry : List ℕ → Value → Entry
+abbrev pub entry : List ℕ → Value → ValueEntry
 entry name v = record { name = name; value = v }
 
-abbrev pub object : List Entry → Value
+abbrev pub object : List ValueEntry → Value
 object es = plain_object (plain_members_of es)
 
 abbrev pub array : List Value → Value
@@ -201,7 +201,7 @@ hex_some : (ds : List ℕ) → IsHex ds → hex_in (plain_string (35 ∷ ds)) �
 unfolding hex_in text_in
 hex_some ds h = rw (h.six, all_hex ds h.lower, all_low ds h.lower) refl
 
-abbrev hex_entries : Option (List ℕ) → List Entry
+abbrev hex_entries : Option (List ℕ) → List ValueEntry
 hex_entries None = []
 hex_entries (Some ds) = entry (codes "hex") (plain_string (35 ∷ ds)) ∷ []
 

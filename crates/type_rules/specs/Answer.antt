@@ -4,7 +4,7 @@ use Rattle.std.specs.Borrow.{Bor}
 use Rattle.json_span.specs.declared.plain.Plain.{Plain}
 use Rattle.json_span.specs.declared.plain.PlainItems.{PlainItems}
 use Rattle.json_span.specs.declared.plain.PlainFields.{PlainFields}
-use Rattle.json_span.specs.PlainView.{Value, Entry, plain_view, plain_items_view, plain_fields_view}
+use Rattle.json_span.specs.PlainView.{Value, ValueEntry, plain_view, plain_items_view, plain_fields_view}
 use Rattle.type_rules.specs.declared.fault.ValueFault.{ValueFault}
 use Rattle.type_rules.specs.declared.fault.ValueFault.TheVariants.{Broken, NoMemory}
 use Rattle.type_rules.specs.Checked.{Checked}
@@ -18,7 +18,7 @@ IsFound found x = found ≡ Ok x
 abbrev pub AreItems : Checked (List Value) → Bor PlainItems → Type 0
 AreItems found items = found ≡ Ok (plain_items_view items.now)
 
-abbrev pub AreMembers : Checked (List Entry) → Bor PlainFields → Type 0
+abbrev pub AreMembers : Checked (List ValueEntry) → Bor PlainFields → Type 0
 AreMembers found members = found ≡ Ok (plain_fields_view members.now)
 
 abbrev pub IsThere : Checked Value → Bor Plain → Type 0
@@ -28,7 +28,7 @@ IsThere found plain = found ≡ Ok (plain_view plain.now)
 abbrev pub seen : {B : Type 0} → (Value → B) → Plain → B
 seen f plain = f (plain_view plain)
 
-abbrev pub among : {B : Type 0} → (List Entry → B) → PlainFields → B
+abbrev pub among : {B : Type 0} → (List ValueEntry → B) → PlainFields → B
 among f members = f (plain_fields_view members)
 
 abbrev pub along : {B : Type 0} → (List Value → B) → PlainItems → B

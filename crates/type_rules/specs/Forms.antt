@@ -2,60 +2,27 @@
 use Rattle.std.specs.Prelude.{ℕ, ◌+◌, ◌==◌, List, [], ◌∷◌, length, slice_get, Option, Some, None, Ok, if◌then◌else◌}
 use Rattle.std.specs.Fmt.{decimal}
 use Rattle.std.specs.Str.{bytes_eq}
-use Rattle.json_span.specs.Plain.{plain_null, plain_boolean, plain_number, plain_string, plain_array, plain_object, plains_in, plain_entries_in}
-use Rattle.json_span.specs.PlainView.{Value, Entry}
+use Rattle.json_span.specs.Plain.{plain_number_in, plain_string_in, plain_array_in, plain_object_in}
+use Rattle.json_span.specs.PlainView.{Value, ValueEntry}
 use Rattle.dec_fix.specs.Decimal.{Decimal}
 use Rattle.dec_fix.specs.Reading.{number_of}
 use Rattle.type_rules.specs.declared.fault.ValueRule.TheVariants.{ValueShape, NumberWide}
 use Rattle.type_rules.specs.Checked.{Checked, broken, or_broken, under, ◌>>=◌}
 
--- what a value is, if it is that: the spelling of a number, a text, a list, an object
-abbrev pub spelling_in : Value → Option (List ℕ)
-spelling_in plain_null = None
-spelling_in (plain_boolean b) = None
-spelling_in (plain_number k) = Some k
-spelling_in (plain_string s) = None
-spelling_in (plain_array vs) = None
-spelling_in (plain_object ms) = None
-
-abbrev pub string_in : Value → Option (List ℕ)
-string_in plain_null = None
-string_in (plain_boolean b) = None
-string_in (plain_number k) = None
-string_in (plain_string s) = Some s
-string_in (plain_array vs) = None
-string_in (plain_object ms) = None
-
-abbrev pub array_in : Value → Option (List Value)
-array_in plain_null = None
-array_in (plain_boolean b) = None
-array_in (plain_number k) = None
-array_in (plain_string s) = None
-array_in (plain_array vs) = Some (plains_in vs)
-array_in (plain_object ms) = None
-
-abbrev pub object_in : Value → Option (List Entry)
-object_in plain_null = None
-object_in (plain_boolean b) = None
-object_in (plain_number k) = None
-object_in (plain_string s) = None
-object_in (plain_array vs) = None
-object_in (plain_object ms) = Some (plain_entries_in ms)
-
 -- a number that is within the bounds of those that are read
 unfoldable pub number_in : Value → Checked Decimal
 number_in v = do
-  spelling ← or_broken ValueShape (spelling_in v)
+  spelling ← or_broken ValueShape (plain_number_in v)
   or_broken NumberWide (number_of spelling)
 
 unfoldable pub text_in : Value → Checked (List ℕ)
-text_in v = or_broken ValueShape (string_in v)
+text_in v = or_broken ValueShape (plain_string_in v)
 
 unfoldable pub items_in : Value → Checked (List Value)
-items_in v = or_broken ValueShape (array_in v)
+items_in v = or_broken ValueShape (plain_array_in v)
 
-unfoldable pub members_in : Value → Checked (List Entry)
-members_in v = or_broken ValueShape (object_in v)
+unfoldable pub members_in : Value → Checked (List ValueEntry)
+members_in v = or_broken ValueShape (plain_object_in v)
 
 -- a text is read in one way, and every other value in another
 abbrev pub if_text : {A : Type 0} → Option (List ℕ) → (List ℕ → Checked A) → Checked A → Checked A
@@ -79,15 +46,15 @@ some_items_in v = do
   one_or_more vs
 
 -- the value of the first member of this name
-abbrev pub named : List ℕ → List Entry → Option Value
+abbrev pub named : List ℕ → List ValueEntry → Option Value
 named name [] = None
 named name (e ∷ es) = if bytes_eq e.name name then Some e.value else named name es
 
 -- a member that must be there; where it is missing, its object has the break
-abbrev pub member_value : List ℕ → List Entry → Checked Value
+abbrev pub member_value : List ℕ → List ValueEntry → Checked Value
 member_value name es = or_broken ValueShape (named name es)
 
-unfoldable pub member : {A : Type 0} → (Value → Checked A) → List ℕ → List Entry → Checked A
+unfoldable pub member : {A : Type 0} → (Value → Checked A) → List ℕ → List ValueEntry → Checked A
 member check name es = do
   v ← member_value name es
   under name (check v)
@@ -97,7 +64,7 @@ abbrev pub member_if : {A : Type 0} → (Value → Checked A) → A → List ℕ
 member_if check absent name None = Ok absent
 member_if check absent name (Some v) = under name (check v)
 
-unfoldable pub member_or : {A : Type 0} → (Value → Checked A) → A → List ℕ → List Entry → Checked A
+unfoldable pub member_or : {A : Type 0} → (Value → Checked A) → A → List ℕ → List ValueEntry → Checked A
 member_or check absent name es = member_if check absent name (named name es)
 
 -- the i-th item

@@ -2,16 +2,16 @@
 use Rattle.std.specs.Prelude.{◌≡◌, ℕ, ◌+◌, List, [], ◌∷◌, Option, Some, None, Err, slice_get, option_and_then, if◌then◌else◌}
 use Rattle.std.specs.Fmt.{decimal}
 use Rattle.std.specs.Str.{bytes_eq}
-use Rattle.json_span.specs.Plain.{plain_null, plain_boolean, plain_number, plain_string, plain_array, plain_object, plains_in, plain_entries_in}
-use Rattle.json_span.specs.PlainView.{Value, Entry}
+use Rattle.json_span.specs.Plain.{plain_null, plain_boolean, plain_number, plain_string, plain_array, plain_object, plains_in, plain_entries_in, plain_array_in, plain_object_in}
+use Rattle.json_span.specs.PlainView.{Value, ValueEntry}
 use Rattle.type_rules.specs.Checked.{Checked, Break}
-use Rattle.type_rules.specs.Forms.{array_in, object_in, named}
+use Rattle.type_rules.specs.Forms.{named}
 
 -- The steps lead from a value to a part of it: by the names of members, of which the first counts, and by the indices of items in decimal digits.
 pub data Leads : List (List ℕ) → Value → Value → Type 0 where
   leads_nowhere : (v : Value) → Leads [] v v
-  leads_by_name : (name : List ℕ) (steps : List (List ℕ)) (v w part : Value) (es : List Entry) → object_in v ≡ Some es → named name es ≡ Some w → Leads steps w part → Leads (name ∷ steps) v part
-  leads_by_index : (i : ℕ) (steps : List (List ℕ)) (v w part : Value) (vs : List Value) → array_in v ≡ Some vs → slice_get vs i ≡ Some w → Leads steps w part → Leads (decimal i ∷ steps) v part
+  leads_by_name : (name : List ℕ) (steps : List (List ℕ)) (v w part : Value) (es : List ValueEntry) → plain_object_in v ≡ Some es → named name es ≡ Some w → Leads steps w part → Leads (name ∷ steps) v part
+  leads_by_index : (i : ℕ) (steps : List (List ℕ)) (v w part : Value) (vs : List Value) → plain_array_in v ≡ Some vs → slice_get vs i ≡ Some w → Leads steps w part → Leads (decimal i ∷ steps) v part
 
 -- the item whose index is written so in decimal digits; the first item has the i-th index
 abbrev pub item_at : {A : Type 0} → List ℕ → ℕ → List A → Option A

@@ -6,9 +6,10 @@ use Rattle.std.specs.Char.{is_ascii_hexdigit, to_ascii_lowercase}
 use Rattle.std.specs.Fmt.{decimal}
 use Rattle.std.specs.List.{list_all}
 use Rattle.std.specs.Str.{bytes_eq}
-use Rattle.json_span.specs.PlainView.{Value, Entry}
+use Rattle.json_span.specs.Plain.{plain_string_in}
+use Rattle.json_span.specs.PlainView.{Value, ValueEntry}
 use Rattle.dec_fix.specs.Decimal.{Decimal}
-use Rattle.dec_fix.specs.Arithmetic.{whole}
+use Rattle.dec_fix.specs.Arithmetic.{whole_decimal}
 use Rattle.name_path.specs.declared.kind.Kind.{Kind}
 use Rattle.name_path.specs.declared.kind.Kind.TheVariants as kind
 use Rattle.type_rules.specs.declared.fault.ValueRule.{ValueRule}
@@ -25,7 +26,7 @@ use Rattle.type_rules.specs.declared.curve.Curve.{Curve}
 use Rattle.type_rules.specs.declared.simple.Simple.{Simple}
 use Rattle.type_rules.specs.declared.simple.Simple.TheVariants as simple
 use Rattle.type_rules.specs.Checked.{Checked, broken, or_broken, under, ◌>>=◌}
-use Rattle.type_rules.specs.Forms.{string_in, number_in, text_in, members_in, if_text, items_of_length, member, member_or, item, some_in}
+use Rattle.type_rules.specs.Forms.{number_in, text_in, members_in, if_text, items_of_length, member, member_or, item, some_in}
 use Rattle.type_rules.specs.Ranges.{ranged, ranges_of, share}
 use Rattle.type_rules.specs.Words.{rows_of, word_in, meaning, size_units, time_units, weights, spaces}
 
@@ -78,13 +79,13 @@ curve_in v = do
 
 -- one text, or a list of one or more
 unfoldable pub families_in : Value → Checked (List (List ℕ))
-families_in v = if_text (string_in v) (λ family. Ok (family ∷ [])) (some_in text_in v)
+families_in v = if_text (plain_string_in v) (λ family. Ok (family ∷ [])) (some_in text_in v)
 
 -- a word, which stands for its number, or a number from 1 to 1000
 unfoldable pub weight_of_word : List ℕ → Checked Decimal
 weight_of_word word = do
   n ← or_broken WeightWord (meaning weights word)
-  Ok (whole (pos n))
+  Ok (whole_decimal (pos n))
 
 unfoldable pub weight_of_number : Value → Checked Decimal
 weight_of_number v = do
@@ -92,7 +93,7 @@ weight_of_number v = do
   ranged WeightRange (Within 1 1000) number
 
 unfoldable pub weight_in : Value → Checked Decimal
-weight_in v = if_text (string_in v) weight_of_word (weight_of_number v)
+weight_in v = if_text (plain_string_in v) weight_of_word (weight_of_number v)
 
 -- a component of a colour: a number, or none by the word `none`
 abbrev pub component_of_word : List ℕ → Checked (Option Decimal)
@@ -104,7 +105,7 @@ component_of_number v = do
   Ok (Some number)
 
 unfoldable pub component_in : Value → Checked (Option Decimal)
-component_in v = if_text (string_in v) component_of_word (component_of_number v)
+component_in v = if_text (plain_string_in v) component_of_word (component_of_number v)
 
 unfoldable pub three_components : Value → Checked Components
 three_components v = do
@@ -150,14 +151,14 @@ hex_in v = do
   digits ← or_broken ColorHex (hex_digits text)
   Ok (Some digits)
 
-abbrev pub components_member : Space → List Entry → Checked Components
+abbrev pub components_member : Space → List ValueEntry → Checked Components
 components_member space es = member (components_in space) (codes "components") es
 
 -- without an alpha a colour has the alpha 1
-abbrev pub alpha_member : List Entry → Checked Decimal
-alpha_member es = member_or alpha_in (whole (pos 1)) (codes "alpha") es
+abbrev pub alpha_member : List ValueEntry → Checked Decimal
+alpha_member es = member_or alpha_in (whole_decimal (pos 1)) (codes "alpha") es
 
-abbrev pub hex_member : List Entry → Checked (Option (List ℕ))
+abbrev pub hex_member : List ValueEntry → Checked (Option (List ℕ))
 hex_member es = member_or hex_in None (codes "hex") es
 
 -- a colour

@@ -5,7 +5,8 @@ ghost use Rattle.std.specs.Char.{is_ascii_hexdigit, to_ascii_lowercase};
 ghost use Rattle.std.specs.List.{list_all};
 ghost use Rattle.json_span.specs.PlainView.{plain_view, plain_fields_view};
 ghost use Rattle.type_rules.specs.Answer.{IsFound, IsBreak, among};
-ghost use Rattle.type_rules.specs.Value.{components_member, alpha_in, alpha_member, hex_digits, hex_in, hex_member, color_in};
+ghost use Rattle.type_rules.specs.Value.{components_member, alpha_in, alpha_member, hex_digits};
+ghost use Rattle.type_rules.specs.Value.{hex_in, hex_member, color_in};
 
 use crate::components::{Components, components_of};
 use crate::fault::{ValueFault, ValueRule, or_broken, under};

@@ -6,10 +6,12 @@ ghost use Rattle.json_span.specs.PlainView.{plain_view, plain_items_view};
 ghost use Rattle.type_rules.specs.Answer.{IsBreak};
 ghost use Rattle.type_rules.specs.Checked.{under};
 ghost use Rattle.type_rules.specs.Forms.{item};
-ghost use Rattle.type_rules.specs.Value.{component_of_word, component_of_number, component_in, three_components, ranged_component, ranged_components, components_in};
+ghost use Rattle.type_rules.specs.Value.{component_of_word, component_of_number, component_in};
+ghost use Rattle.type_rules.specs.Value.{three_components, ranged_component, ranged_components};
+ghost use Rattle.type_rules.specs.Value.{components_in};
 
 use crate::fault::{ValueFault, ValueRule, at_item, broken};
-use crate::forms::{as_text, check_number, items_of_length};
+use crate::forms::{check_number, items_of_length};
 use crate::parts::{Part, part_at};
 use crate::range::{Range, ranged};
 use crate::space::{Ranges, Space};
@@ -53,7 +55,7 @@ impl<'s> Part<'s> for Component {
     ghost part_in = { component_in };
 
     fn check(alloc: Global, plain: &Plain<'s>) -> Result<Option<Dec>, ValueFault<'s>> {
-        match as_text(plain) {
+        match plain.as_text() {
             Some(word) => component_of_word(alloc, word.as_str()),
             None => component_of_number(alloc, plain),
         }

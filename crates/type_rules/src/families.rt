@@ -4,7 +4,6 @@ ghost use Rattle.std.specs.Prelude.{◌≡◌, [], ◌∷◌, IfOk, List, ℕ};
 ghost use Rattle.type_rules.specs.Value.{families_in};
 
 use crate::fault::ValueFault;
-use crate::forms::as_text;
 use crate::parts::{Part, one, some_of};
 use json_span::Plain;
 use std::alloc::Global;
@@ -20,7 +19,7 @@ impl<'s> Part<'s> for Families<'s> {
     ghost part_in = { families_in };
 
     fn check(alloc: Global, plain: &Plain<'s>) -> Result<Families<'s>, ValueFault<'s>> {
-        match as_text(plain) {
+        match plain.as_text() {
             Some(family) => {
                 let copy = family.copy()?;
                 let families = one(alloc, copy)?;

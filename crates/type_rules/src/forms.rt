@@ -1,54 +1,18 @@
 //! The JSON forms of values, and the members of objects.
 
-ghost use Rattle.std.specs.Prelude.{◌≡◌, Ok, IfOk, IfErr, option_map, slice_get};
-ghost use Rattle.json_span.specs.PlainView.{plain_view, plain_items_view, plain_fields_view};
-ghost use Rattle.type_rules.specs.Answer.{AreItems, AreMembers, IsThere, IsBreak, seen, among, along};
-ghost use Rattle.type_rules.specs.Forms.{spelling_in, string_in, array_in, object_in, number_in, text_in, items_in, members_in, items_of_length, some_items_in, named, member_value, item_value};
+ghost use Rattle.std.specs.Prelude.{◌≡◌, Ok, IfOk, IfErr, option_map};
+ghost use Rattle.json_span.specs.PlainView.{plain_view};
+ghost use Rattle.type_rules.specs.Answer.{AreItems, AreMembers, IsThere, IsBreak, seen, among};
+ghost use Rattle.type_rules.specs.Answer.{along};
+ghost use Rattle.type_rules.specs.Forms.{number_in, text_in, items_in, members_in};
+ghost use Rattle.type_rules.specs.Forms.{items_of_length, some_items_in, named};
+ghost use Rattle.type_rules.specs.Forms.{member_value, item_value};
 
 use crate::fault::{ValueFault, ValueRule, broken};
 use dec_fix::{Dec, NotDec};
 use json_span::{Plain, PlainFields, PlainItems};
 use std::alloc::Global;
 use tk_io::Text;
-
-// The spelling of the number, where it is one.
-fn as_number<'s>(plain: &Plain<'s>) -> Option<&'s str>
-    ensures { option_map (λ d. d.now) result ≡ spelling_in (plain_view plain.now) }
-{
-    match plain {
-        Plain::Num(spelling) => Some(spelling),
-        _ => None,
-    }
-}
-
-/// The text, where the value is one.
-pub fn as_text<'a, 's>(plain: &'a Plain<'s>) -> Option<&'a Text<'s>>
-    ensures { option_map (λ t. t.now) result ≡ string_in (plain_view plain.entry.now) }
-{
-    match plain {
-        Plain::Str(text) => Some(text),
-        _ => None,
-    }
-}
-
-/// The items, where the value is a list.
-pub fn as_array<'a, 's>(plain: &'a Plain<'s>) -> Option<&'a PlainItems<'s>>
-    ensures { option_map (λ i. plain_items_view i.now) result ≡ seen array_in plain.entry.now }
-{
-    match plain {
-        Plain::Arr(items) => Some(items),
-        _ => None,
-    }
-}
-
-fn as_object<'a, 's>(plain: &'a Plain<'s>) -> Option<&'a PlainFields<'s>>
-    ensures { option_map (λ m. plain_fields_view m.now) result ≡ seen object_in plain.entry.now }
-{
-    match plain {
-        Plain::Obj(members) => Some(members),
-        _ => None,
-    }
-}
 
 /// The number that the value is. A number that is not within the bounds of those that are read breaks the rule on wide
 /// numbers, and every other value that on shapes.
@@ -57,7 +21,7 @@ pub fn check_number<'s>(alloc: Global, plain: &Plain<'s>) -> Result<Dec, ValueFa
     ensures ok { IfOk result (λ number. number_in (plain_view plain.now) ≡ Ok number) }
     ensures broken { IfErr result (IsBreak (number_in (plain_view plain.now))) }
 {
-    let Some(spelling) = as_number(plain) else {
+    let Some(spelling) = plain.as_number() else {
         return Err(broken(alloc, ValueRule::ValueShape));
     };
     match Dec::read(spelling) {
@@ -72,7 +36,7 @@ pub fn text_of<'a, 's>(alloc: Global, plain: &'a Plain<'s>) -> Result<&'a Text<'
     ensures ok { IfOk result (λ text. text_in (plain_view plain.entry.now) ≡ Ok text.now) }
     ensures broken { IfErr result (IsBreak (text_in (plain_view plain.entry.now))) }
 {
-    match as_text(plain) {
+    match plain.as_text() {
         Some(text) => Ok(text),
         None => Err(broken(alloc, ValueRule::ValueShape)),
     }
@@ -87,7 +51,7 @@ pub fn items_of<'a, 's>(
     ensures ok { IfOk result (AreItems (items_in (plain_view plain.entry.now))) }
     ensures broken { IfErr result (IsBreak (items_in (plain_view plain.entry.now))) }
 {
-    match as_array(plain) {
+    match plain.as_array() {
         Some(items) => Ok(items),
         None => Err(broken(alloc, ValueRule::ValueShape)),
     }
@@ -102,7 +66,7 @@ pub fn members_of<'a, 's>(
     ensures ok { IfOk result (AreMembers (members_in (plain_view plain.entry.now))) }
     ensures broken { IfErr result (IsBreak (members_in (plain_view plain.entry.now))) }
 {
-    match as_object(plain) {
+    match plain.as_object() {
         Some(members) => Ok(members),
         None => Err(broken(alloc, ValueRule::ValueShape)),
     }
@@ -135,7 +99,7 @@ pub fn some_items_of<'a, 's>(
     ensures broken { IfErr result (IsBreak (seen some_items_in plain.entry.now)) }
 {
     let items = items_of(alloc, plain)?;
-    if items.len() == 0 {
+    if items.is_empty() {
         return Err(broken(alloc, ValueRule::ValueShape));
     }
     Ok(items)
@@ -145,10 +109,7 @@ pub fn some_items_of<'a, 's>(
 pub fn named<'a, 's>(members: &'a PlainFields<'s>, name: &str) -> Option<&'a Plain<'s>>
     ensures { option_map (λ v. plain_view v.now) result ≡ among (named name.now) members.entry.now }
 {
-    for i in 0..members.len() {
-        let Some(member) = members.at(i) else {
-            continue;
-        };
+    for member in members.as_slice() {
         if member.name.as_str() == name {
             return Some(&member.value);
         }

@@ -1,6 +1,10 @@
 //! Laws over the definitions alone, for the layers above.
 
-ghost use Rattle.type_rules.specs.Laws.{KindsStay, ValuesKeep, ValuesAreWritten, ValuesBreakInside, PartsBreakInside, ColorsKeep, SizesKeep, TimesKeep, CurvesKeep, FamiliesKeep, WeightsKeep, NumbersKeep, SharesAreParts, StepsLead, ItemsStand, SpacesNamed, SizeUnitsNamed, TimeUnitsNamed, WeightsNamed};
+ghost use Rattle.type_rules.specs.Laws.{KindsStay, ValuesKeep, ValuesAreWritten, ValuesBreakInside};
+ghost use Rattle.type_rules.specs.Laws.{PartsBreakInside, ColorsKeep, SizesKeep, TimesKeep};
+ghost use Rattle.type_rules.specs.Laws.{CurvesKeep, FamiliesKeep, WeightsKeep, NumbersKeep};
+ghost use Rattle.type_rules.specs.Laws.{SharesAreParts, StepsLead, ItemsStand, SpacesNamed};
+ghost use Rattle.type_rules.specs.Laws.{SizeUnitsNamed, TimeUnitsNamed, WeightsNamed};
 
 /// A value has the kind under which it is read, and lies in the ranges of the kind; its numbers are such as are read.
 /// Each such value is the value of some plain value. Where a rule is broken, the steps lead from the value to a part of it.

@@ -29,8 +29,8 @@ pub use curve::Curve;
 pub use families::Families;
 pub use fault::{ValueFault, ValueRule, at_item, broken, or_broken, under};
 pub use forms::{
-    as_array, as_text, check_number, item, items_of, items_of_length, members_of, named, required,
-    some_items_of, text_of,
+    check_number, item, items_of, items_of_length, members_of, named, required, some_items_of,
+    text_of,
 };
 pub use laws::{part_laws, step_laws, value_laws, word_laws};
 pub use parts::{Part, each_part, list_of, one, part_at, part_under, some_of};

@@ -2,9 +2,10 @@
 //! its object or list; what a part breaks has the name or the index as its first step.
 
 ghost use Rattle.std.specs.Prelude.{◌≡◌, ℕ, [], ◌∷◌, Ok, IfOk, IfErr};
+ghost use Rattle.std.specs.Fmt.{decimal};
 ghost use Rattle.json_span.specs.PlainView.{Value, plain_view, plain_items_view};
-ghost use Rattle.type_rules.specs.Answer.{IsFound, IsBreak, member_of, item_of};
-ghost use Rattle.type_rules.specs.Checked.{Checked};
+ghost use Rattle.type_rules.specs.Answer.{IsFound, IsBreak, seen, member_of, item_of};
+ghost use Rattle.type_rules.specs.Checked.{Checked, under};
 ghost use Rattle.type_rules.specs.Forms.{number_in, text_in, each, list_in, some_in};
 
 use crate::fault::{ValueFault, at_item, under};
@@ -40,6 +41,18 @@ pub fn part_under<'s, P: Part<'s>>(
     under(alloc, name, P::check(alloc, plain))
 }
 
+// The item with this index as a part.
+fn part_of<'s, P: Part<'s>>(
+    alloc: Global,
+    i: usize,
+    plain: &Plain<'s>,
+) -> Result<P::Typed, ValueFault<'s>>
+    ensures ok { IfOk result (IsFound (under (decimal i) (seen P.part_in plain.now))) }
+    ensures broken { IfErr result (IsBreak (under (decimal i) (seen P.part_in plain.now))) }
+{
+    at_item(alloc, i, P::check(alloc, plain))
+}
+
 /// The i-th item of a list as a part.
 pub fn part_at<'s, P: Part<'s>>(
     alloc: Global,
@@ -50,7 +63,7 @@ pub fn part_at<'s, P: Part<'s>>(
     ensures broken { IfErr result (IsBreak (item_of P.part_in i items.now)) }
 {
     let plain = item(alloc, items, i)?;
-    at_item(alloc, i, P::check(alloc, plain))
+    part_of::<P>(alloc, i, plain)
 }
 
 /// Each item of a list as a part, the first to the last.
@@ -62,8 +75,9 @@ pub fn each_part<'s, P: Part<'s>>(
     ensures broken { IfErr result (IsBreak (each P.part_in 0 (plain_items_view items.now))) }
 {
     let mut parts = Sequence::new(alloc);
-    for i in 0..items.len() {
-        let part = part_at::<P>(alloc, items, i)?;
+    let list = items.as_slice();
+    for (i, plain) in list.iter().enumerate() {
+        let part = part_of::<P>(alloc, i, plain)?;
         parts.push(part)?;
     }
     Ok(parts)

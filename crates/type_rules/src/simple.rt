@@ -22,7 +22,7 @@ use name_path::Kind;
 use std::alloc::Global;
 
 /// A value of a kind whose values are made of no values of other kinds.
-#[derive(Drop)]
+#[derive(Debug, Drop)]
 pub enum Simple<'s> {
     Color(Color),
     Dimension(Size),

@@ -6,7 +6,7 @@ ghost use Rattle.type_rules.specs.Answer.{IsBreak};
 ghost use Rattle.type_rules.specs.Value.{weight_of_word, weight_of_number, weight_in};
 
 use crate::fault::{ValueFault, ValueRule, or_broken};
-use crate::forms::{as_text, check_number};
+use crate::forms::check_number;
 use crate::parts::Part;
 use crate::range::{Range, ranged};
 use crate::words::meaning;
@@ -58,6 +58,7 @@ fn weight_of_number<'s>(alloc: Global, plain: &Plain<'s>) -> Result<Dec, ValueFa
 }
 
 /// The weight of a font, which is a number.
+#[derive(Clone, Copy, Debug)]
 pub struct Weight;
 
 /// A number within 1 to 1000, or a word that stands for one.
@@ -67,7 +68,7 @@ impl<'s> Part<'s> for Weight {
     ghost part_in = { weight_in };
 
     fn check(alloc: Global, plain: &Plain<'s>) -> Result<Dec, ValueFault<'s>> {
-        match as_text(plain) {
+        match plain.as_text() {
             Some(word) => weight_of_word(alloc, word.as_str()),
             None => weight_of_number(alloc, plain),
         }

@@ -1,4 +1,4 @@
-//! Plain values of sound JSON texts without escapes and blanks.
+//! Plain values of JSON texts without escapes and blanks, also of objects with equal names, which `json_span` refuses.
 
 use json_span::{Plain, PlainField, PlainFields, PlainItems};
 use std::alloc::Global;

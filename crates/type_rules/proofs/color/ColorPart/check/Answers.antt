@@ -1,6 +1,6 @@
 use Rattle.std.proofs.Common.{refl, codes, None, pos}
 use Rattle.json_span.specs.PlainView.{plain_view, plain_fields_view}
-use Rattle.dec_fix.specs.Arithmetic.{whole}
+use Rattle.dec_fix.specs.Arithmetic.{whole_decimal}
 use Rattle.type_rules.specs.declared.fault.ValueRule.TheVariants.{ColorSpace}
 use Rattle.type_rules.specs.Forms.{members_in, member, member_or}
 use Rattle.type_rules.specs.Words.{word_in, spaces}
@@ -23,7 +23,7 @@ returns-in_err-components-clause-broken c = rw (c.in_ok-members.ensures.ok, c.in
 
 pub returns-in_err-alpha-clause-broken : goal.returns-in_err-alpha-clause-broken
 unfolding color_in
-returns-in_err-alpha-clause-broken c = rw (c.in_ok-members.ensures.ok, c.in_ok-space.ensures.ok, c.in_ok-components.ensures.ok) (stays (member_or alpha_in (whole (pos 1)) (codes "alpha") (plain_fields_view c.in_ok-members.members.now)) _ _ _ c.from_residual-in_err-alpha.ensures.1 c.in_err-alpha.ensures.broken)
+returns-in_err-alpha-clause-broken c = rw (c.in_ok-members.ensures.ok, c.in_ok-space.ensures.ok, c.in_ok-components.ensures.ok) (stays (member_or alpha_in (whole_decimal (pos 1)) (codes "alpha") (plain_fields_view c.in_ok-members.members.now)) _ _ _ c.from_residual-in_err-alpha.ensures.1 c.in_err-alpha.ensures.broken)
 
 pub returns-in_err-hex-clause-broken : goal.returns-in_err-hex-clause-broken
 unfolding color_in
