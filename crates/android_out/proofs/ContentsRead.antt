@@ -9,10 +9,10 @@ use Rattle.dec_fix.specs.Writing.{spelling}
 use Rattle.dec_fix.proofs.Again.{both, number_again}
 use Rattle.transforms.specs.Hexadecimal.{hex_byte, hex_color, hex_value}
 use Rattle.transforms.specs.Runs.{PassesNumbers}
-use Rattle.transforms.proofs.RunsAreFronts.{all-append, numbers_pass, numbers_start}
+use Rattle.transforms.proofs.RunsAreFirst.{all-append, numbers_pass, numbers_start}
 use Rattle.transforms.proofs.Spelled.{both as together}
 use Rattle.android_out.specs.Element.{Content, color, dimen, integer, item, string, tag_of}
-use Rattle.android_out.specs.Reading.{color_in, numbered, is_unit, with_unit, alone, whole_alone, content_in, no_tag}
+use Rattle.android_out.specs.Reading.{hex_color_in, numbered, is_unit, with_unit, alone, whole_alone, content_in, no_tag}
 use Rattle.android_out.specs.Spelling.{content_text}
 
 -- a digit in upper case
@@ -46,7 +46,7 @@ byte_value b h =
     let low = digit (b % 16) (omega arith) in
     rw (high.value, low.value) (omega arith)
 
-color_read : (a r g b : ℕ) → a < 256 → r < 256 → g < 256 → b < 256 → color_in (hex_color (a ∷ r ∷ g ∷ b ∷ [])) ≡ Some (color a r g b)
+color_read : (a r g b : ℕ) → a < 256 → r < 256 → g < 256 → b < 256 → hex_color_in (hex_color (a ∷ r ∷ g ∷ b ∷ [])) ≡ Some (color a r g b)
 color_read a r g b ha hr hg hb =
     let a1 = digit (a / 16) (omega arith) in let a2 = digit (a % 16) (omega arith) in
     let r1 = digit (r / 16) (omega arith) in let r2 = digit (r % 16) (omega arith) in

@@ -1,10 +1,10 @@
-pub mod BlocksJoin
-pub mod ContentsRead
-pub mod FiveLines
-pub mod OneReading
-pub mod OwnNamesApart
-pub mod SheetsDenote
-pub mod SpelledIsRead
-pub mod TextsRead
-pub mod ValuesSpellable
-pub mod Words
+mod BlocksJoin
+mod ContentsRead
+mod FiveLines
+mod OneReading
+mod OwnNamesApart
+mod SheetsDenote
+mod SpelledIsRead
+mod TextsRead
+mod ValuesSpellable
+mod Words

@@ -6,9 +6,9 @@ use Rattle.std.proofs.lemmas.List.{append_cancel_left, append_cancel_right}
 use Rattle.transforms.specs.PlatformName.{is_kept}
 use Rattle.transforms.specs.declared.platform.Platform.TheVariants.{Android}
 use Rattle.transforms.proofs.Endings.{kept_name}
-use Rattle.transforms.proofs.RunsAreFronts.{runs_once}
+use Rattle.transforms.proofs.RunsAreFirst.{runs_once}
 use Rattle.android_out.specs.Element.{Content, Values, Tag, color_tag, dimen_tag, integer_tag, item_tag, string_tag, tag_of, tag_name, attributes, element_text}
-use Rattle.android_out.specs.Reading.{content_in, no_tag, IsElement, is_blank, after_comment, Block, ended, blank, comment, element, head, foot, Reads}
+use Rattle.android_out.specs.Reading.{content_in, no_tag, IsElement, is_blank, after_comment, Block, ended, blank_byte, comment, element, head, foot, Reads}
 
 -- the tag whose name begins so
 abbrev tag_at : List ℕ → Option Tag
@@ -126,20 +126,20 @@ no_mark string_tag t u e = let no : false ≡ true = ap is_mark e in cc
 -- what stands behind the end, a blank, a comment and an element
 at_end : {t : List ℕ} {ws : Values} → Block t ws → t ≡ [] → [] ≡ ws
 at_end (ended t f) e = refl
-at_end (blank t c rest ws f h x) e = cc
+at_end (blank_byte t c rest ws f h x) e = cc
 at_end (comment t inside rest ws f g x) e = cc
 at_end (element t text name rest content ws f is x) e = let b = begins t text name rest content f is in let whole : t ≡ 60 ∷ (tag_name b.tag ++ b.more) = b.whole in cc
 
 at_blank : {t : List ℕ} {ws : Values} → Block t ws → (c : ℕ) (u : List ℕ) → t ≡ c ∷ u → is_blank c ≡ true → Block u ws
 at_blank (ended t f) c u e h = cc
-at_blank (blank t d rest ws f k x) c u e h = let same : rest ≡ u = cc in let P : List ℕ → Type 0 = λ z. Block z ws in subst P same x
+at_blank (blank_byte t d rest ws f k x) c u e h = let same : rest ≡ u = cc in let P : List ℕ → Type 0 = λ z. Block z ws in subst P same x
 at_blank (comment t inside rest ws f g x) c u e h = let same : c ≡ 60 = cc in absurd (no_blank c h same)
 at_blank (element t text name rest content ws f is x) c u e h =
     let b = begins t text name rest content f is in let whole : t ≡ 60 ∷ (tag_name b.tag ++ b.more) = b.whole in let same : c ≡ 60 = cc in absurd (no_blank c h same)
 
 at_comment : {t : List ℕ} {ws : Values} → Block t ws → (u r : List ℕ) → t ≡ codes "<!--" ++ u → after_comment u ≡ Some r → Block r ws
 at_comment (ended t f) u r e g = cc
-at_comment (blank t c rest ws f h x) u r e g = let same : c ≡ 60 = cc in absurd (no_blank c h same)
+at_comment (blank_byte t c rest ws f h x) u r e g = let same : c ≡ 60 = cc in absurd (no_blank c h same)
 at_comment (comment t inside rest ws f k x) u r e g =
     let inner : inside ≡ u = cc in let some : Some rest ≡ Some r = sym k ∙ ap after_comment inner ∙ g in let same : rest ≡ r = cc in
     let P : List ℕ → Type 0 = λ z. Block z ws in subst P same x
@@ -153,7 +153,7 @@ at_element : {t : List ℕ} {ws : Values} → Block t ws → (text name r : List
     → (vs : Values) × (ws ≡ (name, content) ∷ vs) × Block r vs
 at_element (ended t f) text name r content e is =
     let b = begins t text name r content e is in let whole : t ≡ 60 ∷ (tag_name b.tag ++ b.more) = b.whole in cc
-at_element (blank t c rest ws f h x) text name r content e is =
+at_element (blank_byte t c rest ws f h x) text name r content e is =
     let b = begins t text name r content e is in let whole : t ≡ 60 ∷ (tag_name b.tag ++ b.more) = b.whole in let same : c ≡ 60 = cc in absurd (no_blank c h same)
 at_element (comment t inside rest ws f g x) text name r content e is =
     let b = begins t text name r content e is in
@@ -167,7 +167,7 @@ at_element (element t other another rest said ws f was x) text name r content e 
 
 pub block_once : {t : List ℕ} {vs : Values} → Block t vs → {ws : Values} → Block t ws → vs ≡ ws
 block_once (ended t e) y = at_end y e
-block_once (blank t c rest vs e h x) y = block_once x (at_blank y c rest e h)
+block_once (blank_byte t c rest vs e h x) y = block_once x (at_blank y c rest e h)
 block_once (comment t inside rest vs e f x) y = block_once x (at_comment y inside rest e f)
 block_once (element t text name rest content vs e is x) y =
     let (more, same, b) = at_element y text name rest content e is in ap (λ z. (name, content) ∷ z) (block_once x b) ∙ sym same

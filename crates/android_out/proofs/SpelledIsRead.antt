@@ -6,7 +6,7 @@ use Rattle.transforms.specs.PlatformName.{is_kept, is_identifier}
 use Rattle.transforms.specs.declared.platform.Platform.TheVariants.{Android}
 use Rattle.transforms.proofs.Endings.{kept_name}
 use Rattle.android_out.specs.Element.{Content, Values, tag_of, element_text}
-use Rattle.android_out.specs.Reading.{content_in, no_tag, IsElement, after_comment, Block, ended, blank, comment, element}
+use Rattle.android_out.specs.Reading.{content_in, no_tag, IsElement, after_comment, Block, ended, blank_byte, comment, element}
 use Rattle.android_out.specs.Spelling.{content_text, line_text, omitted_text, body_text}
 
 -- a name and a content that are read as they are spelled
@@ -20,9 +20,9 @@ line_read v t ws h b =
     let text = element_text (tag_of v.1) v.0 (content_text v.1) in
     let is : IsElement text v.0 v.1 = record { inside = content_text v.1; whole = refl; named = h.named; plain = h.plain; says = h.says } in
     let regroup : (text ++ codes "\n") ++ t ≡ text ++ (10 ∷ t) = append_assoc text (codes "\n") t in
-    let behind : Block (10 ∷ t) ws = blank (10 ∷ t) 10 t ws refl refl b in
+    let behind : Block (10 ∷ t) ws = blank_byte (10 ∷ t) 10 t ws refl refl b in
     let whole : Block ((text ++ codes "\n") ++ t) (v ∷ ws) = element ((text ++ codes "\n") ++ t) text v.0 (10 ∷ t) v.1 ws regroup is behind in
-    blank _ 32 (32 ∷ ((text ++ codes "\n") ++ t)) (v ∷ ws) refl refl (blank _ 32 ((text ++ codes "\n") ++ t) (v ∷ ws) refl refl whole)
+    blank_byte _ 32 (32 ∷ ((text ++ codes "\n") ++ t)) (v ∷ ws) refl refl (blank_byte _ 32 ((text ++ codes "\n") ++ t) (v ∷ ws) refl refl whole)
 
 lines_read : (vs : Values) → AllByRecursion IsSpellable vs → Block (flat_map line_text vs) vs
 lines_read [] h = ended [] refl
@@ -51,9 +51,9 @@ omitted_read n h =
     let P : List ℕ → Type 0 = λ s. after_comment (codes " omitted " ++ s) ≡ Some (codes "\n") in
     let closes : after_comment inside ≡ Some (codes "\n") =
     subst P (append_assoc n (codes " ") (codes "-->\n")) (past (codes " omitted " ++ (n ++ codes " ")) (codes "\n") (named_no_hyphen n (kept_name n h))) in
-    let end : Block (codes "\n") [] = blank (codes "\n") 10 [] [] refl refl (ended [] refl) in
+    let end : Block (codes "\n") [] = blank_byte (codes "\n") 10 [] [] refl refl (ended [] refl) in
     let whole = codes "<!--" ++ inside in
-    blank _ 32 (32 ∷ whole) [] refl refl (blank _ 32 whole [] refl refl (comment whole inside (codes "\n") [] refl closes end))
+    blank_byte _ 32 (32 ∷ whole) [] refl refl (blank_byte _ 32 whole [] refl refl (comment whole inside (codes "\n") [] refl closes end))
 
 pub body_read : (n : List ℕ) (vs : Values) → is_identifier n ≡ true → AllByRecursion IsSpellable vs → Block (body_text n vs) vs
 body_read n [] h all = omitted_read n h

@@ -28,7 +28,8 @@ ReadOnce = (bytes : List ℕ) (vs ws : Values) → Reads bytes vs → Reads byte
 -- a token's text, read alone, says its values and nothing else
 abbrev pub FragmentsRead : Type 0
 FragmentsRead = (settings : Settings) (path : List (List ℕ)) (v : Typed) → settings.rem_base < 2 ^ 8 → IsTyped v
-    → is_identifier (android_name settings path) ≡ true → Block (fragment_text settings path v) (fragment_values settings path v)
+    → is_identifier (android_name settings path) ≡ true
+    → Block (fragment_text settings path v) (fragment_values settings path v)
 
 -- the names of one token are apart
 abbrev pub OwnNamesApart : Type 0
@@ -36,4 +37,5 @@ OwnNamesApart = (settings : Settings) (path : List (List ℕ)) (v : Typed) → A
 
 -- a file's bytes denote the values of its tokens
 abbrev pub SheetsDenote : Type 0
-SheetsDenote = (settings : Settings) (cells : List Cell) → IsSheet settings cells → Denotes (sheet_bytes settings cells) (sheet_values settings cells)
+SheetsDenote = (settings : Settings) (cells : List Cell) → IsSheet settings cells
+    → Denotes (sheet_bytes settings cells) (sheet_values settings cells)

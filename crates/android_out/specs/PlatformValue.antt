@@ -3,6 +3,7 @@ use Rattle.std.specs.Prelude.{ℕ, ◌==◌, ◌||◌, Bool, true, false, List, 
 use Rattle.std.specs.Char.{is_ascii_alphanumeric}
 use Rattle.std.specs.List.{list_all, slice_split}
 use Rattle.std.specs.Option.{option_or}
+use Rattle.tk_io.specs.Characters.{blank, full_stop, hyphen, low_line}
 use Rattle.dec_fix.specs.Decimal.{Decimal}
 use Rattle.dec_fix.specs.Arithmetic.{times, whole_of, byte_of}
 use Rattle.transforms.specs.Config.{Settings}
@@ -45,15 +46,18 @@ is_srgb Oklch = false
 
 abbrev pub component_color : Color → Option Content
 component_color c =
-    option_and_then (λ red. option_and_then (λ green. option_map (λ blue. color (byte_of c.alpha) (byte_of red) (byte_of green) (byte_of blue)) c.third) c.second) c.first
+    option_and_then (λ red. option_and_then (λ green. option_map
+    (λ blue. color (byte_of c.alpha) (byte_of red) (byte_of green) (byte_of blue)) c.third) c.second) c.first
 
 -- and any other by the six digits of its `hex`
 abbrev pub digits_color : ℕ → List ℕ → Option Content
-digits_color alpha (a ∷ b ∷ c ∷ d ∷ e ∷ f ∷ []) = Some (color alpha (hex_value (a ∷ b ∷ [])) (hex_value (c ∷ d ∷ [])) (hex_value (e ∷ f ∷ [])))
+digits_color alpha (a ∷ b ∷ c ∷ d ∷ e ∷ f ∷ []) =
+    Some (color alpha (hex_value (a ∷ b ∷ [])) (hex_value (c ∷ d ∷ [])) (hex_value (e ∷ f ∷ [])))
 digits_color alpha digits = None
 
 abbrev pub color_content : Color → Option Content
-color_content c = option_or (if is_srgb c.space then component_color c else None) (option_and_then (digits_color (byte_of c.alpha)) c.hex)
+color_content c =
+    option_or (if is_srgb c.space then component_color c else None) (option_and_then (digits_color (byte_of c.alpha)) c.hex)
 
 abbrev pub is_rem : SizeUnit → Bool
 is_rem Px = false
@@ -76,14 +80,14 @@ time_content t = whole_content (milliseconds_in t.unit t.value)
 
 -- one or more words of ASCII letters, digits, `-`, `_` and `.`, with single blanks between
 abbrev pub is_plain_char : ℕ → Bool
-is_plain_char c = is_ascii_alphanumeric c || ((c == 45) || ((c == 95) || (c == 46)))
+is_plain_char c = is_ascii_alphanumeric c || ((c == hyphen) || ((c == low_line) || (c == full_stop)))
 
 abbrev pub is_word : List ℕ → Bool
 is_word [] = false
 is_word (c ∷ w) = list_all is_plain_char (c ∷ w)
 
 abbrev pub are_words : List ℕ → Bool
-are_words text = list_all is_word (slice_split (λ c. c == 32) text)
+are_words text = list_all is_word (slice_split (λ c. c == blank) text)
 
 -- the first family
 abbrev pub family_content : List (List ℕ) → Option Content
@@ -125,4 +129,5 @@ android_values settings name (typed.Border b) = []
 android_values settings name (typed.Transition t) = []
 android_values settings name (typed.Shadow items) = []
 android_values settings name (typed.Gradient stops) = []
-android_values settings name (typed.Typography t) = unless_omitted settings name t (family_content t.family) (whole_content t.weight)
+android_values settings name (typed.Typography t) =
+    unless_omitted settings name t (family_content t.family) (whole_content t.weight)

@@ -3,6 +3,7 @@
 use Rattle.std.specs.Prelude.{◌≡◌, ℕ, ◌==◌, ◌&&◌, ◌||◌, not, Bool, true, false, List, [], ◌∷◌, ◌++◌, codes, Option, Some, None, if◌then◌else◌}
 use Rattle.std.specs.Char.{is_ascii_alphabetic, is_ascii_hexdigit}
 use Rattle.std.specs.List.{list_all}
+use Rattle.tk_io.specs.Characters.{blank, hyphen, newline, number_sign}
 use Rattle.dec_fix.specs.Decimal.{Decimal}
 use Rattle.dec_fix.specs.Following.{number_at}
 use Rattle.transforms.specs.Hexadecimal.{hex_value}
@@ -18,9 +19,9 @@ eight_digits (a ∷ b ∷ c ∷ d ∷ e ∷ f ∷ g ∷ h ∷ []) =
     else None
 eight_digits digits = None
 
-abbrev pub color_in : List ℕ → Option Content
-color_in [] = None
-color_in (c ∷ t) = if c == 35 then eight_digits t else None
+abbrev pub hex_color_in : List ℕ → Option Content
+hex_color_in [] = None
+hex_color_in (c ∷ t) = if c == number_sign then eight_digits t else None
 
 -- a number of any length and what follows it
 abbrev pub numbered : (Decimal → List ℕ → Option Content) → List ℕ → Option Content
@@ -43,15 +44,22 @@ whole_alone d t = if d.s == 0 then alone (integer d) t else None
 
 -- what the content of an element of the tag says
 abbrev pub content_in : Tag → List ℕ → Option Content
-content_in color_tag t = color_in t
+content_in color_tag t = hex_color_in t
 content_in dimen_tag t = numbered with_unit t
 content_in integer_tag t = numbered whole_alone t
 content_in item_tag t = numbered (λ d. alone (item d)) t
 content_in string_tag t = Some (string t)
 
+-- what a tag begins and ends with
+abbrev pub less_than : ℕ
+less_than = 60
+
+abbrev pub greater_than : ℕ
+greater_than = 62
+
 -- not the start of a tag
 abbrev pub no_tag : ℕ → Bool
-no_tag c = not (c == 60)
+no_tag c = not (c == less_than)
 
 -- The text is an element of this name which says this.
 pub record IsElement (text name : List ℕ) (content : Content) : Type 0 where
@@ -62,21 +70,25 @@ pub record IsElement (text name : List ℕ) (content : Content) : Type 0 where
   pub says : content_in (tag_of content) inside ≡ Some content
 
 abbrev pub is_blank : ℕ → Bool
-is_blank c = (c == 32) || (c == 10)
+is_blank c = (c == blank) || (c == newline)
 
 -- what follows the first `-->`
 abbrev pub after_comment : List ℕ → Option (List ℕ)
 after_comment [] = None
 after_comment (c ∷ []) = None
 after_comment (c ∷ d ∷ []) = None
-after_comment (c ∷ d ∷ e ∷ t) = if (c == 45) && ((d == 45) && (e == 62)) then Some t else after_comment (d ∷ e ∷ t)
+after_comment (c ∷ d ∷ e ∷ t) =
+    if (c == hyphen) && ((d == hyphen) && (e == greater_than)) then Some t else after_comment (d ∷ e ∷ t)
 
 -- The elements of a text, read alone.
 pub data Block : List ℕ → Values → Type 0 where
   ended : (t : List ℕ) → t ≡ [] → Block t []
-  blank : (t : List ℕ) (c : ℕ) (rest : List ℕ) (vs : Values) → t ≡ c ∷ rest → is_blank c ≡ true → Block rest vs → Block t vs
-  comment : (t inside rest : List ℕ) (vs : Values) → t ≡ codes "<!--" ++ inside → after_comment inside ≡ Some rest → Block rest vs → Block t vs
-  element : (t text name rest : List ℕ) (content : Content) (vs : Values) → t ≡ text ++ rest → IsElement text name content
+  blank_byte : (t : List ℕ) (c : ℕ) (rest : List ℕ) (vs : Values) → t ≡ c ∷ rest → is_blank c ≡ true
+      → Block rest vs → Block t vs
+  comment : (t inside rest : List ℕ) (vs : Values) → t ≡ codes "<!--" ++ inside
+      → after_comment inside ≡ Some rest → Block rest vs → Block t vs
+  element : (t text name rest : List ℕ) (content : Content) (vs : Values) → t ≡ text ++ rest
+      → IsElement text name content
       → Block rest vs → Block t ((name, content) ∷ vs)
 
 abbrev pub head : List ℕ

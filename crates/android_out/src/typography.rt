@@ -43,7 +43,8 @@ pub(crate) fn typography_fragment(
 ) -> Result<Frag, NoMemory>
     requires { IsTypography value.now }
     ensures { IfOk result (IsFragment name.now
-        (five_values cfg.now name.now value.now (content_view family.now) (content_view weight.now))) }
+        (five_values cfg.now name.now value.now
+        (content_view family.now) (content_view weight.now))) }
 {
     let mut lines = Frag {
         names: Names::new(alloc),

@@ -3,7 +3,8 @@
 ghost use Rattle.std.specs.Prelude.{◌≡◌, ◌<◌, ◌^◌, [], ◌∷◌, IfOk};
 ghost use Rattle.transforms.specs.View.{frame_view};
 ghost use Rattle.composite_rules.specs.Sound.{IsTyped, IsTypography};
-ghost use Rattle.android_out.specs.PlatformValue.{unless_omitted, family_content, whole_content, android_values};
+ghost use Rattle.android_out.specs.PlatformValue.{unless_omitted, family_content, whole_content};
+ghost use Rattle.android_out.specs.PlatformValue.{android_values};
 ghost use Rattle.android_out.specs.Spelling.{fragment_names, fragment_text};
 ghost use Rattle.android_out.specs.Sheets.{android_frame, IsNamed, IsReadAsValues};
 ghost use Rattle.android_out.specs.inner.View.{content_view};

@@ -4,14 +4,14 @@ use Rattle.std.specs.Prelude.{◌⊎◌, if◌then◌else◌}
 use Rattle.std.specs.Char.{is_ascii_alphabetic, is_ascii_digit}
 use Rattle.std.proofs.lemmas.Bool.Decides.{nat_tests}
 use Rattle.dec_fix.specs.Decimal.{Decimal, decimal_of}
-use Rattle.dec_fix.specs.Spelling.{value}
+use Rattle.dec_fix.specs.Spelling.{digits_number}
 use Rattle.dec_fix.specs.Reading.{digits_front, digits_rest}
 use Rattle.dec_fix.specs.Following.{fraction_after, unsigned_at}
 use Rattle.transforms.specs.Quoted.{string_from}
-use Rattle.transforms.specs.Runs.{front, rest, starts_digit}
+use Rattle.transforms.specs.Runs.{first_run, behind_run, starts_digit}
 use Rattle.transforms.proofs.QuotedReadsBack.{Longer, string_more}
 use Rattle.css_out.specs.Piece.{Piece, mark, var, number, percent, unit, word, opens, closes, comma, slash}
-use Rattle.css_out.specs.Reading.{in_word, in_name, is_some, closed_name, var_at, is_var, worded, string_piece, measured, numbered, starts_star, piece_at, is_blank, after_comment, skip_star, Step, stop, skip, take, wrong, skipped, taken, step, Pieces, stops, skips, takes, colon, Colon, meets, misses, Declared, Turn, over, pass, names, other, passed, named, dashed, turn, tail, Block, ended, passes, declared}
+use Rattle.css_out.specs.Reading.{in_word, in_name, is_some, closed_name, var_at, is_var, worded, string_piece, measured, numbered, starts_star, piece_at, is_blank, after_comment, skip_star, ValueStep, stop, skip, take, wrong, skipped, taken, step, Pieces, stops, skips, takes, colon, Colon, meets, misses, Declared, Turn, over, pass, names, other, passed, named, dashed, turn, tail, Block, ended, passes, declared}
 
 -- runs of bytes
 run_by : (b : Bool) (c d : ℕ) (f g r q s u t : List ℕ) → (if b then r else c ∷ s) ≡ d ∷ u → (r ≡ d ∷ u → (g ≡ f) × (q ≡ d ∷ (u ++ t)))
@@ -19,18 +19,18 @@ run_by : (b : Bool) (c d : ℕ) (f g r q s u t : List ℕ) → (if b then r else
 run_by true c d f g r q s u t e again = let (a, b) = again e in (ap (λ x. c ∷ x) a, b)
 run_by false c d f g r q s u t e again = let first : c ≡ d = cc in let more : s ≡ u = cc in (refl, rw (first, more) refl)
 
-rest-more : (p : ℕ → Bool) (s t : List ℕ) (d : ℕ) (u : List ℕ) → rest p s ≡ d ∷ u → (front p (s ++ t) ≡ front p s) × (rest p (s ++ t) ≡ d ∷ (u ++ t))
+rest-more : (p : ℕ → Bool) (s t : List ℕ) (d : ℕ) (u : List ℕ) → behind_run p s ≡ d ∷ u → (first_run p (s ++ t) ≡ first_run p s) × (behind_run p (s ++ t) ≡ d ∷ (u ++ t))
 rest-more p [] t d u e = cc
-rest-more p (c ∷ s) t d u e = run_by (p c) c d (front p s) (front p (s ++ t)) (rest p s) (rest p (s ++ t)) s u t e (rest-more p s t d u)
+rest-more p (c ∷ s) t d u e = run_by (p c) c d (first_run p s) (first_run p (s ++ t)) (behind_run p s) (behind_run p (s ++ t)) s u t e (rest-more p s t d u)
 
 -- what stands at the front of a text stands there before more, unless nothing can be read behind it
-abbrev Grown : List ℕ → Step → Step → Type 0
+abbrev Grown : List ℕ → ValueStep → ValueStep → Type 0
 Grown t stop z = z ≡ stop
 Grown t (skip r) z = z ≡ skip (r ++ t)
 Grown t (take p r) z = (step r ≡ wrong) ⊎ (z ≡ take p (r ++ t))
 Grown t wrong z = Unit {0}
 
-grown_if : (t : List ℕ) (b : Bool) (x y v w : Step) → Grown t x v → Grown t y w → Grown t (if b then x else y) (if b then v else w)
+grown_if : (t : List ℕ) (b : Bool) (x y v w : ValueStep) → Grown t x v → Grown t y w → Grown t (if b then x else y) (if b then v else w)
 grown_if t true x y v w h i = h
 grown_if t false x y v w h i = i
 
@@ -43,34 +43,34 @@ skipped_if t true x y v w h i = h
 skipped_if t false x y v w h i = i
 
 -- names and words
-closed_more : (x t r : List ℕ) → rest in_name x ≡ r
-    → Grown t (taken (closed_name (front in_name x) r)) (taken (closed_name (front in_name (x ++ t)) (rest in_name (x ++ t))))
+closed_more : (x t r : List ℕ) → behind_run in_name x ≡ r
+    → Grown t (taken (closed_name (first_run in_name x) r)) (taken (closed_name (first_run in_name (x ++ t)) (behind_run in_name (x ++ t))))
 closed_more x t [] e = tt
 closed_more x t (d ∷ u) e =
     let (a, b) = rest-more in_name x t d u e in
-    rw (a, b) (taken_if t ((d == 41) && is_some (front in_name x)) (Some (var (45 ∷ 45 ∷ front in_name x), u)) None _ None (inr refl) tt)
+    rw (a, b) (taken_if t ((d == 41) && is_some (first_run in_name x)) (Some (var (45 ∷ 45 ∷ first_run in_name x), u)) None _ None (inr refl) tt)
 
 var_more : (u t : List ℕ) → Grown t (taken (var_at u)) (taken (var_at (u ++ t)))
 var_more [] t = tt
 var_more (c ∷ []) t = tt
-var_more (c ∷ d ∷ x) t = taken_if t ((c == 45) && (d == 45)) _ None _ None (closed_more x t (rest in_name x) refl) tt
+var_more (c ∷ d ∷ x) t = taken_if t ((c == 45) && (d == 45)) _ None _ None (closed_more x t (behind_run in_name x) refl) tt
 
 worded_more : (w u t : List ℕ) (d : ℕ) → Grown t (taken (worded w (d ∷ u))) (taken (worded w (d ∷ (u ++ t))))
 worded_more w u t d = taken_if t (d == 40) _ (Some (mark (word w), d ∷ u)) _ (Some (mark (word w), d ∷ (u ++ t)))
     (taken_if t (is_var w) (var_at u) (Some (mark (opens w), u)) (var_at (u ++ t)) (Some (mark (opens w), u ++ t)) (var_more u t) (inr refl)) (inr refl)
 
-word_more : (s t r : List ℕ) → rest in_word s ≡ r → Grown t (taken (worded (front in_word s) r)) (taken (worded (front in_word (s ++ t)) (rest in_word (s ++ t))))
+word_more : (s t r : List ℕ) → behind_run in_word s ≡ r → Grown t (taken (worded (first_run in_word s) r)) (taken (worded (first_run in_word (s ++ t)) (behind_run in_word (s ++ t))))
 word_more s t [] e = inl refl
-word_more s t (d ∷ u) e = let (a, b) = rest-more in_word s t d u e in rw (a, b) (worded_more (front in_word s) u t d)
+word_more s t (d ∷ u) e = let (a, b) = rest-more in_word s t d u e in rw (a, b) (worded_more (first_run in_word s) u t d)
 
 -- numbers
 digits-more : (s t : List ℕ) (d : ℕ) (u : List ℕ) → digits_rest s ≡ d ∷ u → (digits_front (s ++ t) ≡ digits_front s) × (digits_rest (s ++ t) ≡ d ∷ (u ++ t))
 digits-more [] t d u e = cc
 digits-more (c ∷ s) t d u e = run_by (is_ascii_digit c) c d (digits_front s) (digits_front (s ++ t)) (digits_rest s) (digits_rest (s ++ t)) s u t e (digits-more s t d u)
 
-unit_more : (n : Decimal) (s t r : List ℕ) → rest is_ascii_alphabetic s ≡ r
-    → Grown t (taken (Some (mark (unit n (front is_ascii_alphabetic s)), r)))
-    (taken (Some (mark (unit n (front is_ascii_alphabetic (s ++ t))), rest is_ascii_alphabetic (s ++ t))))
+unit_more : (n : Decimal) (s t r : List ℕ) → behind_run is_ascii_alphabetic s ≡ r
+    → Grown t (taken (Some (mark (unit n (first_run is_ascii_alphabetic s)), r)))
+    (taken (Some (mark (unit n (first_run is_ascii_alphabetic (s ++ t))), behind_run is_ascii_alphabetic (s ++ t))))
 unit_more n s t [] e = inl refl
 unit_more n s t (d ∷ u) e = let (a, b) = rest-more is_ascii_alphabetic s t d u e in rw (a, b) (inr refl)
 
@@ -78,7 +78,7 @@ measured_more : (n : Decimal) (r t : List ℕ) → Grown t (taken (measured n r)
 measured_more n [] t = inl refl
 measured_more n (c ∷ u) t = taken_if t (c == 37) (Some (mark (percent n), u)) _ (Some (mark (percent n), u ++ t)) _ (inr refl)
     (taken_if t (is_ascii_alphabetic c) _ (Some (mark (number n), c ∷ u)) _ (Some (mark (number n), c ∷ (u ++ t)))
-    (unit_more n (c ∷ u) t (rest is_ascii_alphabetic (c ∷ u)) refl) (inr refl))
+    (unit_more n (c ∷ u) t (behind_run is_ascii_alphabetic (c ∷ u)) refl) (inr refl))
 
 numbered_if : (t : List ℕ) (b : Bool) (x y v w : Decimal × List ℕ) → Grown t (taken (numbered x)) (taken (numbered v)) → Grown t (taken (numbered y)) (taken (numbered w))
     → Grown t (taken (numbered (if b then x else y))) (taken (numbered (if b then v else w)))
@@ -89,7 +89,7 @@ numbered_if t false x y v w h i = i
 point_last : (b : Bool) (negative : Bool) (whole : List ℕ) (c : ℕ) (t : List ℕ) → (c == 46) ≡ b
     → Grown t (taken (numbered (fraction_after negative whole (c ∷ [])))) (taken (numbered (fraction_after negative whole (c ∷ t))))
 point_last true negative whole c t h = let point : c ≡ 46 = grind (arith, nat_tests) in rw point (inl refl)
-point_last false negative whole c t h = rw h (measured_more (decimal_of negative (value whole) 0) (c ∷ []) t)
+point_last false negative whole c t h = rw h (measured_more (decimal_of negative (digits_number whole) 0) (c ∷ []) t)
 
 not_nil : (d : ℕ) (s : List ℕ) → d ∷ s ≡ [] → ⊥
 not_nil d s h = cc
@@ -97,15 +97,15 @@ not_nil d s h = cc
 -- digits behind a byte that is a point or not
 abbrev pointed : Bool → List ℕ → ℕ → List ℕ → List ℕ → List ℕ → Decimal × List ℕ
 pointed negative whole c ds r s =
-    if (c == 46) && nat_lt 0 (length ds) then (decimal_of negative (value (whole ++ ds)) (length ds), r) else (decimal_of negative (value whole) 0, c ∷ s)
+    if (c == 46) && nat_lt 0 (length ds) then (decimal_of negative (digits_number (whole ++ ds)) (length ds), r) else (decimal_of negative (digits_number whole) 0, c ∷ s)
 
 all_digits : (negative : Bool) (whole : List ℕ) (c : ℕ) (ds es r s t : List ℕ) → nat_lt 0 (length ds) ≡ true → nat_lt 0 (length es) ≡ true
     → Grown t (taken (numbered (pointed negative whole c ds [] s))) (taken (numbered (pointed negative whole c es r (s ++ t))))
 all_digits negative whole c ds es r s t h i =
     rw (h, i) (numbered_if t ((c == 46) && true)
-    (decimal_of negative (value (whole ++ ds)) (length ds), []) (decimal_of negative (value whole) 0, c ∷ s)
-    (decimal_of negative (value (whole ++ es)) (length es), r) (decimal_of negative (value whole) 0, c ∷ (s ++ t))
-    (inl refl) (measured_more (decimal_of negative (value whole) 0) (c ∷ s) t))
+    (decimal_of negative (digits_number (whole ++ ds)) (length ds), []) (decimal_of negative (digits_number whole) 0, c ∷ s)
+    (decimal_of negative (digits_number (whole ++ es)) (length es), r) (decimal_of negative (digits_number whole) 0, c ∷ (s ++ t))
+    (inl refl) (measured_more (decimal_of negative (digits_number whole) 0) (c ∷ s) t))
 
 longer : (n : ℕ) → nat_lt 0 (suc n) ≡ true
 longer n = grind (arith, nat_tests)
@@ -129,9 +129,9 @@ point_more negative whole c (d ∷ s) t [] e = point_digits (is_ascii_digit d) n
 point_more negative whole c s t (d ∷ u) e =
     let (a, b) = digits-more s t d u e in
     rw (a, b, e) (numbered_if t ((c == 46) && nat_lt 0 (length (digits_front s)))
-    (decimal_of negative (value (whole ++ digits_front s)) (length (digits_front s)), d ∷ u) (decimal_of negative (value whole) 0, c ∷ s)
-    (decimal_of negative (value (whole ++ digits_front s)) (length (digits_front s)), d ∷ (u ++ t)) (decimal_of negative (value whole) 0, c ∷ (s ++ t))
-    (measured_more _ (d ∷ u) t) (measured_more (decimal_of negative (value whole) 0) (c ∷ s) t))
+    (decimal_of negative (digits_number (whole ++ digits_front s)) (length (digits_front s)), d ∷ u) (decimal_of negative (digits_number whole) 0, c ∷ s)
+    (decimal_of negative (digits_number (whole ++ digits_front s)) (length (digits_front s)), d ∷ (u ++ t)) (decimal_of negative (digits_number whole) 0, c ∷ (s ++ t))
+    (measured_more _ (d ∷ u) t) (measured_more (decimal_of negative (digits_number whole) 0) (c ∷ s) t))
 
 number_more : (negative : Bool) (s t r : List ℕ) → digits_rest s ≡ r
     → Grown t (taken (numbered (fraction_after negative (digits_front s) r))) (taken (numbered (unsigned_at negative (s ++ t))))
@@ -152,7 +152,7 @@ piece_more c d s t =
     (taken_if t (c == 34) _ _ _ _ (string_taken t (string_from false (d ∷ s)) (string_from false (d ∷ (s ++ t))) (string_more false (d ∷ s) t))
     (taken_if t (is_ascii_digit c) _ _ _ _ (number_more false (c ∷ d ∷ s) t (digits_rest (c ∷ d ∷ s)) refl)
     (taken_if t ((c == 45) && is_ascii_digit d) _ _ _ _ (number_more true (d ∷ s) t (digits_rest (d ∷ s)) refl)
-    (taken_if t (is_ascii_alphabetic c) _ None _ None (word_more (c ∷ d ∷ s) t (rest in_word (c ∷ d ∷ s)) refl) tt))))))
+    (taken_if t (is_ascii_alphabetic c) _ None _ None (word_more (c ∷ d ∷ s) t (behind_run in_word (c ∷ d ∷ s)) refl) tt))))))
 
 comment_more : (s t : List ℕ) → Grown t (skipped (after_comment s)) (skipped (after_comment (s ++ t)))
 comment_more [] t = tt
@@ -164,7 +164,7 @@ star_more [] t = tt
 star_more (c ∷ s) t = skipped_if t (c == 42) (after_comment s) None (after_comment (s ++ t)) None (comment_more s t) tt
 
 -- a test that fails, whatever stands behind it
-grown_no : (t : List ℕ) (b p q : Bool) (x y v w : Step) → b ≡ false → Grown t y w → Grown t (if b && p then x else y) (if b && q then v else w)
+grown_no : (t : List ℕ) (b p q : Bool) (x y v w : ValueStep) → b ≡ false → Grown t y w → Grown t (if b && p then x else y) (if b && q then v else w)
 grown_no t true p q x y v w h i = cc
 grown_no t false p q x y v w h i = i
 
@@ -186,7 +186,7 @@ one_byte false false c t h k =
     (taken_if t (c == 34) _ _ _ _ (string_taken t (string_from false []) (string_from false t) (string_more false [] t))
     (taken_if t (is_ascii_digit c) _ _ _ _ (number_more false (c ∷ []) t (digits_rest (c ∷ [])) refl)
     (taken_no t (c == 45) false (starts_digit t) _ _ _ _ k
-    (taken_if t (is_ascii_alphabetic c) _ None _ None (word_more (c ∷ []) t (rest in_word (c ∷ [])) refl) tt)))))))))
+    (taken_if t (is_ascii_alphabetic c) _ None _ None (word_more (c ∷ []) t (behind_run in_word (c ∷ [])) refl) tt)))))))))
 
 step_more : (s t : List ℕ) → Grown t (step s) (step (s ++ t))
 step_more [] t = tt
@@ -204,12 +204,12 @@ no_pieces (takes t s p ps u e x) same = cc
 
 take_more : (s t r : List ℕ) (p : Piece) (ps : List Piece) (u : List ℕ) → step s ≡ take p r → Pieces r ps u → step (s ++ t) ≡ take p (r ++ t)
 take_more s t r p ps u e x =
-    let P : Step → Type 0 = λ z. Grown t z (step (s ++ t)) in
+    let P : ValueStep → Type 0 = λ z. Grown t z (step (s ++ t)) in
     elim (subst P e (step_more s t)) as (λ _. step (s ++ t) ≡ take p (r ++ t)) [ inl h ↦ absurd (no_pieces x h) | inr h ↦ h ]
 
 pieces_more : {s : List ℕ} {ps : List Piece} {u : List ℕ} → Pieces s ps u → (t : List ℕ) → Pieces (s ++ t) ps (u ++ t)
-pieces_more (stops s e) t = let P : Step → Type 0 = λ z. Grown t z (step (s ++ t)) in stops (s ++ t) (subst P e (step_more s t))
-pieces_more (skips s r ps u e x) t = let P : Step → Type 0 = λ z. Grown t z (step (s ++ t)) in skips (s ++ t) (r ++ t) ps (u ++ t) (subst P e (step_more s t)) (pieces_more x t)
+pieces_more (stops s e) t = let P : ValueStep → Type 0 = λ z. Grown t z (step (s ++ t)) in stops (s ++ t) (subst P e (step_more s t))
+pieces_more (skips s r ps u e x) t = let P : ValueStep → Type 0 = λ z. Grown t z (step (s ++ t)) in skips (s ++ t) (r ++ t) ps (u ++ t) (subst P e (step_more s t)) (pieces_more x t)
 pieces_more (takes s r p ps u e x) t = takes (s ++ t) (r ++ t) p ps (u ++ t) (take_more s t r p ps u e x) (pieces_more x t)
 
 stops_there : {s : List ℕ} {ps : List Piece} {u : List ℕ} → Pieces s ps u → step u ≡ stop
@@ -235,11 +235,11 @@ tail_colon (c ∷ v) t e = refl
 
 colons_more : {s u : List ℕ} → Colon s u → (t : List ℕ) → Colon (s ++ t) (u ++ t)
 colons_more (meets s e) t =
-    let P : Step → Type 0 = λ z. Grown t z (colon (s ++ t)) in
+    let P : ValueStep → Type 0 = λ z. Grown t z (colon (s ++ t)) in
     let Q : List ℕ → Type 0 = λ z. Colon (s ++ t) z in
     subst Q (tail_colon s t e) (meets (s ++ t) (subst P e (colon_more s t)))
 colons_more (misses s r u e x) t =
-    let P : Step → Type 0 = λ z. Grown t z (colon (s ++ t)) in misses (s ++ t) (r ++ t) (u ++ t) (subst P e (colon_more s t)) (colons_more x t)
+    let P : ValueStep → Type 0 = λ z. Grown t z (colon (s ++ t)) in misses (s ++ t) (r ++ t) (u ++ t) (subst P e (colon_more s t)) (colons_more x t)
 
 -- a block
 abbrev GrownTurn : List ℕ → Turn → Turn → Type 0
@@ -257,16 +257,16 @@ passed_more t None y h = tt
 passed_more t (Some r) None h = cc
 passed_more t (Some r) (Some q) h = let same : q ≡ r ++ t = cc in ap pass same
 
-named_more : (x t r : List ℕ) → rest in_name x ≡ r
-    → GrownTurn t (named (front in_name x) r) (named (front in_name (x ++ t)) (rest in_name (x ++ t)))
+named_more : (x t r : List ℕ) → behind_run in_name x ≡ r
+    → GrownTurn t (named (first_run in_name x) r) (named (first_run in_name (x ++ t)) (behind_run in_name (x ++ t)))
 named_more x t [] e = tt
 named_more x t (d ∷ u) e =
     let (a, b) = rest-more in_name x t d u e in
-    rw (a, b) (turn_if t (is_some (front in_name x)) (names (45 ∷ 45 ∷ front in_name x) (d ∷ u)) other (names (45 ∷ 45 ∷ front in_name x) (d ∷ (u ++ t))) other refl tt)
+    rw (a, b) (turn_if t (is_some (first_run in_name x)) (names (45 ∷ 45 ∷ first_run in_name x) (d ∷ u)) other (names (45 ∷ 45 ∷ first_run in_name x) (d ∷ (u ++ t))) other refl tt)
 
 dashed_more : (s t : List ℕ) → GrownTurn t (dashed s) (dashed (s ++ t))
 dashed_more [] t = tt
-dashed_more (d ∷ x) t = turn_if t (d == 45) _ other _ other (named_more x t (rest in_name x) refl) tt
+dashed_more (d ∷ x) t = turn_if t (d == 45) _ other _ other (named_more x t (behind_run in_name x) refl) tt
 
 turn_more : (c : ℕ) (s t : List ℕ) → GrownTurn t (turn (c ∷ s)) (turn (c ∷ (s ++ t)))
 turn_more c s t =

@@ -1,18 +1,18 @@
-pub mod BlocksJoin
-pub mod FragmentsRead
-pub mod GenericsAreWords
-pub mod ItemsAddUp
-pub mod LinesAreSpellable
-pub mod LinesDone
-pub mod NamesComeFromLinks
-pub mod NoReferences
-pub mod OneReading
-pub mod OwnNamesApart
-pub mod OwnValues
-pub mod PiecesAddUp
-pub mod RoundsEnd
-pub mod SheetsDenote
-pub mod SpellablePieces
-pub mod SpelledIsRead
-pub mod TextsRead
-pub mod ValuesDiffer
+mod BlocksJoin
+mod FragmentsRead
+mod GenericsAreWords
+mod ItemsAddUp
+mod LinesAreSpellable
+mod LinesDone
+mod NamesComeFromLinks
+mod NoReferences
+mod OneReading
+mod OwnNamesApart
+mod OwnValues
+mod PiecesAddUp
+mod RoundsEnd
+mod SheetsDenote
+mod SpellablePieces
+mod SpelledIsRead
+mod TextsRead
+mod ValuesDiffer

@@ -48,7 +48,7 @@ use Rattle.composite_rules.specs.declared.typed.Typed.TheVariants as typed
 use Rattle.css_out.specs.Piece.{Mark, Piece, mark, var, number, unit, string, word, opens, closes, comma, slash, opens_function, closes_function}
 use Rattle.css_out.specs.Reading.{is_var, are_closed}
 use Rattle.css_out.specs.Links.{link_for, item_link}
-use Rattle.css_out.specs.Parts.{Part, shown_part, shown, Entry, declaration}
+use Rattle.css_out.specs.Parts.{Part, shown_part, shown, NamedParts, declaration}
 use Rattle.css_out.specs.PlatformValue.{size_marks, time_marks, number_marks, curve_marks, function_name, space_marks, has_percents, component_mark, component_marks, alpha_marks, color_marks, listed, is_generic, family_marks, families_marks, simple_marks, stroke_marks, border_marks, transition_marks, inset_marks, shadow_marks, position_mark, stop_marks, can_spell}
 use Rattle.css_out.specs.Fragment.{css_name, part, unless_linked, behind_commas, listed_parts, is_only, border_parts, transition_parts, shadow_parts, stop_parts, value_parts, typography_part, typography_line, lines_of, entries}
 use Rattle.css_out.proofs.SpellablePieces.{is_word, is_unit, IsSpellableMark, IsSpellable, AreSpellable}
@@ -374,7 +374,7 @@ module _ (prefix : List ℕ) (links : List Link) (named : AllByRecursion (λ l. 
     ),
   )
 
-  sound_if : (b : Bool) (es : List Entry) → AllByRecursion IsLine (map declaration es) → AllByRecursion IsLine (map declaration (if b then es else []))
+  sound_if : (b : Bool) (es : List NamedParts) → AllByRecursion IsLine (map declaration es) → AllByRecursion IsLine (map declaration (if b then es else []))
   sound_if true es h = h
   sound_if false es h = tt
 

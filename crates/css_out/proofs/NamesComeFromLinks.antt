@@ -29,7 +29,7 @@ use Rattle.composite_rules.specs.declared.typed.Typed.TheVariants as typed
 use Rattle.composite_rules.specs.declared.typography.Typography.{Typography}
 use Rattle.ring.specs.Lists.{In}
 use Rattle.css_out.specs.Piece.{Mark}
-use Rattle.css_out.specs.Parts.{Part, Entry}
+use Rattle.css_out.specs.Parts.{Part, NamedParts}
 use Rattle.css_out.specs.Links.{same_trail, is_kind, link_for, item_link}
 use Rattle.css_out.specs.PlatformValue.{size_marks, time_marks, number_marks, curve_marks, color_marks, families_marks, simple_marks, stroke_marks, border_marks, transition_marks, listed, shadow_marks, stop_marks, can_spell, all_values, css_values}
 use Rattle.css_out.specs.Fragment.{css_name, part, unless_linked, behind_commas, listed_parts, is_only, border_parts, transition_parts, shadow_parts, stop_parts, typography_part, lines_of, entries}
@@ -300,7 +300,7 @@ lines_from prefix links name (typed.Typography t) room h =
       ),
     )
 
-lines_if : (prefix : List ℕ) (links : List Link) (v : Typed) (b : Bool) (es : List Entry) → (b ≡ true → AllByRecursion (λ e. AllByRecursion (ComesFrom prefix links v) e.parts) es)
+lines_if : (prefix : List ℕ) (links : List Link) (v : Typed) (b : Bool) (es : List NamedParts) → (b ≡ true → AllByRecursion (λ e. AllByRecursion (ComesFrom prefix links v) e.parts) es)
     → AllByRecursion (λ e. AllByRecursion (ComesFrom prefix links v) e.parts) (if b then es else [])
 lines_if prefix links v true es h = h refl
 lines_if prefix links v false es h = tt

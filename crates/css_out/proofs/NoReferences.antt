@@ -9,7 +9,7 @@ use Rattle.composite_rules.specs.declared.gradient.ColorStop.{ColorStop}
 use Rattle.composite_rules.specs.declared.shadow.ShadowItem.{ShadowItem}
 use Rattle.composite_rules.specs.declared.typed.Typed.{Typed}
 use Rattle.composite_rules.specs.declared.typed.Typed.TheVariants as typed
-use Rattle.css_out.specs.Parts.{Part, plain, linked, shown, own, Entry, declaration, value, as_declared}
+use Rattle.css_out.specs.Parts.{Part, plain, linked, shown, own, NamedParts, declaration, value, as_declared}
 use Rattle.css_out.specs.Piece.{Mark, mark}
 use Rattle.css_out.specs.PlatformValue.{can_spell, css_values}
 use Rattle.css_out.specs.Fragment.{css_name, behind_commas, listed_parts, is_only, item_part, shadow_parts, stop_parts, lines_of, entries, fragment_entries}
@@ -54,7 +54,7 @@ module _ (prefix : List ℕ) where
   plain_stop : (only : Bool) (i : ℕ) (s : ColorStop) → ArePlain (stop_parts prefix [] only i s)
   plain_stop only i s = (tt, (tt, tt))
 
-  abbrev PlainLines : List Entry → Type 0
+  abbrev PlainLines : List NamedParts → Type 0
   PlainLines es = AllByRecursion (λ e. ArePlain e.parts) es
 
   plain_lines : (name : List ℕ) (v : Typed) → PlainLines (lines_of prefix [] name None v)
@@ -66,14 +66,14 @@ module _ (prefix : List ℕ) where
   plain_lines name (typed.Gradient stops) = (plain_listed (stop_parts prefix [] (is_only stops)) (plain_stop (is_only stops)) stops, tt)
   plain_lines name (typed.Typography t) = ((tt, tt), ((tt, tt), ((tt, tt), ((tt, tt), ((tt, tt), tt)))))
 
-  plain_if : (b : Bool) (es : List Entry) → PlainLines es → PlainLines (if b then es else [])
+  plain_if : (b : Bool) (es : List NamedParts) → PlainLines es → PlainLines (if b then es else [])
   plain_if true es h = h
   plain_if false es h = tt
 
   plain_entries : (name : List ℕ) (v : Typed) → PlainLines (entries prefix [] name v)
   plain_entries name v = plain_if (can_spell v) (lines_of prefix [] name None v) (plain_lines name v)
 
-  plain_declared : (es : List Entry) → PlainLines es → map declaration es ≡ map as_declared (map value es)
+  plain_declared : (es : List NamedParts) → PlainLines es → map declaration es ≡ map as_declared (map value es)
   plain_declared [] h = refl
   plain_declared (e ∷ es) h =
       let first : declaration e ≡ as_declared (value e) = ap (λ ps. record { name = e.name; pieces = ps }) (plain_shown e.parts h.0) in

@@ -18,7 +18,7 @@ use Rattle.composite_rules.specs.declared.typed.Typed.{Typed}
 use Rattle.composite_rules.specs.declared.typed.Typed.TheVariants as typed
 use Rattle.css_out.specs.Links.{link_for, item_link}
 use Rattle.css_out.specs.Spelling.{fragment_lines, fragment_names}
-use Rattle.css_out.specs.Parts.{declaration, Part, own_part, own, Entry, value}
+use Rattle.css_out.specs.Parts.{declaration, Part, own_part, own, NamedParts, value}
 use Rattle.css_out.specs.Piece.{Mark, comma, Values, value_names}
 use Rattle.css_out.specs.PlatformValue.{size_marks, time_marks, number_marks, curve_marks, color_marks, families_marks, stroke_marks, simple_marks, listed, border_marks, transition_marks, shadow_marks, stop_marks, can_spell, all_values, css_values}
 use Rattle.css_out.specs.Fragment.{spelled_links, css_name, part, unless_linked, behind_commas, listed_parts, is_only, border_parts, transition_parts, shadow_parts, stop_parts, typography_part, lines_of, entries}
@@ -108,7 +108,7 @@ module _ (prefix : List ℕ) (links : List Link) where
         own_line w (codes "lineHeight") kind.Number (height_end Css) (number_marks t.line_height),
       ) refl
 
-  map_if : (b : Bool) (es : List Entry) (vs : Values) → map value es ≡ vs → map value (if b then es else []) ≡ (if b then vs else [])
+  map_if : (b : Bool) (es : List NamedParts) (vs : Values) → map value es ≡ vs → map value (if b then es else []) ≡ (if b then vs else [])
   map_if true es vs h = h
   map_if false es vs h = refl
 
@@ -116,12 +116,12 @@ module _ (prefix : List ℕ) (links : List Link) where
   own_values name v = map_if (can_spell v) (lines_of prefix links name (link_for links [] (kind_of v)) v) (all_values name v) (own_lines name (link_for links [] (kind_of v)) v)
 
 -- the names of lines are those of their values
-pub entry_names : (es : List Entry) → map (λ e. e.name) es ≡ value_names (map value es)
+pub entry_names : (es : List NamedParts) → map (λ e. e.name) es ≡ value_names (map value es)
 entry_names [] = refl
 entry_names (e ∷ es) = ap (λ ns. e.name ∷ ns) (entry_names es)
 
 -- lines declare the names of their values
-line_names : (es : List Entry) → map (λ d. d.name) (map declaration es) ≡ value_names (map value es)
+line_names : (es : List NamedParts) → map (λ d. d.name) (map declaration es) ≡ value_names (map value es)
 line_names [] = refl
 line_names (e ∷ es) = ap (λ ns. e.name ∷ ns) (line_names es)
 

@@ -13,8 +13,8 @@ use Rattle.ring.specs.Lists.{In, AreApart, Each}
 use Rattle.css_out.specs.Piece.{Mark, Values, value_names}
 use Rattle.css_out.specs.PlatformValue.{css_values}
 use Rattle.css_out.specs.Reading.{Declared, Block, ended, head, foot}
-use Rattle.css_out.specs.Rounds.{Denotes}
-use Rattle.css_out.specs.Parts.{Part, plain, linked, Entry, declaration, value}
+use Rattle.css_out.specs.Rounds.{Denotes, most_links}
+use Rattle.css_out.specs.Parts.{Part, plain, linked, NamedParts, declaration, value}
 use Rattle.css_out.specs.Fragment.{css_name, spelled_links}
 use Rattle.css_out.specs.Sources.{TargetsAreNamed, IsFrom, ComesFrom}
 use Rattle.css_out.specs.Sheets.{Cell, cell_name, cell_entries, cell_text, cell_values, cell_names, sheet_bytes, sheet_values, LeadsTo, LinksLead, no_links, link_leads, IsSheet, Refers}
@@ -47,7 +47,7 @@ led (link_leads {k} {from} to there way behind more) link (inl same) =
 led (link_leads to there way behind more) link (inr i) = led more link i
 
 module _ (settings : Settings) (cells : List Cell) (sheet : IsSheet settings cells) where
-  abbrev all : List Entry
+  abbrev all : List NamedParts
   all = flat_map (cell_entries settings) cells
 
   abbrev spelled : Cell → List Link
@@ -86,7 +86,7 @@ module _ (settings : Settings) (cells : List Cell) (sheet : IsSheet settings cel
   part_nested k deep c lead (plain marks ∷ parts) from = itself (part_nested k deep c lead parts from.1)
   part_nested k deep c lead (linked name marks ∷ parts) from = from_link k deep c lead name marks parts from.0 (part_nested k deep c lead parts from.1)
 
-  abbrev AreFrom : Cell → Entry → Type 0
+  abbrev AreFrom : Cell → NamedParts → Type 0
   AreFrom c e = AllByRecursion (ComesFrom settings.prefix (spelled c) c.typed) e.parts
 
   entry_from : (c : Cell) → In c cells → Each (cell_entries settings c) (AreFrom c)
@@ -109,7 +109,7 @@ module _ (settings : Settings) (cells : List Cell) (sheet : IsSheet settings cel
 
   one_block : (c : Cell) → In c cells → Block (cell_text settings c) (map declaration (cell_entries settings c))
   one_block c i = body_read (cell_name settings c) (map declaration (cell_entries settings c)) (sheet.named c i)
-      (entries_sound settings.prefix (spelled c) (targets_named 256 c (sheet.links c i)) (cell_name settings c) c.typed (sheet.named c i) (sheet.typed c i))
+      (entries_sound settings.prefix (spelled c) (targets_named most_links c (sheet.links c i)) (cell_name settings c) c.typed (sheet.named c i) (sheet.typed c i))
 
   all_blocks : (cs : List Cell) → Each cs (λ c. In c cells) → Block (flat_map (cell_text settings) cs) (map declaration (flat_map (cell_entries settings) cs))
   all_blocks [] each = ended [] refl
@@ -130,7 +130,7 @@ module _ (settings : Settings) (cells : List Cell) (sheet : IsSheet settings cel
       let R : Values → Type 0 = λ vs. AreApart (value_names vs) in
       subst P (sym (framed head foot (cell_text settings) cells))
       (subst Q (all_values cells) (denotes all (subst R (sym (all_values cells)) all_apart)
-      (λ e i. let (c, j, k) = from_flat (cell_entries settings) e cells i in nested 256 c j (sheet.links c j) e k)
+      (λ e i. let (c, j, k) = from_flat (cell_entries settings) e cells i in nested most_links c j (sheet.links c j) e k)
       (flat_map (cell_text settings) cells) (all_blocks cells (λ c i. i))))
 
   -- each name in a line stands for its token's value
@@ -158,7 +158,7 @@ module _ (settings : Settings) (cells : List Cell) (sheet : IsSheet settings cel
   parts_refer c i [] from = tt
   parts_refer c i (p ∷ parts) from = (reference c i p from.0, parts_refer c i parts from.1)
 
-  lines_refer : (c : Cell) → In c cells → (es : List Entry) → AllByRecursion (AreFrom c) es → AllByRecursion (λ e. AllByRecursion (Refers settings cells c) e.parts) es
+  lines_refer : (c : Cell) → In c cells → (es : List NamedParts) → AllByRecursion (AreFrom c) es → AllByRecursion (λ e. AllByRecursion (Refers settings cells c) e.parts) es
   lines_refer c i [] from = tt
   lines_refer c i (e ∷ es) from = (parts_refer c i e.parts from.0, lines_refer c i es from.1)
 

@@ -10,10 +10,10 @@ use Rattle.dec_fix.specs.Writing.{spelling}
 use Rattle.dec_fix.proofs.Again.{both, number_again}
 use Rattle.transforms.specs.PlatformName.{is_kept, is_property}
 use Rattle.transforms.specs.declared.platform.Platform.TheVariants.{Css}
-use Rattle.transforms.specs.Quoted.{escape}
-use Rattle.transforms.specs.Runs.{front, rest, ends_run, starts_digit, starts_number}
+use Rattle.transforms.specs.Quoted.{escaped_character}
+use Rattle.transforms.specs.Runs.{first_run, behind_run, ends_run, starts_digit, starts_number}
 use Rattle.transforms.proofs.QuotedReadsBack.{string_again}
-use Rattle.transforms.proofs.RunsAreFronts.{front-append, rest-append, numbers_start}
+use Rattle.transforms.proofs.RunsAreFirst.{first_run-append, behind_run-append, numbers_start}
 use Rattle.css_out.specs.Piece.{Piece, mark, var, number, percent, unit, string, word, opens, closes, comma, slash, is_opening}
 use Rattle.css_out.specs.Reading.{in_word, in_name, is_some, is_var, worded, string_piece, measured, numbered, is_blank, after_comment, take, taken, step, Pieces, stops, skips, takes, are_closed, meets, Declared, names, passed, turn, Block, ended, passes, declared}
 use Rattle.css_out.specs.Spelling.{piece_text, is_tight, pieces_from, pieces_text, line_text, omitted_text, body_text}
@@ -82,7 +82,7 @@ measured_unit : (d : Decimal) (w t : List ℕ) → is_unit w ≡ true → ends_r
 measured_unit d [] t h e = cc
 measured_unit d (c ∷ w) t h e = let l = both (is_ascii_alphabetic c) (list_all is_ascii_alphabetic w) h in
     let a : (c == 37) ≡ false = grind (arith, l.0) in
-    rw (a, l.0, front-append is_ascii_alphabetic w t l.1 e, rest-append is_ascii_alphabetic w t l.1 e) refl
+    rw (a, l.0, first_run-append is_ascii_alphabetic w t l.1 e, behind_run-append is_ascii_alphabetic w t l.1 e) refl
 
 unit_step : (d : Decimal) (w t : List ℕ) → IsDec d → is_unit w ≡ true → ends t ≡ true → step ((spelling d ++ w) ++ t) ≡ take (mark (unit d w)) t
 unit_step d w t h l e = rw (append_assoc (spelling d) w t)
@@ -95,7 +95,7 @@ letter_step c w t h l e =
     let d : (c == 47) ≡ false = grind arith in let f : (c == 44) ≡ false = grind arith in
     let g : (c == 41) ≡ false = grind arith in let i : (c == 34) ≡ false = grind arith in
     let j : is_ascii_digit c ≡ false = grind arith in let k : (c == 45) ≡ false = grind arith in
-    rw (a, b, d, f, g, i, j, k, h, front-append in_word w t l e, rest-append in_word w t l e) refl
+    rw (a, b, d, f, g, i, j, k, h, first_run-append in_word w t l e, behind_run-append in_word w t l e) refl
 
 worded_step : (w t : List ℕ) → is_word w ≡ true → ends_run in_word t ≡ true → step (w ++ t) ≡ taken (worded w t)
 worded_step [] t h e = cc
@@ -112,8 +112,8 @@ opens_step : (w t : List ℕ) → is_word w ≡ true → is_var w ≡ false → 
 opens_step w t h v = rw (append_assoc w (40 ∷ []) t) (worded_step w (40 ∷ t) h refl ∙ rw v refl)
 
 -- strings
-string_step : (x t : List ℕ) → step ((34 ∷ (flat_map escape x ++ (34 ∷ []))) ++ t) ≡ take (mark (string x)) t
-string_step x t = rw (append_assoc (flat_map escape x) (34 ∷ []) t) (ap (λ r. taken (string_piece r)) (string_again x t))
+string_step : (x t : List ℕ) → step ((34 ∷ (flat_map escaped_character x ++ (34 ∷ []))) ++ t) ≡ take (mark (string x)) t
+string_step x t = rw (append_assoc (flat_map escaped_character x) (34 ∷ []) t) (ap (λ r. taken (string_piece r)) (string_again x t))
 
 slash_step : (t : List ℕ) → ends t ≡ true → step (47 ∷ t) ≡ take (mark slash) t
 slash_step [] e = cc
@@ -149,7 +149,7 @@ behind_dashes (a ∷ b ∷ m) h =
 
 var_inside : (n t : List ℕ) → is_some n ≡ true → list_all in_name n ≡ true
     → step ((118 ∷ 97 ∷ 114 ∷ 40 ∷ ((45 ∷ 45 ∷ n) ++ (41 ∷ []))) ++ t) ≡ take (var (45 ∷ 45 ∷ n)) t
-var_inside n t some h = rw (append_assoc n (41 ∷ []) t, front-append in_name n (41 ∷ t) h refl, rest-append in_name n (41 ∷ t) h refl, some) refl
+var_inside n t some h = rw (append_assoc n (41 ∷ []) t, first_run-append in_name n (41 ∷ t) h refl, behind_run-append in_name n (41 ∷ t) h refl, some) refl
 
 var_step : (n t : List ℕ) → is_property n ≡ true → step ((118 ∷ 97 ∷ 114 ∷ 40 ∷ (n ++ (41 ∷ []))) ++ t) ≡ take (var n) t
 var_step n t h = let b = behind_dashes n h in rw (b.whole) (var_inside b.inside t b.some b.kept)
@@ -202,7 +202,7 @@ name_read : (v : List ℕ) (ps : List Piece) (ds : List Declared) (t : List ℕ)
 name_read v ps ds t m some h x c b =
     let value = 32 ∷ (v ++ (59 ∷ 10 ∷ t)) in
     let turns : turn (45 ∷ 45 ∷ (m ++ (58 ∷ value))) ≡ names (45 ∷ 45 ∷ m) (58 ∷ value) =
-    rw (front-append in_name m (58 ∷ value) h refl, rest-append in_name m (58 ∷ value) h refl, some) refl in
+    rw (first_run-append in_name m (58 ∷ value) h refl, behind_run-append in_name m (58 ∷ value) h refl, some) refl in
     let read : Pieces value ps (59 ∷ 10 ∷ t) = skips value (v ++ (59 ∷ 10 ∷ t)) ps (59 ∷ 10 ∷ t) refl x in
     passes _ (32 ∷ 45 ∷ 45 ∷ (m ++ (58 ∷ value))) _ refl (passes _ (45 ∷ 45 ∷ (m ++ (58 ∷ value))) _ refl
     (declared _ (45 ∷ 45 ∷ m) (58 ∷ value) value (59 ∷ 10 ∷ t) ps ds turns (meets (58 ∷ value) refl) read c (passes (10 ∷ t) t ds refl b)))

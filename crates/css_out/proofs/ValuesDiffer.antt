@@ -10,7 +10,7 @@ use Rattle.std.specs.declared.cmp.Ordering.TheVariants.{Less, Equal, Greater}
 use Rattle.std.proofs.lemmas.Int.{unsigned_abs-mul}
 use Rattle.std.proofs.lemmas.List.{append_cancel_left, map-id}
 use Rattle.std.proofs.Math.IntN.{pos-*ℤ-pos}
-use Rattle.dec_fix.specs.Arithmetic.{order_with, times, whole}
+use Rattle.dec_fix.specs.Arithmetic.{order_with, times, whole_decimal}
 use Rattle.dec_fix.specs.Decimal.{Decimal, IsExact, IsSameNumber, is_negative}
 use Rattle.dec_fix.proofs.SameNumber.{same_once, same_through, same_from, times-same}
 use Rattle.name_path.specs.Kinds.{is_simple_kind}
@@ -109,12 +109,12 @@ is_equal Equal h = refl
 is_equal Greater h = cc
 
 -- a number that is 1 is so in one way
-one_is : (d : Decimal) → IsExact d → is_eq (order_with d 1) ≡ true → d ≡ whole (pos 1)
+one_is : (d : Decimal) → IsExact d → is_eq (order_with d 1) ≡ true → d ≡ whole_decimal (pos 1)
 one_is d h e =
     let size : d.c ≡ pos (1 * 10 ^ d.s) = int_cmp-IsAntisymmetric d.c (pos (1 * 10 ^ d.s)) (is_equal (order_with d 1) e) in
     let places : 1 * 10 ^ d.s * 1 ≡ 1 * 10 ^ d.s = omega arith in
-    let same : IsSameNumber d (whole (pos 1)) = ap (λ c. c *ℤ pos 1) size ∙ pos-*ℤ-pos (1 * 10 ^ d.s) 1 ∙ ap pos places ∙ sym (pos-*ℤ-pos 1 (10 ^ d.s)) in
-    same_once d (whole (pos 1)) h.short (inl refl) same
+    let same : IsSameNumber d (whole_decimal (pos 1)) = ap (λ c. c *ℤ pos 1) size ∙ pos-*ℤ-pos (1 * 10 ^ d.s) 1 ∙ ap pos places ∙ sym (pos-*ℤ-pos 1 (10 ^ d.s)) in
+    same_once d (whole_decimal (pos 1)) h.short (inl refl) same
 
 ones_once : (d e : Decimal) → IsExact d → IsExact e → is_eq (order_with d 1) ≡ true → is_eq (order_with e 1) ≡ true → d ≡ e
 ones_once d e h i x y = one_is d h x ∙ sym (one_is e i y)

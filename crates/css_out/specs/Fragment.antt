@@ -17,7 +17,7 @@ use Rattle.composite_rules.specs.declared.typed.Typed.{Typed}
 use Rattle.composite_rules.specs.declared.typed.Typed.TheVariants as typed
 use Rattle.composite_rules.specs.declared.typography.Typography.{Typography}
 use Rattle.css_out.specs.Links.{link_for, item_link}
-use Rattle.css_out.specs.Parts.{Part, plain, linked, Entry}
+use Rattle.css_out.specs.Parts.{Part, plain, linked, NamedParts}
 use Rattle.css_out.specs.Piece.{Mark, comma}
 use Rattle.css_out.specs.PlatformValue.{size_marks, time_marks, number_marks, curve_marks, color_marks, families_marks, stroke_marks, simple_marks, inset_marks, position_mark, listed, border_marks, transition_marks, shadow_marks, stop_marks, can_spell}
 
@@ -52,7 +52,7 @@ abbrev pub is_only : {A : Type 0} → List A → Bool
 is_only xs = length xs == 1
 
 -- the name of one line and its parts
-abbrev pub line : List ℕ → List Part → Entry
+abbrev pub line : List ℕ → List Part → NamedParts
 line name parts = record { name = name; parts = parts }
 
 module _ (prefix : List ℕ) (links : List Link) where
@@ -93,8 +93,10 @@ module _ (prefix : List ℕ) (links : List Link) where
   value_parts whole (typed.StrokeStyle s) = part prefix whole (stroke_marks s) ∷ []
   value_parts whole (typed.Border b) = unless_linked prefix whole (border_marks b) (border_parts b)
   value_parts whole (typed.Transition t) = unless_linked prefix whole (transition_marks t) (transition_parts t)
-  value_parts whole (typed.Shadow items) = unless_linked prefix whole (listed shadow_marks items) (listed_parts (shadow_parts (is_only items)) items)
-  value_parts whole (typed.Gradient stops) = unless_linked prefix whole (listed stop_marks stops) (listed_parts (stop_parts (is_only stops)) stops)
+  value_parts whole (typed.Shadow items) =
+      unless_linked prefix whole (listed shadow_marks items) (listed_parts (shadow_parts (is_only items)) items)
+  value_parts whole (typed.Gradient stops) =
+      unless_linked prefix whole (listed stop_marks stops) (listed_parts (stop_parts (is_only stops)) stops)
   value_parts whole (typed.Typography t) = []
 
   -- the part of a typography's line, where a token of this name stands for the whole value and where none does
@@ -102,10 +104,11 @@ module _ (prefix : List ℕ) (links : List Link) where
   typography_part None name kind ending marks = member_part name kind marks
   typography_part (Some target) name kind ending marks = linked (target ++ ending) marks
 
-  abbrev pub typography_line : List ℕ → Option (List ℕ) → List ℕ → Kind → List ℕ → List Mark → Entry
-  typography_line name whole member kind ending marks = line (name ++ ending) (typography_part whole member kind ending marks ∷ [])
+  abbrev pub typography_line : List ℕ → Option (List ℕ) → List ℕ → Kind → List ℕ → List Mark → NamedParts
+  typography_line name whole member kind ending marks =
+      line (name ++ ending) (typography_part whole member kind ending marks ∷ [])
 
-  abbrev pub typography_lines : List ℕ → Option (List ℕ) → Typography → List Entry
+  abbrev pub typography_lines : List ℕ → Option (List ℕ) → Typography → List NamedParts
   typography_lines name whole t =
       typography_line name whole (codes "fontFamily") kind.FontFamily (family_end Css) (families_marks t.family)
       ∷ typography_line name whole (codes "fontSize") kind.Dimension (size_end Css) (size_marks t.size)
@@ -114,7 +117,7 @@ module _ (prefix : List ℕ) (links : List Link) where
       ∷ typography_line name whole (codes "lineHeight") kind.Number (height_end Css) (number_marks t.line_height) ∷ []
 
   -- the lines of a value under its name
-  abbrev pub lines_of : List ℕ → Option (List (List ℕ)) → Typed → List Entry
+  abbrev pub lines_of : List ℕ → Option (List (List ℕ)) → Typed → List NamedParts
   lines_of name whole (typed.Simple s) = line name (value_parts whole (typed.Simple s)) ∷ []
   lines_of name whole (typed.StrokeStyle s) = line name (value_parts whole (typed.StrokeStyle s)) ∷ []
   lines_of name whole (typed.Border b) = line name (value_parts whole (typed.Border b)) ∷ []
@@ -123,9 +126,10 @@ module _ (prefix : List ℕ) (links : List Link) where
   lines_of name whole (typed.Gradient stops) = line name (value_parts whole (typed.Gradient stops)) ∷ []
   lines_of name whole (typed.Typography t) = typography_lines name (option_map (css_name prefix) whole) t
 
-  abbrev pub entries : List ℕ → Typed → List Entry
+  abbrev pub entries : List ℕ → Typed → List NamedParts
   entries name v = if can_spell v then lines_of name (link_for links [] (kind_of v)) v else []
 
 -- the lines of the token at the path
-abbrev pub fragment_entries : Settings → List (List ℕ) → List Link → Typed → List Entry
-fragment_entries settings path links v = entries settings.prefix (spelled_links settings links) (css_name settings.prefix path) v
+abbrev pub fragment_entries : Settings → List (List ℕ) → List Link → Typed → List NamedParts
+fragment_entries settings path links v =
+    entries settings.prefix (spelled_links settings links) (css_name settings.prefix path) v

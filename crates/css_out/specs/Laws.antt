@@ -34,7 +34,8 @@ ReadOnce = (bytes : List ℕ) (ds es : List Declared) → Reads bytes ds → Rea
 
 -- without references the lines of a token have its values
 abbrev pub OwnValues : Type 0
-OwnValues = (prefix name : List ℕ) (links : List Link) (v : Typed) → map value (entries prefix links name v) ≡ css_values name v
+OwnValues = (prefix name : List ℕ) (links : List Link) (v : Typed)
+    → map value (entries prefix links name v) ≡ css_values name v
 
 -- the lines of a token declare its names, and nothing else
 abbrev pub LinesAreNamed : Type 0
@@ -47,7 +48,8 @@ OwnNamesApart = (name : List ℕ) (v : Typed) → AreApart (value_names (css_val
 
 -- a token's text, read alone, declares its lines
 abbrev pub FragmentsRead : Type 0
-FragmentsRead = (prefix name : List ℕ) (links : List Link) (v : Typed) → IsTyped v → is_property name ≡ true → TargetsAreNamed prefix links
+FragmentsRead = (prefix name : List ℕ) (links : List Link) (v : Typed) → IsTyped v → is_property name ≡ true
+    → TargetsAreNamed prefix links
     → Block (body_text name (map declaration (entries prefix links name v))) (map declaration (entries prefix links name v))
 
 -- each part that is spelled by a name comes from a link
@@ -57,7 +59,8 @@ NamesComeFromLinks = (prefix name : List ℕ) (links : List Link) (v : Typed) �
 
 -- where references are not spelled as such, the lines of a token are its values, and no `var()` stands in them
 abbrev pub NoReferences : Type 0
-NoReferences = (settings : Settings) (path : List (List ℕ)) (links : List Link) (v : Typed) → settings.references ≡ false
+NoReferences = (settings : Settings) (path : List (List ℕ)) (links : List Link) (v : Typed)
+    → settings.references ≡ false
     → fragment_lines settings path links v ≡ map as_declared (css_values (css_name settings.prefix path) v)
 
 -- what CSS is to have of a value gives the value back under its kind, but for `hex`
@@ -67,7 +70,8 @@ ValuesDiffer = (name : List ℕ) (v w : Typed) → IsTyped v → IsTyped w → k
 
 -- a sheet's bytes denote the values of its tokens
 abbrev pub SheetsDenote : Type 0
-SheetsDenote = (settings : Settings) (cells : List Cell) → IsSheet settings cells → Denotes (sheet_bytes settings cells) (sheet_values settings cells)
+SheetsDenote = (settings : Settings) (cells : List Cell) → IsSheet settings cells
+    → Denotes (sheet_bytes settings cells) (sheet_values settings cells)
 
 -- and each name that stands in it for a part is that of a token which has this part as its value
 abbrev pub ReferencesDenote : Type 0

@@ -1,5 +1,3 @@
-pub mod Lists
-pub mod Characters
 pub mod Piece
 pub mod PlatformValue
 pub mod Reading

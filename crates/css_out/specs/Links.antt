@@ -20,7 +20,8 @@ is_kind (Some k) kind = bytes_eq (kind_name k) (kind_name kind)
 -- the token to which a link of the kind at the trail leads
 abbrev pub link_for : List Link → List (List ℕ) → Kind → Option (List (List ℕ))
 link_for [] trail kind = None
-link_for (l ∷ ls) trail kind = if is_kind l.kind kind && same_trail l.trail trail then Some l.target else link_for ls trail kind
+link_for (l ∷ ls) trail kind =
+    if is_kind l.kind kind && same_trail l.trail trail then Some l.target else link_for ls trail kind
 
 -- The same at a member of the item of the index. The only item of a shadow may be written without a list.
 abbrev pub item_link : List Link → Bool → List ℕ → List ℕ → Kind → Option (List (List ℕ))

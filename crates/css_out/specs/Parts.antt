@@ -25,14 +25,14 @@ abbrev pub own : List Part → List Mark
 own parts = flat_map own_part parts
 
 -- a name and the parts of its value
-pub record Entry : Type 0 where
+pub record NamedParts : Type 0 where
   pub name : List ℕ
   pub parts : List Part
 
-abbrev pub declaration : Entry → Declared
+abbrev pub declaration : NamedParts → Declared
 declaration e = record { name = e.name; pieces = shown e.parts }
 
-abbrev pub value : Entry → List ℕ × List Mark
+abbrev pub value : NamedParts → List ℕ × List Mark
 value e = (e.name, own e.parts)
 
 -- a name and its value as a declaration without `var()`

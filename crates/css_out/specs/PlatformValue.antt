@@ -1,4 +1,5 @@
--- What CSS is to receive of a typed value, without references and without bytes (CSS Color 4, CSS Easing 1 and the shorthands of borders, transitions, shadows and gradients).
+-- What CSS is to receive of a typed value, without references and without bytes (CSS Color 4, CSS Easing 1 and the shorthands of
+-- borders, transitions, shadows and gradients).
 use Rattle.std.specs.Prelude.{ℕ, ◌&&◌, Bool, true, false, List, [], ◌∷◌, ◌++◌, codes, Option, Some, None, if◌then◌else◌, flat_map}
 use Rattle.std.specs.List.{list_all, list_any}
 use Rattle.std.specs.Ordering.{is_eq}
@@ -105,7 +106,8 @@ listed f (x ∷ xs) = f x ++ flat_map (λ y. comma ∷ f y) xs
 
 -- the families that CSS has words for
 abbrev pub generic_families : List (List ℕ)
-generic_families = codes "serif" ∷ codes "sans-serif" ∷ codes "monospace" ∷ codes "cursive" ∷ codes "fantasy" ∷ codes "system-ui" ∷ []
+generic_families =
+    codes "serif" ∷ codes "sans-serif" ∷ codes "monospace" ∷ codes "cursive" ∷ codes "fantasy" ∷ codes "system-ui" ∷ []
 
 abbrev pub is_generic : List ℕ → Bool
 is_generic family = list_any (λ generic. bytes_eq family generic) generic_families

@@ -5,9 +5,9 @@ use Rattle.std.specs.Char.{is_ascii_alphabetic, is_ascii_alphanumeric, is_ascii_
 use Rattle.std.specs.Str.{bytes_eq}
 use Rattle.dec_fix.specs.Decimal.{Decimal}
 use Rattle.dec_fix.specs.Following.{unsigned_at}
-use Rattle.transforms.specs.Quoted.{quote, string_from}
-use Rattle.transforms.specs.Runs.{front, rest, starts_digit}
-use Rattle.css_out.specs.Characters.{newline, blank, percent_sign, left_bracket, right_bracket, asterisk, comma_sign, hyphen, solidus, colon_sign, semicolon, low_line}
+use Rattle.transforms.specs.Quoted.{string_from}
+use Rattle.transforms.specs.Runs.{first_run, behind_run, starts_digit}
+use Rattle.tk_io.specs.Characters.{quote, newline, blank, percent_sign, left_bracket, right_bracket, asterisk, comma_sign, hyphen, solidus, colon_sign, semicolon, low_line}
 use Rattle.css_out.specs.Piece.{Piece, mark, var, number, percent, unit, string, word, opens, closes, comma, slash, is_opening, is_closing}
 
 -- a byte of a word: an ASCII letter, a digit or `-`
@@ -30,7 +30,8 @@ closed_name n (c ∷ t) = if (c == right_bracket) && is_some n then Some (var (c
 abbrev pub var_at : List ℕ → Option (Piece × List ℕ)
 var_at [] = None
 var_at (c ∷ []) = None
-var_at (c ∷ d ∷ t) = if (c == hyphen) && (d == hyphen) then closed_name (front in_name t) (rest in_name t) else None
+var_at (c ∷ d ∷ t) =
+    if (c == hyphen) && (d == hyphen) then closed_name (first_run in_name t) (behind_run in_name t) else None
 
 abbrev pub is_var : List ℕ → Bool
 is_var w = bytes_eq w (codes "var")
@@ -38,7 +39,9 @@ is_var w = bytes_eq w (codes "var")
 -- a word, or a function where a `(` stands directly behind it
 abbrev pub worded : List ℕ → List ℕ → Option (Piece × List ℕ)
 worded w [] = Some (mark (word w), [])
-worded w (c ∷ t) = if c == left_bracket then (if is_var w then var_at t else Some (mark (opens w), t)) else Some (mark (word w), c ∷ t)
+worded w (c ∷ t) =
+    if c == left_bracket then (if is_var w then var_at t else Some (mark (opens w), t))
+    else Some (mark (word w), c ∷ t)
 
 abbrev pub string_piece : Option (List ℕ × List ℕ) → Option (Piece × List ℕ)
 string_piece None = None
@@ -48,7 +51,8 @@ string_piece (Some r) = Some (mark (string r.0), r.1)
 abbrev pub measured : Decimal → List ℕ → Option (Piece × List ℕ)
 measured d [] = Some (mark (number d), [])
 measured d (c ∷ t) = if c == percent_sign then Some (mark (percent d), t)
-    else (if is_ascii_alphabetic c then Some (mark (unit d (front is_ascii_alphabetic (c ∷ t))), rest is_ascii_alphabetic (c ∷ t))
+    else (if is_ascii_alphabetic c
+    then Some (mark (unit d (first_run is_ascii_alphabetic (c ∷ t))), behind_run is_ascii_alphabetic (c ∷ t))
     else Some (mark (number d), c ∷ t))
 
 -- a number of any length: digits, and optionally a point and digits
@@ -65,7 +69,7 @@ piece_at (c ∷ t) =
     else (if c == quote then string_piece (string_from false t)
     else (if is_ascii_digit c then numbered (unsigned_at false (c ∷ t))
     else (if (c == hyphen) && starts_digit t then numbered (unsigned_at true t)
-    else (if is_ascii_alphabetic c then worded (front in_word (c ∷ t)) (rest in_word (c ∷ t)) else None))))))
+    else (if is_ascii_alphabetic c then worded (first_run in_word (c ∷ t)) (behind_run in_word (c ∷ t)) else None))))))
 
 abbrev pub is_blank : ℕ → Bool
 is_blank c = (c == blank) || (c == newline)
@@ -86,21 +90,21 @@ starts_star [] = false
 starts_star (c ∷ t) = c == asterisk
 
 -- what stands at the front of a value: its end, something that gives nothing, a piece, or none of these
-pub data Step : Type 0 where
-  stop : Step
-  skip : List ℕ → Step
-  take : Piece → List ℕ → Step
-  wrong : Step
+pub data ValueStep : Type 0 where
+  stop : ValueStep
+  skip : List ℕ → ValueStep
+  take : Piece → List ℕ → ValueStep
+  wrong : ValueStep
 
-abbrev pub skipped : Option (List ℕ) → Step
+abbrev pub skipped : Option (List ℕ) → ValueStep
 skipped None = wrong
 skipped (Some t) = skip t
 
-abbrev pub taken : Option (Piece × List ℕ) → Step
+abbrev pub taken : Option (Piece × List ℕ) → ValueStep
 taken None = wrong
 taken (Some r) = take r.0 r.1
 
-abbrev pub step : List ℕ → Step
+abbrev pub step : List ℕ → ValueStep
 step [] = wrong
 step (c ∷ t) =
     if c == semicolon then stop
@@ -112,7 +116,8 @@ step (c ∷ t) =
 pub data Pieces : List ℕ → List Piece → List ℕ → Type 0 where
   stops : (t : List ℕ) → step t ≡ stop → Pieces t [] t
   skips : (t s : List ℕ) (ps : List Piece) (u : List ℕ) → step t ≡ skip s → Pieces s ps u → Pieces t ps u
-  takes : (t s : List ℕ) (p : Piece) (ps : List Piece) (u : List ℕ) → step t ≡ take p s → Pieces s ps u → Pieces t (p ∷ ps) u
+  takes : (t s : List ℕ) (p : Piece) (ps : List Piece) (u : List ℕ) → step t ≡ take p s → Pieces s ps u
+      → Pieces t (p ∷ ps) u
 
 -- each function is closed, and k more that are open before the pieces
 abbrev pub is_zero : ℕ → Bool
@@ -131,7 +136,7 @@ are_closed k (p ∷ ps) =
     else are_closed k ps)
 
 -- what stands between a name and its value: the `:`, something that gives nothing before it, or neither
-abbrev pub colon : List ℕ → Step
+abbrev pub colon : List ℕ → ValueStep
 colon [] = wrong
 colon (c ∷ t) =
     if c == colon_sign then stop
@@ -170,7 +175,7 @@ named n (c ∷ t) = if is_some n then names (codes "--" ++ n) (c ∷ t) else oth
 
 abbrev pub dashed : List ℕ → Turn
 dashed [] = other
-dashed (c ∷ t) = if c == hyphen then named (front in_name t) (rest in_name t) else other
+dashed (c ∷ t) = if c == hyphen then named (first_run in_name t) (behind_run in_name t) else other
 
 abbrev pub turn : List ℕ → Turn
 turn [] = over
@@ -183,7 +188,8 @@ turn (c ∷ t) =
 pub data Block : List ℕ → List Declared → Type 0 where
   ended : (t : List ℕ) → turn t ≡ over → Block t []
   passes : (t s : List ℕ) (ds : List Declared) → turn t ≡ pass s → Block s ds → Block t ds
-  declared : (t n s u v : List ℕ) (ps : List Piece) (ds : List Declared) → turn t ≡ names n s → Colon s u → Pieces u ps v
+  declared : (t n s u v : List ℕ) (ps : List Piece) (ds : List Declared) → turn t ≡ names n s → Colon s u
+      → Pieces u ps v
       → are_closed 0 ps ≡ true → Block (tail v) ds → Block t (record { name = n; pieces = ps } ∷ ds)
 
 abbrev pub head : List ℕ

@@ -23,11 +23,15 @@ abbrev pub rounds : ℕ → (List ℕ → Option (List Piece)) → List Piece �
 rounds zero env ps = ps
 rounds (suc k) env ps = rounds k env (flat_map (put env) ps)
 
--- in these declarations the name has this value: what stands after 256 rounds, where no `var` is left
+-- how many links stand one behind the other at most, and so in how many rounds each `var()` is put in place
+abbrev pub most_links : ℕ
+most_links = 256
+
+-- in these declarations the name has this value: what stands after these rounds, where no `var` is left
 pub record IsValue (ds : List Declared) (name : List ℕ) (value : List Mark) : Type 0 where
   pub start : List Piece
   pub found : declared_for ds name ≡ Some start
-  pub after : rounds 256 (declared_for ds) start ≡ map mark value
+  pub after : rounds most_links (declared_for ds) start ≡ map mark value
 
 -- the bytes are a sheet in which the name has this value
 pub record HasValue (bytes name : List ℕ) (value : List Mark) : Type 0 where

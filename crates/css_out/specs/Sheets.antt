@@ -1,7 +1,7 @@
 -- Whole sheets: the texts of tokens, one after another in the frame.
 use Rattle.std.specs.Prelude.{◌≡◌, true, ℕ, suc, List, [], ◌∷◌, map, flat_map, Some, AllPairs, ⊤}
 use Rattle.name_path.specs.declared.link.Link.{Link}
-use Rattle.transforms.specs.Clash.{Named, ShareNoName}
+use Rattle.transforms.specs.Clash.{NamedToken, ShareNoName}
 use Rattle.transforms.specs.Config.{Settings}
 use Rattle.transforms.specs.PlatformName.{is_property}
 use Rattle.transforms.specs.Sheet.{FrameData, plain_frame, sheet_text}
@@ -12,8 +12,8 @@ use Rattle.ring.specs.Lists.{In, Each}
 use Rattle.css_out.specs.Piece.{Mark, Values}
 use Rattle.css_out.specs.PlatformValue.{css_values}
 use Rattle.css_out.specs.Reading.{head, foot}
-use Rattle.css_out.specs.Rounds.{HasValue}
-use Rattle.css_out.specs.Parts.{Part, plain, linked, Entry}
+use Rattle.css_out.specs.Rounds.{HasValue, most_links}
+use Rattle.css_out.specs.Parts.{Part, plain, linked, NamedParts}
 use Rattle.css_out.specs.Fragment.{css_name, fragment_entries}
 use Rattle.css_out.specs.Spelling.{fragment_names, fragment_text}
 use Rattle.css_out.specs.Sources.{HasRoom}
@@ -33,7 +33,7 @@ module _ (settings : Settings) where
   cell_name c = css_name settings.prefix c.path
 
   -- its lines, and their text
-  abbrev pub cell_entries : Cell → List Entry
+  abbrev pub cell_entries : Cell → List NamedParts
   cell_entries c = fragment_entries settings c.path c.links c.typed
 
   abbrev pub cell_text : Cell → List ℕ
@@ -43,7 +43,7 @@ module _ (settings : Settings) where
   abbrev pub cell_values : Cell → Values
   cell_values c = css_values (cell_name c) c.typed
 
-  abbrev pub cell_names : Cell → Named
+  abbrev pub cell_names : Cell → NamedToken
   cell_names c = record { path = c.path; names = fragment_names settings c.path c.typed }
 
   -- the bytes of the sheet, and what its names are to have
@@ -57,22 +57,24 @@ module _ (settings : Settings) where
 -- the kind of the token.
 pub record LeadsTo (from : Cell) (link : Link) (to : Cell) : Type 0 where
   pub target : to.path ≡ link.target
-  pub same : (part : Typed) → part_at from.typed link.trail ≡ Some part → link.kind ≡ Some (kind_of part) → to.typed ≡ part
+  pub same : (part : Typed) → part_at from.typed link.trail ≡ Some part → link.kind ≡ Some (kind_of part)
+      → to.typed ≡ part
 
 -- Each of these links of a cell leads to a cell of the sheet, and at most k links stand one behind the other.
 pub data LinksLead (cells : List Cell) : ℕ → Cell → List Link → Type 0 where
   no_links : {k : ℕ} {from : Cell} → LinksLead cells k from []
-  link_leads : {k : ℕ} {from : Cell} {link : Link} {links : List Link} (to : Cell) → In to cells → LeadsTo from link to → LinksLead cells k to to.links
+  link_leads : {k : ℕ} {from : Cell} {link : Link} {links : List Link} (to : Cell) → In to cells
+      → LeadsTo from link to → LinksLead cells k to to.links
       → LinksLead cells (suc k) from links → LinksLead cells (suc k) from (link ∷ links)
 
 -- Tokens that make a sheet: their values can be had and their names are names of CSS, no two of them have a name in common, and
--- at most 256 links stand one behind the other.
+-- at most `most_links` links stand one behind the other.
 pub record IsSheet (settings : Settings) (cells : List Cell) : Type 0 where
   pub typed : Each cells (λ c. IsTyped c.typed)
   pub room : Each cells (λ c. HasRoom c.typed)
   pub named : Each cells (λ c. is_property (cell_name settings c) ≡ true)
   pub apart : AllPairs ShareNoName (map (cell_names settings) cells)
-  pub links : Each cells (λ c. LinksLead cells 256 c c.links)
+  pub links : Each cells (λ c. LinksLead cells most_links c c.links)
 
 -- The name is one of the token to which a link of the cell leads, which is what stands at the link's trail. It has the marks as
 -- its value, by what the token is to have and in the sheet.

@@ -3,7 +3,7 @@ use Rattle.std.specs.Prelude.{ℕ, ◌||◌, Bool, true, false, List, [], ◌∷
 use Rattle.dec_fix.specs.Writing.{spelling}
 use Rattle.name_path.specs.declared.link.Link.{Link}
 use Rattle.transforms.specs.Config.{Settings}
-use Rattle.transforms.specs.Quoted.{escape}
+use Rattle.transforms.specs.Quoted.{escaped_character}
 use Rattle.composite_rules.specs.declared.typed.Typed.{Typed}
 use Rattle.css_out.specs.Piece.{Mark, Piece, mark, var, number, percent, unit, string, word, opens, closes, comma, slash, is_comma, is_opening, is_closing, value_names}
 use Rattle.css_out.specs.PlatformValue.{css_values}
@@ -15,7 +15,7 @@ abbrev pub mark_text : Mark → List ℕ
 mark_text (number d) = spelling d
 mark_text (percent d) = spelling d ++ codes "%"
 mark_text (unit d w) = spelling d ++ w
-mark_text (string x) = codes "\"" ++ (flat_map escape x ++ codes "\"")
+mark_text (string x) = codes "\"" ++ (flat_map escaped_character x ++ codes "\"")
 mark_text (word w) = w
 mark_text (opens w) = w ++ codes "("
 mark_text closes = codes ")"
@@ -38,7 +38,8 @@ is_tight p = is_comma_piece p || is_closing p
 -- before a function's end.
 abbrev pub pieces_from : Bool → List Piece → List ℕ
 pieces_from tight [] = []
-pieces_from tight (p ∷ ps) = (if is_tight p || tight then [] else codes " ") ++ (piece_text p ++ pieces_from (is_opening p) ps)
+pieces_from tight (p ∷ ps) =
+    (if is_tight p || tight then [] else codes " ") ++ (piece_text p ++ pieces_from (is_opening p) ps)
 
 abbrev pub pieces_text : List Piece → List ℕ
 pieces_text ps = pieces_from true ps

@@ -10,7 +10,8 @@ use Rattle.composite_rules.specs.declared.typed.Typed.{Typed}
 use Rattle.composite_rules.specs.declared.typed.Typed.TheVariants as typed
 
 abbrev pub color_without_hex : Color → Color
-color_without_hex c = record { space = c.space; first = c.first; second = c.second; third = c.third; alpha = c.alpha; hex = None }
+color_without_hex c =
+    record { space = c.space; first = c.first; second = c.second; third = c.third; alpha = c.alpha; hex = None }
 
 abbrev pub simple_without_hex : Simple → Simple
 simple_without_hex (simple.Color c) = simple.Color (color_without_hex c)

@@ -1,6 +1,8 @@
 //! Laws of the definitions alone, for the layers above.
 
-ghost use Rattle.css_out.specs.Laws.{BlocksJoin, TextsRead, ReadOnce, OwnValues, LinesAreNamed, OwnNamesApart, FragmentsRead, NamesComeFromLinks, NoReferences, ValuesDiffer, SheetsDenote, ReferencesDenote};
+ghost use Rattle.css_out.specs.Laws.{BlocksJoin, TextsRead, ReadOnce, OwnValues, LinesAreNamed};
+ghost use Rattle.css_out.specs.Laws.{OwnNamesApart, FragmentsRead, NamesComeFromLinks};
+ghost use Rattle.css_out.specs.Laws.{NoReferences, ValuesDiffer, SheetsDenote, ReferencesDenote};
 
 /// What a text declares, read alone, it declares before any other text too, so that between its frame a sheet declares what
 /// its fragments declare, one after another. Bytes are one sheet at most.

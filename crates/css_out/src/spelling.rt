@@ -3,7 +3,12 @@
 ghost use Rattle.std.specs.Prelude.{◌≡◌, List, ℕ, [], ◌∷◌, OnOk};
 ghost use Rattle.std.specs.List.{flat_map};
 ghost use Rattle.css_out.specs.Piece.{Mark, mark, comma};
-ghost use Rattle.css_out.specs.PlatformValue.{size_marks, time_marks, number_marks, curve_marks, has_function, function_name, space_marks, has_percents, component_mark, component_marks, alpha_marks, color_marks, is_generic, family_marks, families_marks, simple_marks, stroke_marks, inset_marks};
+ghost use Rattle.css_out.specs.PlatformValue.{size_marks, time_marks, number_marks, curve_marks};
+ghost use Rattle.css_out.specs.PlatformValue.{has_function, function_name, space_marks};
+ghost use Rattle.css_out.specs.PlatformValue.{has_percents, component_mark, component_marks};
+ghost use Rattle.css_out.specs.PlatformValue.{alpha_marks, color_marks, is_generic, family_marks};
+ghost use Rattle.css_out.specs.PlatformValue.{families_marks, simple_marks, stroke_marks};
+ghost use Rattle.css_out.specs.PlatformValue.{inset_marks};
 ghost use Rattle.css_out.specs.inner.Added.{with_piece, marked};
 
 use crate::line::Line;

@@ -63,7 +63,7 @@ fn links<'s>(alloc: Global, text: &'s str) -> Result<Links<'s>, NoMemory> {
 }
 
 fn config(alloc: Global, prefix: &str, references: bool) -> Result<Config, Fail> {
-    let text = format!(in alloc; "prefix = \"{prefix}\"\nreferences = {references}\n")?;
+    let text = format!(in alloc; "prefix = '{prefix}'\nreferences = {references}\n")?;
     match read_config(alloc, text.as_str()) {
         Ok(config) => Ok(config),
         Err(_) => Err(Fail::from(NoMemory)),

@@ -7,7 +7,9 @@ ghost use Rattle.composite_rules.specs.Sound.{IsTyped, IsShadowItem, IsColorStop
 ghost use Rattle.css_out.specs.Piece.{var};
 ghost use Rattle.css_out.specs.Links.{item_link};
 ghost use Rattle.css_out.specs.Parts.{Part, shown_part, shown};
-ghost use Rattle.css_out.specs.Fragment.{css_name, part, behind_commas, listed_parts, member_part, border_parts, transition_parts, shadow_parts, stop_parts, is_only, value_parts};
+ghost use Rattle.css_out.specs.Fragment.{css_name, part, behind_commas, listed_parts, member_part};
+ghost use Rattle.css_out.specs.Fragment.{border_parts, transition_parts, shadow_parts, stop_parts};
+ghost use Rattle.css_out.specs.Fragment.{is_only, value_parts};
 ghost use Rattle.css_out.specs.inner.Added.{with_piece, added};
 
 use crate::line::Line;
@@ -108,7 +110,8 @@ impl<'a, 's> Token<'a, 's> {
         value: &T,
     ) -> Result<(), NoMemory>
         ensures { OnOk result (line.new ≡ added line.old (shown_part (part self.now.cfg.now.prefix
-            (item_link self.now.links.now place.now.is_only place.now.index.now name.now kind) (T.marks value.now)))) }
+            (item_link self.now.links.now place.now.is_only place.now.index.now name.now kind)
+            (T.marks value.now)))) }
     {
         let target = item_link(self.links, place.is_only, place.index, name, kind);
         self.part(line, target, value)
@@ -118,7 +121,8 @@ impl<'a, 's> Token<'a, 's> {
     pub(crate) fn listed<T: Item>(&self, line: &mut Line, items: &[T]) -> Result<(), NoMemory>
         requires { AllByRecursion T.is_item items.now }
         ensures { OnOk result (line.new ≡ added line.old (shown (listed_parts
-            (T.item_parts self.now.cfg.now.prefix self.now.links.now (is_only items.now)) items.now))) }
+            (T.item_parts self.now.cfg.now.prefix self.now.links.now (is_only items.now))
+            items.now))) }
     {
         let Some(first) = items.first() else {
             return Ok(());
@@ -138,7 +142,8 @@ impl<'a, 's> Token<'a, 's> {
     ) -> Result<(), NoMemory>
         requires { AllByRecursion T.is_item items.now }
         ensures { OnOk result (line.new ≡ added line.old (shown (behind_commas
-            (T.item_parts self.now.cfg.now.prefix self.now.links.now is_only) 1 (drop 1 items.now)))) }
+            (T.item_parts self.now.cfg.now.prefix self.now.links.now is_only)
+            1 (drop 1 items.now)))) }
     {
         for i in 1..items.len() {
             line.comma()?;

@@ -2,7 +2,8 @@
 
 ghost use Rattle.std.specs.Prelude.{◌≡◌, [], ◌∷◌, ◌++◌, option_map, OnOk, IfOk};
 ghost use Rattle.css_out.specs.Parts.{shown_part, declaration};
-ghost use Rattle.css_out.specs.Fragment.{css_name, typography_part, typography_line, typography_lines};
+ghost use Rattle.css_out.specs.Fragment.{css_name, typography_part, typography_line};
+ghost use Rattle.css_out.specs.Fragment.{typography_lines};
 ghost use Rattle.css_out.specs.Spelling.{line_text};
 ghost use Rattle.css_out.specs.inner.Added.{added};
 ghost use Rattle.css_out.specs.inner.Written.{IsFragment};

@@ -5,7 +5,7 @@ use Rattle.std.specs.List.{list_all, AllByRecursion}
 use Rattle.std.proofs.lemmas.Bool.Decides.{nat_tests}
 use Rattle.dec_fix.proofs.Again.{both}
 use Rattle.transforms.specs.Runs.{PassesNumbers}
-use Rattle.transforms.proofs.RunsAreFronts.{all-append}
+use Rattle.transforms.proofs.RunsAreFirst.{all-append}
 use Rattle.transforms.proofs.Spelled.{both as together}
 use Rattle.ios_out.specs.Constant.{Argument, labelled, bare}
 use Rattle.ios_out.specs.Reading.{is_word, no_comma, no_bracket, IsArgument, with_label, without, AreArguments, last, more}

@@ -3,10 +3,10 @@ use Rattle.std.proofs.Common.{◌≡◌, ℕ, ◌==◌, Bool, true, false, List,
 use Rattle.std.specs.Prelude.{if◌then◌else◌}
 use Rattle.transforms.proofs.QuotedReadsBack.{reads_on}
 use Rattle.ios_out.specs.Constant.{Content, Values}
-use Rattle.ios_out.specs.Reading.{Says, of_number, of_string, of_arguments, Block, ended, blank, comment, constant}
+use Rattle.ios_out.specs.Reading.{SaysContent, of_number, of_string, of_arguments, Block, ended, blank_byte, comment, constant}
 
 -- what stands behind a name
-says_more : {u : List ℕ} {c : Content} {r : List ℕ} → Says u c r → (t : List ℕ) → Says (u ++ t) c (r ++ t)
+says_more : {u : List ℕ} {c : Content} {r : List ℕ} → SaysContent u c r → (t : List ℕ) → SaysContent (u ++ t) c (r ++ t)
 says_more (of_number u n digits r d e w l s) t =
     of_number (u ++ t) n digits (r ++ t) d
     (ap (λ z. z ++ t) e ∙ ap (λ z. codes ": " ++ z) (append_assoc n (codes " = " ++ (digits ++ (codes "\n" ++ r))) t ∙ ap (λ z. n ++ (codes " = " ++ z)) (append_assoc digits (codes "\n" ++ r) t))) w l s
@@ -18,7 +18,7 @@ says_more (of_arguments u m inside r args e w l s) t =
 
 pub joined : {s : List ℕ} {vs : Values} → Block s vs → {t : List ℕ} {ws : Values} → Block t ws → Block (s ++ t) (vs ++ ws)
 joined (ended s e) {t} {ws} b = let P : List ℕ → Type 0 = λ z. Block (z ++ t) ws in subst P (sym e) b
-joined (blank s c rest vs e h x) {t} {ws} b = blank (s ++ t) c (rest ++ t) (vs ++ ws) (ap (λ z. z ++ t) e) h (joined x b)
+joined (blank_byte s c rest vs e h x) {t} {ws} b = blank_byte (s ++ t) c (rest ++ t) (vs ++ ws) (ap (λ z. z ++ t) e) h (joined x b)
 joined (comment s inside rest vs e h x) {t} {ws} b =
     comment (s ++ t) inside (rest ++ t) (vs ++ ws) (ap (λ z. z ++ t) e ∙ ap (λ z. codes "//" ++ z) (append_assoc inside (codes "\n" ++ rest) t)) h (joined x b)
 joined (constant s name u rest content vs e h says x) {t} {ws} b =

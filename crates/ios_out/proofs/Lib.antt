@@ -1,11 +1,11 @@
-pub mod Appended
-pub mod Arguments
-pub mod BlocksJoin
-pub mod FiveLines
-pub mod Numbers
-pub mod OneReading
-pub mod OwnNamesApart
-pub mod SheetsDenote
-pub mod SpelledIsRead
-pub mod TextsRead
-pub mod ValuesSpellable
+mod Appended
+mod Arguments
+mod BlocksJoin
+mod FiveLines
+mod Numbers
+mod OneReading
+mod OwnNamesApart
+mod SheetsDenote
+mod SpelledIsRead
+mod TextsRead
+mod ValuesSpellable

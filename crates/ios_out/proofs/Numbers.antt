@@ -3,12 +3,12 @@ use Rattle.std.proofs.Common.{◌≡◌, ℕ, suc, ◌/◌, ◌^◌, ◌<◌, �
 use Rattle.std.specs.Prelude.{if◌then◌else◌}
 use Rattle.std.specs.List.{list_all}
 use Rattle.std.proofs.lemmas.Bool.Decides.{nat_tests}
-use Rattle.dec_fix.specs.Arithmetic.{whole}
+use Rattle.dec_fix.specs.Arithmetic.{whole_decimal}
 use Rattle.dec_fix.specs.Decimal.{Decimal, IsDec}
 use Rattle.dec_fix.specs.Writing.{spelling, point_spelling}
 use Rattle.dec_fix.proofs.Pointed.{point_again}
 use Rattle.transforms.specs.Runs.{starts_number, PassesNumbers}
-use Rattle.transforms.proofs.RunsAreFronts.{all-append, numbers_pass, numbers_start}
+use Rattle.transforms.proofs.RunsAreFirst.{all-append, numbers_pass, numbers_start}
 use Rattle.transforms.proofs.Spelled.{both as together}
 use Rattle.ios_out.specs.Constant.{Quantity, amount, over_255}
 use Rattle.ios_out.specs.Reading.{alone, number_in, byte_in, quantity_of, quantity_in}
@@ -40,15 +40,15 @@ amount_read d h =
     subst P (append-nil (point_spelling d)) (rw (point_starts d [] h) (ap (λ r. quantity_of r.0 r.1) (point_again d [] h refl)))
 
 -- bytes over 255
-byte_dec : (b : ℕ) → b < 256 → IsDec (whole (pos b))
+byte_dec : (b : ℕ) → b < 256 → IsDec (whole_decimal (pos b))
 byte_dec b h = record { size = omega (arith, h); places = omega arith; short = inl refl }
 
-byte_fits : (b : ℕ) → b < 256 → byte_in (whole (pos b)) ≡ Some (over_255 b)
+byte_fits : (b : ℕ) → b < 256 → byte_in (whole_decimal (pos b)) ≡ Some (over_255 b)
 byte_fits b h = let test : nat_lt b 256 ≡ true = grind (arith, nat_tests) in rw test refl
 
-share_read : (b : ℕ) → b < 256 → quantity_in (point_spelling (whole (pos b)) ++ codes "/255.0") ≡ Some (over_255 b)
+share_read : (b : ℕ) → b < 256 → quantity_in (point_spelling (whole_decimal (pos b)) ++ codes "/255.0") ≡ Some (over_255 b)
 share_read b h =
-    let d = whole (pos b) in
+    let d = whole_decimal (pos b) in
     let is = byte_dec b h in
     rw (point_starts d (codes "/255.0") is) (ap (λ r. quantity_of r.0 r.1) (point_again d (codes "/255.0") is refl) ∙ byte_fits b h)
 
@@ -65,5 +65,5 @@ pub quantity_passes : (p : ℕ → Bool) → PassesNumbers p → p 47 ≡ true �
 quantity_passes p passes solidus (amount d) h = number_passes p passes d h
 quantity_passes p passes solidus (over_255 b) h =
     let two = passes.digit 50 refl in let five = passes.digit 53 refl in let zero_digit = passes.digit 48 refl in
-    all-append p (point_spelling (whole (pos b))) (codes "/255.0") (number_passes p passes (whole (pos b)) (byte_dec b h))
+    all-append p (point_spelling (whole_decimal (pos b))) (codes "/255.0") (number_passes p passes (whole_decimal (pos b)) (byte_dec b h))
     (rw (solidus, two, five, passes.point, zero_digit) refl)

@@ -10,11 +10,11 @@ use Rattle.transforms.specs.declared.platform.Platform.TheVariants.{Android}
 use Rattle.dec_fix.specs.Decimal.{Decimal}
 use Rattle.dec_fix.proofs.Again.{both}
 use Rattle.transforms.specs.Quoted.{string_from}
-use Rattle.transforms.specs.Runs.{front, rest}
+use Rattle.transforms.specs.Runs.{first_run, behind_run}
 use Rattle.transforms.proofs.Endings.{kept_name}
-use Rattle.transforms.proofs.RunsAreFronts.{front-append, rest-append, runs_once}
+use Rattle.transforms.proofs.RunsAreFirst.{first_run-append, behind_run-append, runs_once}
 use Rattle.ios_out.specs.Constant.{Quantity, Argument, labelled, bare, Content, number, string, made, Values}
-use Rattle.ios_out.specs.Reading.{number_in, quantity_in, is_word, no_comma, no_bracket, no_newline, IsArgument, with_label, without, AreArguments, last, more, Says, of_number, of_string, of_arguments, is_blank, Block, ended, blank, comment, constant, head, foot, Reads}
+use Rattle.ios_out.specs.Reading.{number_in, quantity_in, is_word, no_comma, no_bracket, no_newline, IsArgument, with_label, without, AreArguments, last, more, SaysContent, of_number, of_string, of_arguments, is_blank, Block, ended, blank_byte, comment, constant, head, foot, Reads}
 use Rattle.ios_out.proofs.Arguments.{word_letters}
 
 -- arguments
@@ -87,7 +87,7 @@ pub record AreSame (c d : Content) (s t : List ℕ) : Type 0 where
   pub contents : c ≡ d
   pub rests : s ≡ t
 
-says_once : {t s : List ℕ} {c d : Content} {r q : List ℕ} → Says t c r → Says s d q → t ≡ s → AreSame c d r q
+says_once : {t s : List ℕ} {c d : Content} {r q : List ℕ} → SaysContent t c r → SaysContent s d q → t ≡ s → AreSame c d r q
 says_once (of_number t n ds r d e w l h) (of_number s m es q f g x k i) same =
     let (types, behind) = typed_once n m (ds ++ (10 ∷ r)) (es ++ (10 ∷ q)) w x (sym e ∙ same ∙ g) in
     let (digits, rests) = runs_once no_newline ds es 10 r q l k refl behind in
@@ -127,21 +127,21 @@ record EndsName (u : List ℕ) : Type 0 where
   whole : u ≡ first ∷ further
   ends : is_kept Android first ≡ false
 
-ends_name : {u : List ℕ} {c : Content} {r : List ℕ} → Says u c r → EndsName u
+ends_name : {u : List ℕ} {c : Content} {r : List ℕ} → SaysContent u c r → EndsName u
 ends_name (of_number u n ds r d e w l h) = record { first = 58; further = 32 ∷ (n ++ (codes " = " ++ (ds ++ (10 ∷ r)))); whole = e; ends = refl }
 ends_name (of_string u n v text r e w h) = record { first = 58; further = 32 ∷ (n ++ (codes " = \"" ++ v)); whole = e; ends = refl }
 ends_name (of_arguments u m inside r args e w l h) = record { first = 32; further = 61 ∷ 32 ∷ (m ++ (codes "(" ++ (inside ++ (codes ")\n" ++ r)))); whole = e; ends = refl }
 
-front_of : (n u : List ℕ) → list_all (is_kept Android) n ≡ true → EndsName u → front (is_kept Android) (n ++ u) ≡ n
-front_of n u h x = ap (λ z. front (is_kept Android) (n ++ z)) x.whole ∙ front-append (is_kept Android) n (x.first ∷ x.further) h (ap not x.ends)
+front_of : (n u : List ℕ) → list_all (is_kept Android) n ≡ true → EndsName u → first_run (is_kept Android) (n ++ u) ≡ n
+front_of n u h x = ap (λ z. first_run (is_kept Android) (n ++ z)) x.whole ∙ first_run-append (is_kept Android) n (x.first ∷ x.further) h (ap not x.ends)
 
-rest_of : (n u : List ℕ) → list_all (is_kept Android) n ≡ true → EndsName u → rest (is_kept Android) (n ++ u) ≡ u
-rest_of n u h x = ap (λ z. rest (is_kept Android) (n ++ z)) x.whole ∙ rest-append (is_kept Android) n (x.first ∷ x.further) h (ap not x.ends) ∙ sym x.whole
+rest_of : (n u : List ℕ) → list_all (is_kept Android) n ≡ true → EndsName u → behind_run (is_kept Android) (n ++ u) ≡ u
+rest_of n u h x = ap (λ z. behind_run (is_kept Android) (n ++ z)) x.whole ∙ behind_run-append (is_kept Android) n (x.first ∷ x.further) h (ap not x.ends) ∙ sym x.whole
 
 names_once : (n m u v : List ℕ) → is_identifier n ≡ true → is_identifier m ≡ true → EndsName u → EndsName v → n ++ u ≡ m ++ v → (n ≡ m) × (u ≡ v)
 names_once n m u v h k x y e = (
-  sym (front_of n u (kept_name n h) x) ∙ ap (front (is_kept Android)) e ∙ front_of m v (kept_name m k) y,
-  sym (rest_of n u (kept_name n h) x) ∙ ap (rest (is_kept Android)) e ∙ rest_of m v (kept_name m k) y,
+  sym (front_of n u (kept_name n h) x) ∙ ap (first_run (is_kept Android)) e ∙ front_of m v (kept_name m k) y,
+  sym (rest_of n u (kept_name n h) x) ∙ ap (behind_run (is_kept Android)) e ∙ rest_of m v (kept_name m k) y,
 )
 
 -- what stands behind the end, a blank, a comment and a constant
@@ -150,19 +150,19 @@ no_blank c d h e k = let same : is_blank d ≡ true = subst (λ z. is_blank z �
 
 at_end : {t : List ℕ} {ws : Values} → Block t ws → t ≡ [] → [] ≡ ws
 at_end (ended t f) e = refl
-at_end (blank t c r ws f h x) e = cc
+at_end (blank_byte t c r ws f h x) e = cc
 at_end (comment t inside r ws f h x) e = cc
 at_end (constant t name u r content ws f h says x) e = cc
 
 at_blank : {t : List ℕ} {ws : Values} → Block t ws → (c : ℕ) (u : List ℕ) → t ≡ c ∷ u → is_blank c ≡ true → Block u ws
 at_blank (ended t f) c u e h = cc
-at_blank (blank t d r ws f k x) c u e h = let same : r ≡ u = cc in let P : List ℕ → Type 0 = λ z. Block z ws in subst P same x
+at_blank (blank_byte t d r ws f k x) c u e h = let same : r ≡ u = cc in let P : List ℕ → Type 0 = λ z. Block z ws in subst P same x
 at_blank (comment t inside r ws f k x) c u e h = let same : c ≡ 47 = cc in absurd (no_blank c 47 h same refl)
 at_blank (constant t name v r content ws f k says x) c u e h = let same : c ≡ 112 = cc in absurd (no_blank c 112 h same refl)
 
 at_comment : {t : List ℕ} {ws : Values} → Block t ws → (inside r : List ℕ) → t ≡ codes "//" ++ (inside ++ (codes "\n" ++ r)) → list_all no_newline inside ≡ true → Block r ws
 at_comment (ended t f) inside r e h = cc
-at_comment (blank t c q ws f k x) inside r e h = let same : c ≡ 47 = cc in absurd (no_blank c 47 k same refl)
+at_comment (blank_byte t c q ws f k x) inside r e h = let same : c ≡ 47 = cc in absurd (no_blank c 47 k same refl)
 at_comment (comment t within q ws f k x) inside r e h =
     let inner : within ++ (10 ∷ q) ≡ inside ++ (10 ∷ r) = cc in
     let (insides, rests) = runs_once no_newline within inside 10 q r k h refl inner in
@@ -178,7 +178,7 @@ record AreSameConstants (name other : List ℕ) (c d : Content) (r q : List ℕ)
 behind_words : (s t : List ℕ) → codes "public static let " ++ s ≡ codes "public static let " ++ t → s ≡ t
 behind_words s t e = append_cancel_left (codes "public static let ") s t e
 
-constants_once : (name other u v r q : List ℕ) (c d : Content) → is_identifier name ≡ true → is_identifier other ≡ true → Says u c r → Says v d q → name ++ u ≡ other ++ v
+constants_once : (name other u v r q : List ℕ) (c d : Content) → is_identifier name ≡ true → is_identifier other ≡ true → SaysContent u c r → SaysContent v d q → name ++ u ≡ other ++ v
     → AreSameConstants name other c d r q
 constants_once name other u v r q c d h k says was e =
     let (names, behind) = names_once name other u v h k (ends_name says) (ends_name was) e in
@@ -186,9 +186,9 @@ constants_once name other u v r q c d h k says was e =
     record { names = names; contents = one.contents; rests = one.rests }
 
 at_constant : {t : List ℕ} {ws : Values} → Block t ws → (name u r : List ℕ) (content : Content) → t ≡ codes "public static let " ++ (name ++ u) → is_identifier name ≡ true
-    → Says u content r → (vs : Values) × (ws ≡ (name, content) ∷ vs) × Block r vs
+    → SaysContent u content r → (vs : Values) × (ws ≡ (name, content) ∷ vs) × Block r vs
 at_constant (ended t f) name u r content e h says = cc
-at_constant (blank t c q ws f k x) name u r content e h says = let same : c ≡ 112 = cc in absurd (no_blank c 112 k same refl)
+at_constant (blank_byte t c q ws f k x) name u r content e h says = let same : c ≡ 112 = cc in absurd (no_blank c 112 k same refl)
 at_constant (comment t inside q ws f k x) name u r content e h says = absurd (apart is_solidus t t refl (ap is_solidus f) (ap is_solidus e))
 at_constant (constant t other v q said ws f k was x) name u r content e h says =
     let one = constants_once other name v u q r said content k h was says (behind_words (other ++ v) (name ++ u) (sym f ∙ e)) in
@@ -197,7 +197,7 @@ at_constant (constant t other v q said ws f k was x) name u r content e h says =
 
 pub block_once : {t : List ℕ} {vs : Values} → Block t vs → {ws : Values} → Block t ws → vs ≡ ws
 block_once (ended t e) y = at_end y e
-block_once (blank t c r vs e h x) y = block_once x (at_blank y c r e h)
+block_once (blank_byte t c r vs e h x) y = block_once x (at_blank y c r e h)
 block_once (comment t inside r vs e h x) y = block_once x (at_comment y inside r e h)
 block_once (constant t name u r content vs e h says x) y =
     let (others, same, b) = at_constant y name u r content e h says in ap (λ z. (name, content) ∷ z) (block_once x b) ∙ sym same

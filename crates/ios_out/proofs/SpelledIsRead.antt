@@ -8,13 +8,13 @@ use Rattle.transforms.specs.declared.platform.Platform.TheVariants.{Android}
 use Rattle.dec_fix.specs.Decimal.{Decimal, IsDec}
 use Rattle.dec_fix.specs.Writing.{point_spelling}
 use Rattle.dec_fix.proofs.Again.{both}
-use Rattle.transforms.specs.Quoted.{escape}
+use Rattle.transforms.specs.Quoted.{escaped_character}
 use Rattle.transforms.specs.Runs.{PassesNumbers}
 use Rattle.transforms.proofs.Endings.{kept_name}
 use Rattle.transforms.proofs.QuotedReadsBack.{string_again}
 use Rattle.transforms.proofs.Spelled.{both as together}
 use Rattle.ios_out.specs.Constant.{Argument, Content, number, string, made, Values}
-use Rattle.ios_out.specs.Reading.{is_word, no_newline, Says, of_number, of_string, of_arguments, Block, ended, blank, comment, constant}
+use Rattle.ios_out.specs.Reading.{is_word, no_newline, SaysContent, of_number, of_string, of_arguments, Block, ended, blank_byte, comment, constant}
 use Rattle.ios_out.specs.Spelling.{arguments_text, content_text, line_text, omitted_text, body_text}
 use Rattle.ios_out.proofs.Numbers.{number_passes, number_read}
 use Rattle.ios_out.proofs.Arguments.{IsFineArgument, in_brackets, arguments_read}
@@ -34,27 +34,27 @@ newline_passes : PassesNumbers no_newline
 newline_passes = record { digit = λ c h. grind (arith, nat_tests); minus = refl; point = refl }
 
 -- contents before a line's end and what follows
-number_says : (n : List ℕ) (d : Decimal) (t : List ℕ) → is_word n ≡ true → IsDec d → Says (content_text (number n d) ++ (10 ∷ t)) (number n d) t
+number_says : (n : List ℕ) (d : Decimal) (t : List ℕ) → is_word n ≡ true → IsDec d → SaysContent (content_text (number n d) ++ (10 ∷ t)) (number n d) t
 number_says n d t w h =
     of_number (content_text (number n d) ++ (10 ∷ t)) n (point_spelling d) t d (ap (λ x. codes ": " ++ x) (append_assoc n (codes " = " ++ point_spelling d) (10 ∷ t)))
     w (number_passes no_newline newline_passes d h) (number_read d h)
 
-string_says : (n s t : List ℕ) → is_word n ≡ true → Says (content_text (string n s) ++ (10 ∷ t)) (string n s) t
+string_says : (n s t : List ℕ) → is_word n ≡ true → SaysContent (content_text (string n s) ++ (10 ∷ t)) (string n s) t
 string_says n s t w =
-    let inside = flat_map escape s in
+    let inside = flat_map escaped_character s in
     of_string (content_text (string n s) ++ (10 ∷ t)) n (inside ++ (34 ∷ 10 ∷ t)) s t
     (ap (λ x. codes ": " ++ x) (append_assoc n (codes " = \"" ++ (inside ++ codes "\"")) (10 ∷ t) ∙ ap (λ x. n ++ (codes " = \"" ++ x)) (append_assoc inside (34 ∷ []) (10 ∷ t))))
     w (string_again s (10 ∷ t))
 
 made_says : (m : List ℕ) (a : Argument) (args : List Argument) (t : List ℕ) → is_word m ≡ true → AllByRecursion IsFineArgument (a ∷ args)
-    → Says (content_text (made m (a ∷ args)) ++ (10 ∷ t)) (made m (a ∷ args)) t
+    → SaysContent (content_text (made m (a ∷ args)) ++ (10 ∷ t)) (made m (a ∷ args)) t
 made_says m a args t w h =
     let inside = arguments_text (a ∷ args) in
     of_arguments (content_text (made m (a ∷ args)) ++ (10 ∷ t)) m inside t (a ∷ args)
     (ap (λ x. codes " = " ++ x) (append_assoc m (codes "(" ++ (inside ++ codes ")")) (10 ∷ t) ∙ ap (λ x. m ++ (codes "(" ++ x)) (append_assoc inside (41 ∷ []) (10 ∷ t))))
     w (in_brackets (a ∷ args) h) (arguments_read a args h)
 
-content_says : {c : Content} → IsFine c → (t : List ℕ) → Says (content_text c ++ (10 ∷ t)) c t
+content_says : {c : Content} → IsFine c → (t : List ℕ) → SaysContent (content_text c ++ (10 ∷ t)) c t
 content_says (fine_number n d w h) t = number_says n d t w h
 content_says (fine_string n s w) t = string_says n s t w
 content_says (fine_made m a args w h) t = made_says m a args t w h
@@ -67,7 +67,7 @@ line_read v t ws h b =
     let regroup : text ++ t ≡ codes "public static let " ++ (v.0 ++ u) =
     ap (λ x. codes "public static let " ++ x) (append_assoc v.0 (content_text v.1 ++ codes "\n") t ∙ ap (λ x. v.0 ++ x) (append_assoc (content_text v.1) (codes "\n") t)) in
     let whole : Block (text ++ t) (v ∷ ws) = constant (text ++ t) v.0 u t v.1 ws regroup h.named (content_says h.fine t) b in
-    blank _ 32 (32 ∷ (text ++ t)) (v ∷ ws) refl refl (blank _ 32 (text ++ t) (v ∷ ws) refl refl whole)
+    blank_byte _ 32 (32 ∷ (text ++ t)) (v ∷ ws) refl refl (blank_byte _ 32 (text ++ t) (v ∷ ws) refl refl whole)
 
 lines_read : (vs : Values) → AllByRecursion IsSpellable vs → Block (flat_map line_text vs) vs
 lines_read [] h = ended [] refl
@@ -84,7 +84,7 @@ omitted_read : (n : List ℕ) → is_identifier n ≡ true → Block (omitted_te
 omitted_read n h =
     let inside = codes " omitted " ++ n in
     let whole = codes "//" ++ (inside ++ codes "\n") in
-    blank _ 32 (32 ∷ whole) [] refl refl (blank _ 32 whole [] refl refl (comment whole inside [] [] refl (named_in_line n (kept_name n h)) (ended [] refl)))
+    blank_byte _ 32 (32 ∷ whole) [] refl refl (blank_byte _ 32 whole [] refl refl (comment whole inside [] [] refl (named_in_line n (kept_name n h)) (ended [] refl)))
 
 pub body_read : (n : List ℕ) (vs : Values) → is_identifier n ≡ true → AllByRecursion IsSpellable vs → Block (body_text n vs) vs
 body_read n [] h all = omitted_read n h

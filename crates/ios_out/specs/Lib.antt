@@ -1,4 +1,3 @@
-pub mod Characters
 pub mod Constant
 pub mod PlatformValue
 pub mod Spelling

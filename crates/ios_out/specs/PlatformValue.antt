@@ -64,21 +64,25 @@ red_label Oklch = None
 
 abbrev pub color_of : List ℕ → Quantity → Quantity → Quantity → Decimal → Content
 color_of label red green blue alpha =
-    made color_maker (labelled label red ∷ labelled (codes "green") green ∷ labelled (codes "blue") blue ∷ labelled (codes "alpha") (amount alpha) ∷ [])
+    made color_maker (labelled label red ∷ labelled (codes "green") green
+    ∷ labelled (codes "blue") blue ∷ labelled (codes "alpha") (amount alpha) ∷ [])
 
 -- a colour in one of these spaces with all its components
 abbrev pub component_color : List ℕ → Color → Option Content
 component_color label c =
-    option_and_then (λ red. option_and_then (λ green. option_map (λ blue. color_of label (amount red) (amount green) (amount blue) c.alpha) c.third) c.second) c.first
+    option_and_then (λ red. option_and_then (λ green. option_map
+    (λ blue. color_of label (amount red) (amount green) (amount blue) c.alpha) c.third) c.second) c.first
 
 -- and any other by the six digits of its `hex`
 abbrev pub digits_color : Decimal → List ℕ → Option Content
 digits_color alpha (a ∷ b ∷ c ∷ d ∷ e ∷ f ∷ []) =
-    Some (color_of (codes "red") (over_255 (hex_value (a ∷ b ∷ []))) (over_255 (hex_value (c ∷ d ∷ []))) (over_255 (hex_value (e ∷ f ∷ []))) alpha)
+    Some (color_of (codes "red") (over_255 (hex_value (a ∷ b ∷ [])))
+    (over_255 (hex_value (c ∷ d ∷ []))) (over_255 (hex_value (e ∷ f ∷ []))) alpha)
 digits_color alpha digits = None
 
 abbrev pub color_content : Color → Option Content
-color_content c = option_or (option_and_then (λ label. component_color label c) (red_label c.space)) (option_and_then (digits_color c.alpha) c.hex)
+color_content c =
+    option_or (option_and_then (λ label. component_color label c) (red_label c.space)) (option_and_then (digits_color c.alpha) c.hex)
 
 abbrev pub is_rem : SizeUnit → Bool
 is_rem Px = false
@@ -99,7 +103,8 @@ abbrev pub time_content : Time → Content
 time_content t = number time_type (seconds_in t.unit t.value)
 
 abbrev pub curve_content : Curve → Content
-curve_content c = made curve_maker (labelled (codes "controlPoints") (amount c.x1) ∷ bare (amount c.y1) ∷ bare (amount c.x2) ∷ bare (amount c.y2) ∷ [])
+curve_content c =
+    made curve_maker (labelled (codes "controlPoints") (amount c.x1) ∷ bare (amount c.y1) ∷ bare (amount c.x2) ∷ bare (amount c.y2) ∷ [])
 
 -- the first family
 abbrev pub family_content : List (List ℕ) → Option Content

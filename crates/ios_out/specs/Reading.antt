@@ -9,7 +9,7 @@ use Rattle.dec_fix.specs.Following.{number_at}
 use Rattle.transforms.specs.PlatformName.{is_identifier}
 use Rattle.transforms.specs.Quoted.{string_from}
 use Rattle.transforms.specs.Runs.{starts_number}
-use Rattle.ios_out.specs.Characters.{newline, blank_space, right_bracket, comma_sign}
+use Rattle.tk_io.specs.Characters.{newline, blank, right_bracket, comma_sign}
 use Rattle.ios_out.specs.Constant.{Quantity, amount, over_255, Argument, labelled, bare, Content, number, string, made, Values}
 
 -- a number of any length, to the end
@@ -22,7 +22,8 @@ number_in t = if starts_number t then alone (number_at t).0 (number_at t).1 else
 
 -- a byte over 255 is a whole number from 0 to 255 and `/255.0`
 abbrev pub byte_in : Decimal → Option Quantity
-byte_in d = if (d.s == 0) && (not (is_negative d.c) && nat_lt (unsigned_abs d.c) 256) then Some (over_255 (unsigned_abs d.c)) else None
+byte_in d =
+    if (d.s == 0) && (not (is_negative d.c) && nat_lt (unsigned_abs d.c) 256) then Some (over_255 (unsigned_abs d.c)) else None
 
 abbrev pub quantity_of : Decimal → List ℕ → Option Quantity
 quantity_of d [] = Some (amount d)
@@ -47,34 +48,44 @@ no_newline c = not (c == newline)
 
 -- the text is this argument
 pub data IsArgument : List ℕ → Argument → Type 0 where
-  with_label : (t label u : List ℕ) (q : Quantity) → t ≡ label ++ (codes ": " ++ u) → is_word label ≡ true → quantity_in u ≡ Some q → IsArgument t (labelled label q)
+  with_label : (t label u : List ℕ) (q : Quantity) → t ≡ label ++ (codes ": " ++ u) → is_word label ≡ true
+      → quantity_in u ≡ Some q → IsArgument t (labelled label q)
   without : (t : List ℕ) (q : Quantity) → quantity_in t ≡ Some q → IsArgument t (bare q)
 
 -- one argument or more, with a comma and a blank between
 pub data AreArguments : List ℕ → List Argument → Type 0 where
   last : (t : List ℕ) (a : Argument) → list_all no_comma t ≡ true → IsArgument t a → AreArguments t (a ∷ [])
-  more : (t first rest : List ℕ) (a : Argument) (args : List Argument) → t ≡ first ++ (codes ", " ++ rest) → list_all no_comma first ≡ true → IsArgument first a
+  more : (t first rest : List ℕ) (a : Argument) (args : List Argument) → t ≡ first ++ (codes ", " ++ rest)
+      → list_all no_comma first ≡ true → IsArgument first a
       → AreArguments rest args → AreArguments t (a ∷ args)
 
 -- The text, which stands behind a constant's name, says this up to its line's end, and then goes on so.
-pub data Says : List ℕ → Content → List ℕ → Type 0 where
-  of_number : (t type_name digits rest : List ℕ) (d : Decimal) → t ≡ codes ": " ++ (type_name ++ (codes " = " ++ (digits ++ (codes "\n" ++ rest))))
-      → is_word type_name ≡ true → list_all no_newline digits ≡ true → number_in digits ≡ Some d → Says t (number type_name d) rest
+pub data SaysContent : List ℕ → Content → List ℕ → Type 0 where
+  of_number : (t type_name digits rest : List ℕ) (d : Decimal)
+      → t ≡ codes ": " ++ (type_name ++ (codes " = " ++ (digits ++ (codes "\n" ++ rest))))
+      → is_word type_name ≡ true → list_all no_newline digits ≡ true → number_in digits ≡ Some d
+      → SaysContent t (number type_name d) rest
   of_string : (t type_name u text rest : List ℕ) → t ≡ codes ": " ++ (type_name ++ (codes " = \"" ++ u))
-      → is_word type_name ≡ true → string_from false u ≡ Some (text, codes "\n" ++ rest) → Says t (string type_name text) rest
-  of_arguments : (t maker inside rest : List ℕ) (args : List Argument) → t ≡ codes " = " ++ (maker ++ (codes "(" ++ (inside ++ (codes ")\n" ++ rest))))
-      → is_word maker ≡ true → list_all no_bracket inside ≡ true → AreArguments inside args → Says t (made maker args) rest
+      → is_word type_name ≡ true → string_from false u ≡ Some (text, codes "\n" ++ rest)
+      → SaysContent t (string type_name text) rest
+  of_arguments : (t maker inside rest : List ℕ) (args : List Argument)
+      → t ≡ codes " = " ++ (maker ++ (codes "(" ++ (inside ++ (codes ")\n" ++ rest))))
+      → is_word maker ≡ true → list_all no_bracket inside ≡ true → AreArguments inside args
+      → SaysContent t (made maker args) rest
 
 abbrev pub is_blank : ℕ → Bool
-is_blank c = (c == blank_space) || (c == newline)
+is_blank c = (c == blank) || (c == newline)
 
 -- The constants of a text, read alone.
 pub data Block : List ℕ → Values → Type 0 where
   ended : (t : List ℕ) → t ≡ [] → Block t []
-  blank : (t : List ℕ) (c : ℕ) (rest : List ℕ) (vs : Values) → t ≡ c ∷ rest → is_blank c ≡ true → Block rest vs → Block t vs
-  comment : (t inside rest : List ℕ) (vs : Values) → t ≡ codes "//" ++ (inside ++ (codes "\n" ++ rest)) → list_all no_newline inside ≡ true → Block rest vs → Block t vs
-  constant : (t name u rest : List ℕ) (content : Content) (vs : Values) → t ≡ codes "public static let " ++ (name ++ u) → is_identifier name ≡ true
-      → Says u content rest → Block rest vs → Block t ((name, content) ∷ vs)
+  blank_byte : (t : List ℕ) (c : ℕ) (rest : List ℕ) (vs : Values) → t ≡ c ∷ rest → is_blank c ≡ true
+      → Block rest vs → Block t vs
+  comment : (t inside rest : List ℕ) (vs : Values) → t ≡ codes "//" ++ (inside ++ (codes "\n" ++ rest))
+      → list_all no_newline inside ≡ true → Block rest vs → Block t vs
+  constant : (t name u rest : List ℕ) (content : Content) (vs : Values)
+      → t ≡ codes "public static let " ++ (name ++ u) → is_identifier name ≡ true
+      → SaysContent u content rest → Block rest vs → Block t ((name, content) ∷ vs)
 
 abbrev pub head : List ℕ
 head = codes "import UIKit\n\npublic enum Tokens {\n"

@@ -1,7 +1,7 @@
 -- Whole files: the texts of tokens, one after another in the frame.
 use Rattle.std.specs.Prelude.{◌≡◌, true, ℕ, ◌<◌, ◌^◌, List, [], map, flat_map, AllPairs}
 use Rattle.name_path.specs.Names.{IsTokenPath}
-use Rattle.transforms.specs.Clash.{Named, ShareNoName}
+use Rattle.transforms.specs.Clash.{NamedToken, ShareNoName}
 use Rattle.transforms.specs.Config.{Settings}
 use Rattle.transforms.specs.PlatformName.{is_identifier}
 use Rattle.transforms.specs.Sheet.{FrameData, plain_frame, sheet_text}
@@ -36,7 +36,7 @@ module _ (settings : Settings) where
   abbrev pub cell_values : Cell → Values
   cell_values c = fragment_values settings c.path c.typed
 
-  abbrev pub cell_names : Cell → Named
+  abbrev pub cell_names : Cell → NamedToken
   cell_names c = record { path = c.path; names = fragment_names settings c.path c.typed }
 
   -- the bytes of the file, and what its names are to have

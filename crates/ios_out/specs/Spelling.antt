@@ -1,10 +1,10 @@
 -- The bytes of constants and fragments.
 use Rattle.std.specs.Prelude.{ℕ, pos, List, [], ◌∷◌, ◌++◌, codes, flat_map}
-use Rattle.dec_fix.specs.Arithmetic.{whole}
+use Rattle.dec_fix.specs.Arithmetic.{whole_decimal}
 use Rattle.dec_fix.specs.Writing.{point_spelling}
 use Rattle.transforms.specs.Config.{Settings}
 use Rattle.transforms.specs.PlatformName.{name_on}
-use Rattle.transforms.specs.Quoted.{escape}
+use Rattle.transforms.specs.Quoted.{escaped_character}
 use Rattle.transforms.specs.declared.platform.Platform.TheVariants.{Swift}
 use Rattle.composite_rules.specs.declared.typed.Typed.{Typed}
 use Rattle.ios_out.specs.Constant.{Quantity, amount, over_255, Argument, labelled, bare, Content, number, string, made, Values, value_names}
@@ -12,7 +12,7 @@ use Rattle.ios_out.specs.PlatformValue.{swift_values}
 
 abbrev pub quantity_text : Quantity → List ℕ
 quantity_text (amount d) = point_spelling d
-quantity_text (over_255 b) = point_spelling (whole (pos b)) ++ codes "/255.0"
+quantity_text (over_255 b) = point_spelling (whole_decimal (pos b)) ++ codes "/255.0"
 
 abbrev pub argument_text : Argument → List ℕ
 argument_text (labelled label q) = label ++ (codes ": " ++ quantity_text q)
@@ -26,7 +26,8 @@ arguments_text (a ∷ b ∷ args) = argument_text a ++ (codes ", " ++ arguments_
 -- what stands behind a constant's name
 abbrev pub content_text : Content → List ℕ
 content_text (number type_name d) = codes ": " ++ (type_name ++ (codes " = " ++ point_spelling d))
-content_text (string type_name text) = codes ": " ++ (type_name ++ (codes " = \"" ++ (flat_map escape text ++ codes "\"")))
+content_text (string type_name text) =
+    codes ": " ++ (type_name ++ (codes " = \"" ++ (flat_map escaped_character text ++ codes "\"")))
 content_text (made maker arguments) = codes " = " ++ (maker ++ (codes "(" ++ (arguments_text arguments ++ codes ")")))
 
 abbrev pub line_text : List ℕ × Content → List ℕ

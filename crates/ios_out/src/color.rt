@@ -4,7 +4,8 @@ ghost use Rattle.std.specs.Prelude.{◌≡◌, Some, option_map, option_and_then
 ghost use Rattle.std.specs.Char.{digit_value};
 ghost use Rattle.transforms.specs.Hexadecimal.{hex_value};
 ghost use Rattle.type_rules.specs.Sound.{IsColor, IsHex, is_hex_digit};
-ghost use Rattle.ios_out.specs.PlatformValue.{red_label, color_of, component_color, digits_color, color_content};
+ghost use Rattle.ios_out.specs.PlatformValue.{red_label, color_of, component_color, digits_color};
+ghost use Rattle.ios_out.specs.PlatformValue.{color_content};
 ghost use Rattle.ios_out.specs.inner.View.{quantity_view, content_view};
 
 use crate::content::{Argument, Content, Quantity};

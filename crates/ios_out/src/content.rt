@@ -2,7 +2,8 @@
 
 ghost use Rattle.std.specs.Prelude.{◌≡◌, Some, option_map};
 ghost use Rattle.type_rules.specs.Sound.{IsSize, IsTime, IsSimple};
-ghost use Rattle.ios_out.specs.PlatformValue.{is_rem, points, size_content, seconds_in, time_content, curve_content, simple_content};
+ghost use Rattle.ios_out.specs.PlatformValue.{is_rem, points, size_content, seconds_in};
+ghost use Rattle.ios_out.specs.PlatformValue.{time_content, curve_content, simple_content};
 ghost use Rattle.ios_out.specs.inner.View.{content_view};
 
 use crate::color::color_content;

@@ -1,6 +1,7 @@
 //! Laws of the definitions alone, for the layers above.
 
-ghost use Rattle.ios_out.specs.Laws.{BlocksJoin, TextsRead, ReadOnce, FragmentsRead, OwnNamesApart, SheetsDenote};
+ghost use Rattle.ios_out.specs.Laws.{BlocksJoin, TextsRead, ReadOnce, FragmentsRead, OwnNamesApart};
+ghost use Rattle.ios_out.specs.Laws.{SheetsDenote};
 
 /// What a text says, read alone, it says before any other text too, so that between its frame a file says what its texts say, one
 /// after another. Bytes are one file at most.

@@ -85,7 +85,8 @@ fn append_made(
     fourth: &Argument,
 ) -> Result<(), NoMemory>
     ensures { OnOk result (out.new ≡ out.old ++ content_text (made maker.now
-        (argument_view first.now ∷ argument_view second.now ∷ argument_view third.now ∷ argument_view fourth.now ∷ []))) }
+        (argument_view first.now ∷ argument_view second.now
+        ∷ argument_view third.now ∷ argument_view fourth.now ∷ []))) }
 {
     out.append(b" = ")?;
     out.append(maker.as_bytes())?;

@@ -1,9 +1,9 @@
-pub mod Appending
-pub mod ColorAppended
-pub mod ListsAppended
-pub mod NumbersRead
-pub mod NumbersSpell
-pub mod SheetsRead
-pub mod TokensRead
-pub mod ValuesDiffer
-pub mod ValuesRead
+mod Appending
+mod ColorAppended
+mod ListsAppended
+mod NumbersRead
+mod NumbersSpell
+mod SheetsRead
+mod TokensRead
+mod ValuesDiffer
+mod ValuesRead

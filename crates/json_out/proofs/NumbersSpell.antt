@@ -5,11 +5,11 @@ use Rattle.std.specs.Char.{is_ascii_digit}
 use Rattle.std.specs.Str.{all_ascii_digits}
 use Rattle.std.proofs.lemmas.Bool.Decides.{nat_tests}
 use Rattle.grammar.specs.Grammar.{Reads, Derives, no_byte, one_byte, both, left, right, no_more, more, by_name, many, named, within}
-use Rattle.json_span.specs.Grammar.{number, digit, digits, int, frac, exp, either, optional, one}
+use Rattle.json_span.specs.Grammar.{number, digit, digits, int, frac, exp, either_byte, optional, one}
 use Rattle.json_span.specs.Steered.{rules}
 use Rattle.dec_fix.specs.Decimal.{Decimal, IsSameNumber, decimal_of}
 use Rattle.dec_fix.specs.Reading.{size_of, places_of, text_decimal}
-use Rattle.dec_fix.specs.Spelling.{Sign, unsigned, plus, minus, Exponent, none, power, Parts, minus_text, fraction_text, sign_text, exponent_text, text_of, IsDigits, IsInt, IsExponent, IsNumber, number_of_parts, Spells}
+use Rattle.dec_fix.specs.Spelling.{Sign, unsigned, plus, minus, Exponent, none, power, NumberParts, minus_text, fraction_text, sign_text, exponent_text, text_of, IsDigits, IsInt, IsExponent, IsNumber, number_of_parts, Spells}
 use Rattle.dec_fix.proofs.Grammar.{split, split_text, number_by_split}
 use Rattle.dec_fix.proofs.SameNumber.{decimal_of-same}
 use Rattle.json_out.specs.Reading.{or_zero, number_in}
@@ -101,7 +101,7 @@ record HasSign (t u : List ℕ) : Type 0 where
   sign : Sign
   whole : t ≡ sign_text sign ++ u
 
-sign_of : {t u : List ℕ} → Reads rules (optional (either 43 45)) t u → HasSign t u
+sign_of : {t u : List ℕ} → Reads rules (optional (either_byte 43 45)) t u → HasSign t u
 sign_of (left (left (one_byte {c = c} {t = t} k))) = record { sign = plus; whole = ap (λ z. z ∷ t) (is_byte c 43 k) }
 sign_of (left (right (one_byte {c = c} {t = t} k))) = record { sign = minus; whole = ap (λ z. z ∷ t) (is_byte c 45 k) }
 sign_of (right no_byte) = record { sign = unsigned; whole = refl }
@@ -111,7 +111,7 @@ record HasLetter (t u : List ℕ) : Type 0 where
   is : (letter ≡ 101) ⊎ (letter ≡ 69)
   whole : t ≡ letter ∷ u
 
-letter_of : {t u : List ℕ} → Reads rules (either 69 101) t u → HasLetter t u
+letter_of : {t u : List ℕ} → Reads rules (either_byte 69 101) t u → HasLetter t u
 letter_of (left (one_byte {c = c} k)) = record { letter = c; is = inr (is_byte c 69 k); whole = refl }
 letter_of (right (one_byte {c = c} k)) = record { letter = c; is = inl (is_byte c 101 k); whole = refl }
 
@@ -147,7 +147,7 @@ minus_of (right no_byte) = record { negative = false; whole = refl }
 
 -- a number
 record HasParts (t : List ℕ) : Type 0 where
-  parts : Parts
+  parts : NumberParts
   is : IsNumber parts
   whole : t ≡ text_of parts
 

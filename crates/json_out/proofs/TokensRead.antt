@@ -7,7 +7,7 @@ use Rattle.grammar.specs.Grammar.{one_byte, both, no_more}
 use Rattle.dec_fix.specs.Decimal.{Decimal}
 use Rattle.json_span.specs.Reading.{StringAt}
 use Rattle.json_span.specs.Plain.{plain_boolean, plain_string, plain_members_of, plains_of}
-use Rattle.json_span.specs.Says.{Says, says_object, says_member, some_members, MoreMembers, no_more_member, more_members}
+use Rattle.json_span.specs.Says.{Says, says_object, says_member, says_members, SaysMoreMembers, says_no_more_member, says_more_members}
 use Rattle.json_span.specs.Spelling.{string_text, are_bytes}
 use Rattle.json_span.proofs.Saying.{says_frame}
 use Rattle.json_span.proofs.Slices.{frame}
@@ -239,13 +239,13 @@ typed_can (typed.Typography t) h b = typography_can t h b
 
 -- what stands beside the value
 given_says : (name : List ℕ) (text : Option (List ℕ)) (v : Option Json) (rest : List ℕ) (ms : List Member) → are_bytes name ≡ true → HaveValue text v
-    → MoreMembers number_in rest (plain_members_of ms) [] → MoreMembers number_in (given_text name text ++ rest) (plain_members_of (given name v ++ ms)) []
+    → SaysMoreMembers number_in rest (plain_members_of ms) [] → SaysMoreMembers number_in (given_text name text ++ rest) (plain_members_of (given name v ++ ms)) []
 given_says name None None rest ms b h m = m
 given_says name None (Some v) rest ms b h m = absurd h
 given_says name (Some text) None rest ms b h m = absurd h
 given_says name (Some text) (Some v) rest ms b h m =
-    subst (λ z. MoreMembers number_in (44 ∷ 32 ∷ z) (plain_members_of (given name (Some v) ++ ms)) []) (sym (append_assoc (string_text name) (58 ∷ 32 ∷ text) rest))
-    (more_members (both (one_byte refl) (one_blank no_more))
+    subst (λ z. SaysMoreMembers number_in (44 ∷ 32 ∷ z) (plain_members_of (given name (Some v) ++ ms)) []) (sym (append_assoc (string_text name) (58 ∷ 32 ∷ text) rest))
+    (says_more_members (both (one_byte refl) (one_blank no_more))
     (says_member (string_at name (58 ∷ 32 ∷ (text ++ rest)) b) no_more (both (one_byte refl) (one_blank (frame h.lead rest))) (says_frame number_in h.says rest))
     (frame h.trail rest) m)
 
@@ -259,15 +259,15 @@ marked Yes h = text_says (plain_boolean true) tt
 marked (Because s) h = text_says (plain_string s) h
 
 extras_say : (e : ExtrasData) (w : Option Json) → are_bytes (text_or_none e.description) ≡ true → are_bytes (reason_of e.mark) ≡ true → HaveValue e.extensions w
-    → MoreMembers number_in (extras_text e ++ codes "}") (plain_members_of (given (codes "$description") (option_map plain_string e.description) ++ (given (codes "$extensions") w ++ given (codes "$deprecated") (mark_json e.mark)))) []
+    → SaysMoreMembers number_in (extras_text e ++ codes "}") (plain_members_of (given (codes "$description") (option_map plain_string e.description) ++ (given (codes "$extensions") w ++ given (codes "$deprecated") (mark_json e.mark)))) []
 extras_say e w d m x =
     let D = given_text (codes "$description") (option_map string_text e.description) in
     let E = given_text (codes "$extensions") e.extensions in
     let M = given_text (codes "$deprecated") (option_map value_text (mark_json e.mark)) in
     let ms = given (codes "$deprecated") (mark_json e.mark) in
-    let last = given_says (codes "$deprecated") (option_map value_text (mark_json e.mark)) (mark_json e.mark) (codes "}") [] refl (marked e.mark m) (no_more_member (one_byte refl)) in
-    let mine : MoreMembers number_in (M ++ codes "}") (plain_members_of ms) [] = subst (λ z. MoreMembers number_in (M ++ codes "}") (plain_members_of z) []) (append-nil ms) last in
-    subst (λ z. MoreMembers number_in z (plain_members_of (given (codes "$description") (option_map plain_string e.description) ++ (given (codes "$extensions") w ++ ms))) [])
+    let last = given_says (codes "$deprecated") (option_map value_text (mark_json e.mark)) (mark_json e.mark) (codes "}") [] refl (marked e.mark m) (says_no_more_member (one_byte refl)) in
+    let mine : SaysMoreMembers number_in (M ++ codes "}") (plain_members_of ms) [] = subst (λ z. SaysMoreMembers number_in (M ++ codes "}") (plain_members_of z) []) (append-nil ms) last in
+    subst (λ z. SaysMoreMembers number_in z (plain_members_of (given (codes "$description") (option_map plain_string e.description) ++ (given (codes "$extensions") w ++ ms))) [])
     (sym (append_assoc D (E ++ M) (codes "}") ∙ ap (λ z. D ++ z) (append_assoc E M (codes "}"))))
     (given_says (codes "$description") (option_map string_text e.description) (option_map plain_string e.description) _ _ refl (described e.description d)
     (given_says (codes "$extensions") e.extensions w _ _ refl x mine))
@@ -278,8 +278,8 @@ token_says v e w h d m x =
     let name = kind_name (kind_of v) in
     let behind = codes ", \"$value\": " ++ (value_text (typed_json v) ++ (extras_text e ++ codes "}")) in
     says_object (both (one_byte refl) no_more)
-    (some_members (member_says (codes "$type") (plain_string name) behind refl (value_says (plain_string name) behind (kind_bytes (kind_of v)))) no_more
-    (more_members (both (one_byte refl) (one_blank no_more)) (member_says (codes "$value") (typed_json v) (extras_text e ++ codes "}") refl (value_says (typed_json v) (extras_text e ++ codes "}") h)) no_more
+    (says_members (member_says (codes "$type") (plain_string name) behind refl (value_says (plain_string name) behind (kind_bytes (kind_of v)))) no_more
+    (says_more_members (both (one_byte refl) (one_blank no_more)) (member_says (codes "$value") (typed_json v) (extras_text e ++ codes "}") refl (value_says (typed_json v) (extras_text e ++ codes "}") h)) no_more
     (extras_say e w d m x)))
 
 -- the path

@@ -9,11 +9,11 @@ use Rattle.dec_fix.proofs.ReadingBack.{written_read}
 use Rattle.json_span.specs.Grammar.{ws}
 use Rattle.json_span.specs.Steered.{rules}
 use Rattle.json_span.specs.Plain.{plain_null, plain_boolean, plain_number, plain_string, plain_array, plain_object, Plains, no_plains, plains, PlainMembers, no_plain_members, plain_members}
-use Rattle.json_span.specs.Says.{Says, says_null, says_true, says_false, says_number, says_string, says_list, says_object, no_item, items, MoreItems, no_more_item, more_items, SaysMember, says_member, no_member, some_members, MoreMembers, no_more_member, more_members}
+use Rattle.json_span.specs.Says.{Says, says_null, says_true, says_false, says_number, says_string, says_list, says_object, says_no_item, says_items, SaysMoreItems, says_no_more_item, says_more_items, SaysMember, says_member, says_no_member, says_members, SaysMoreMembers, says_no_more_member, says_more_members}
 use Rattle.json_span.specs.Spelling.{string_text, are_bytes}
 use Rattle.json_span.proofs.Spelled.{string_at}
 use Rattle.json_out.specs.PlatformValue.{Json}
-use Rattle.json_out.specs.Reading.{number_in, or_zero, IsText}
+use Rattle.json_out.specs.Reading.{number_in, or_zero, IsJson}
 use Rattle.json_out.specs.Spelling.{value_text, more_items_text, more_members_text}
 use Rattle.json_out.proofs.NumbersRead.{spelling_reads}
 
@@ -64,29 +64,29 @@ mutual
   value_says (plain_boolean false) t h = says_false (both (one_byte refl) (both (one_byte refl) (both (one_byte refl) (both (one_byte refl) (one_byte refl)))))
   value_says (plain_number d) t h = subst (λ k. Says number_in (spelling d ++ t) (plain_number k) t) (number_again d h) (says_number (spelling d) (spelling_reads d t h) refl)
   value_says (plain_string s) t h = says_string (string_at s t h)
-  value_says (plain_array no_plains) t h = says_list (both (one_byte refl) no_more) (no_item (one_byte refl))
+  value_says (plain_array no_plains) t h = says_list (both (one_byte refl) no_more) (says_no_item (one_byte refl))
   value_says (plain_array (plains v vs)) t h =
       subst (λ z. Says number_in (91 ∷ z) (plain_array (plains v vs)) t) (sym (append_assoc (value_text v) (more_items_text vs) t))
-      (says_list (both (one_byte refl) no_more) (items (value_says v (more_items_text vs ++ t) h.0) no_more (more_items_say vs t h.1)))
-  value_says (plain_object no_plain_members) t h = says_object (both (one_byte refl) no_more) (no_member (one_byte refl))
+      (says_list (both (one_byte refl) no_more) (says_items (value_says v (more_items_text vs ++ t) h.0) no_more (more_items_say vs t h.1)))
+  value_says (plain_object no_plain_members) t h = says_object (both (one_byte refl) no_more) (says_no_member (one_byte refl))
   value_says (plain_object (plain_members s v ms)) t (hs, (hv, hms)) =
       subst (λ z. Says number_in (123 ∷ z) (plain_object (plain_members s v ms)) t) (sym (regrouped (string_text s) (value_text v) (more_members_text ms) t))
       (says_object (both (one_byte refl) no_more)
-      (some_members (member_says s v (more_members_text ms ++ t) hs (value_says v (more_members_text ms ++ t) hv)) no_more (more_members_say ms t hms)))
+      (says_members (member_says s v (more_members_text ms ++ t) hs (value_says v (more_members_text ms ++ t) hv)) no_more (more_members_say ms t hms)))
 
-  more_items_say : (vs : Plains Decimal) (t : List ℕ) → ItemsCanRead vs → MoreItems number_in (more_items_text vs ++ t) vs t
-  more_items_say no_plains t h = no_more_item (one_byte refl)
+  more_items_say : (vs : Plains Decimal) (t : List ℕ) → ItemsCanRead vs → SaysMoreItems number_in (more_items_text vs ++ t) vs t
+  more_items_say no_plains t h = says_no_more_item (one_byte refl)
   more_items_say (plains v vs) t h =
-      subst (λ z. MoreItems number_in (44 ∷ 32 ∷ z) (plains v vs) t) (sym (append_assoc (value_text v) (more_items_text vs) t))
-      (more_items (both (one_byte refl) (one_blank no_more)) (value_says v (more_items_text vs ++ t) h.0) no_more (more_items_say vs t h.1))
+      subst (λ z. SaysMoreItems number_in (44 ∷ 32 ∷ z) (plains v vs) t) (sym (append_assoc (value_text v) (more_items_text vs) t))
+      (says_more_items (both (one_byte refl) (one_blank no_more)) (value_says v (more_items_text vs ++ t) h.0) no_more (more_items_say vs t h.1))
 
-  more_members_say : (ms : PlainMembers Decimal) (t : List ℕ) → MembersCanRead ms → MoreMembers number_in (more_members_text ms ++ t) ms t
-  more_members_say no_plain_members t h = no_more_member (one_byte refl)
+  more_members_say : (ms : PlainMembers Decimal) (t : List ℕ) → MembersCanRead ms → SaysMoreMembers number_in (more_members_text ms ++ t) ms t
+  more_members_say no_plain_members t h = says_no_more_member (one_byte refl)
   more_members_say (plain_members s v ms) t (hs, (hv, hms)) =
-      subst (λ z. MoreMembers number_in (44 ∷ 32 ∷ z) (plain_members s v ms) t) (sym (regrouped (string_text s) (value_text v) (more_members_text ms) t))
-      (more_members (both (one_byte refl) (one_blank no_more)) (member_says s v (more_members_text ms ++ t) hs (value_says v (more_members_text ms ++ t) hv)) no_more (more_members_say ms t hms))
+      subst (λ z. SaysMoreMembers number_in (44 ∷ 32 ∷ z) (plain_members s v ms) t) (sym (regrouped (string_text s) (value_text v) (more_members_text ms) t))
+      (says_more_members (both (one_byte refl) (one_blank no_more)) (member_says s v (more_members_text ms ++ t) hs (value_says v (more_members_text ms ++ t) hv)) no_more (more_members_say ms t hms))
 
-pub text_says : (v : Json) → CanRead v → IsText (value_text v) v
+pub text_says : (v : Json) → CanRead v → IsJson (value_text v) v
 text_says v h = record {
   before = value_text v;
   after = [];

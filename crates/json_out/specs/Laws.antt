@@ -45,7 +45,8 @@ SlicesStay = (source : List ℕ) (root n : Placed) → Shows source root → IsP
 
 -- tokens at two paths have members of two names
 abbrev pub PathsApart : Type 0
-PathsApart = (path other : List (List ℕ)) → IsTokenPath path → IsTokenPath other → path_text path ≡ path_text other → path ≡ other
+PathsApart = (path other : List (List ℕ)) → IsTokenPath path → IsTokenPath other
+    → path_text path ≡ path_text other → path ≡ other
 
 -- what JSON is to have of a value gives the value back under its kind
 abbrev pub ValuesDiffer : Type 0

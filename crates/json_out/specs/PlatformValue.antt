@@ -1,7 +1,9 @@
--- What JSON is to receive of a typed value: the JSON value of its kind, with all parts in the order of the kind's row (Format Module 2025.10).
+-- What JSON is to receive of a typed value: the JSON value of its kind, with all parts in the order of the kind's row (Format
+-- Module 2025.10).
 use Rattle.std.specs.Prelude.{ℕ, List, [], ◌∷◌, map, codes, Option, Some, None}
+use Rattle.tk_io.specs.Characters.{number_sign}
 use Rattle.dec_fix.specs.Decimal.{Decimal}
-use Rattle.json_span.specs.Plain.{Plain, PlainEntry, plain_boolean, plain_number, plain_string, plain_array, plain_object, plains_of, plain_members_of}
+use Rattle.json_span.specs.Plain.{PlainValue, PlainEntry, plain_boolean, plain_number, plain_string, plain_array, plain_object, plains_of, plain_members_of}
 use Rattle.type_rules.specs.Words.{size_unit_name, time_unit_name, space_name}
 use Rattle.type_rules.specs.declared.color.Color.{Color}
 use Rattle.type_rules.specs.declared.curve.Curve.{Curve}
@@ -22,7 +24,7 @@ use Rattle.composite_rules.specs.declared.typography.Typography.{Typography}
 
 -- a JSON value whose numbers are decimals
 abbrev pub Json : Type 0
-Json = Plain Decimal
+Json = PlainValue Decimal
 
 -- a member of an object
 abbrev pub Member : Type 0
@@ -38,10 +40,12 @@ abbrev pub array : List Json → Json
 array items = plain_array (plains_of items)
 
 abbrev pub size_json : Size → Json
-size_json s = object (member (codes "value") (plain_number s.value) ∷ member (codes "unit") (plain_string (size_unit_name s.unit)) ∷ [])
+size_json s =
+    object (member (codes "value") (plain_number s.value) ∷ member (codes "unit") (plain_string (size_unit_name s.unit)) ∷ [])
 
 abbrev pub time_json : Time → Json
-time_json t = object (member (codes "value") (plain_number t.value) ∷ member (codes "unit") (plain_string (time_unit_name t.unit)) ∷ [])
+time_json t =
+    object (member (codes "value") (plain_number t.value) ∷ member (codes "unit") (plain_string (time_unit_name t.unit)) ∷ [])
 
 abbrev pub curve_json : Curve → Json
 curve_json c = array (plain_number c.x1 ∷ plain_number c.y1 ∷ plain_number c.x2 ∷ plain_number c.y2 ∷ [])
@@ -53,7 +57,7 @@ component_json (Some d) = plain_number d
 -- six digits behind `#`, where they are given
 abbrev pub hex_members : Option (List ℕ) → List Member
 hex_members None = []
-hex_members (Some digits) = member (codes "hex") (plain_string (35 ∷ digits)) ∷ []
+hex_members (Some digits) = member (codes "hex") (plain_string (number_sign ∷ digits)) ∷ []
 
 abbrev pub color_json : Color → Json
 color_json c = object (
@@ -102,7 +106,8 @@ shadow_json item = object (
     )
 
 abbrev pub stop_json : ColorStop → Json
-stop_json stop = object (member (codes "color") (color_json stop.color) ∷ member (codes "position") (plain_number stop.position) ∷ [])
+stop_json stop =
+    object (member (codes "color") (color_json stop.color) ∷ member (codes "position") (plain_number stop.position) ∷ [])
 
 abbrev pub typography_json : Typography → Json
 typography_json t = object (

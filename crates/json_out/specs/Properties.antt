@@ -9,7 +9,7 @@ use Rattle.composite_rules.specs.Sound.{kind_of}
 use Rattle.composite_rules.specs.declared.typed.Typed.{Typed}
 use Rattle.json_out.specs.declared.extras.Extras.{Extras}
 use Rattle.json_out.specs.PlatformValue.{Json, Member, member, object, typed_json}
-use Rattle.json_out.specs.Reading.{IsText}
+use Rattle.json_out.specs.Reading.{IsJson}
 
 -- the description, the slice of the source that is the object of the extensions, and the mark that holds for the token
 pub record ExtrasData : Type 0 where
@@ -18,14 +18,15 @@ pub record ExtrasData : Type 0 where
   pub mark : Mark
 
 abbrev pub extras_view : Extras → ExtrasData
-extras_view e = record { description = option_map (λ t. t.now) e.description; extensions = option_map (λ t. t.now) e.extensions; mark = e.mark }
+extras_view e =
+    record { description = option_map (λ t. t.now) e.description; extensions = option_map (λ t. t.now) e.extensions; mark = e.mark }
 
 -- the extensions, where given, have this value
 abbrev pub HaveValue : Option (List ℕ) → Option Json → Type 0
 HaveValue None None = ⊤
 HaveValue None (Some v) = ⊥
 HaveValue (Some text) None = ⊥
-HaveValue (Some text) (Some v) = IsText text v
+HaveValue (Some text) (Some v) = IsJson text v
 
 -- a token that is not deprecated says nothing of it
 abbrev pub mark_json : Mark → Option Json

@@ -73,14 +73,14 @@ abbrev pub cell_member : Cell → Member
 cell_member c = token_member c.path c.typed c.extras c.extensions
 
 -- a token whose value can be had, of texts in memory, with the value of its extensions
-pub record IsCell (c : Cell) : Type 0 where
+pub record IsJsonCell (c : Cell) : Type 0 where
   pub typed : IsTyped c.typed
   pub bytes : AreBytes c.path c.typed c.extras
   pub extensions : HaveValue c.extras.extensions c.extensions
 
 -- tokens that make a sheet
 abbrev pub IsSheet : List Cell → Type 0
-IsSheet cells = AllByRecursion IsCell cells
+IsSheet cells = AllByRecursion IsJsonCell cells
 
 -- the bytes of the sheet, and its members
 abbrev pub sheet_bytes : List Cell → List ℕ

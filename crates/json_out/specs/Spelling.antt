@@ -37,7 +37,8 @@ abbrev mutual
 
   pub more_members_text : PlainMembers Decimal → List ℕ
   more_members_text no_plain_members = codes "}"
-  more_members_text (plain_members name v ms) = codes ", " ++ (string_text name ++ (codes ": " ++ (value_text v ++ more_members_text ms)))
+  more_members_text (plain_members name v ms) =
+      codes ", " ++ (string_text name ++ (codes ": " ++ (value_text v ++ more_members_text ms)))
 
 -- a member behind others, where there is a text for its value
 abbrev pub given_text : List ℕ → Option (List ℕ) → List ℕ

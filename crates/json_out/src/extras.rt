@@ -3,7 +3,7 @@
 use token_tree::Mark;
 
 /// What only JSON shows of a token, beside its type and value (Format Module 2025.10, properties of tokens).
-#[derive(Drop)]
+#[derive(Debug, Drop)]
 pub struct Extras<'a> {
     /// `$description`, where given.
     pub description: Option<&'a str>,

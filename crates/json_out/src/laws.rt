@@ -1,6 +1,7 @@
 //! Laws of the definitions alone, for the layers above.
 
-ghost use Rattle.json_out.specs.Laws.{NumbersAreSpelled, TextsRead, ReadOnce, FragmentsRead, SlicesStay, PathsApart, ValuesDiffer, SheetsDenote};
+ghost use Rattle.json_out.specs.Laws.{NumbersAreSpelled, TextsRead, ReadOnce, FragmentsRead};
+ghost use Rattle.json_out.specs.Laws.{SlicesStay, PathsApart, ValuesDiffer, SheetsDenote};
 
 /// The number that is read of a JSON number's text is the one that the text spells (RFC 8259 section 6). Texts that are
 /// members, one after another in the frame, are one object of these members. Bytes are one object at most.

@@ -52,9 +52,9 @@ fn is_written(alloc: Global, path: &Path<'_>, kind: Kind, row: &str) -> Result<b
     };
     let frag = fragment(alloc, path, &typed, &alone())?;
     let mut member = Bytes::new(alloc);
-    member.append(b"  \"t\": {\"$type\": \"")?;
+    member.append(br#"  "t": {"$type": ""#)?;
     member.append(kind.name().as_bytes())?;
-    member.append(b"\", \"$value\": ")?;
+    member.append(br#"", "$value": "#)?;
     member.append(wanted.as_bytes())?;
     member.append(b"}")?;
     Ok(frag.body.as_slice() == member.as_slice() && frag.names.is_empty())
@@ -126,21 +126,22 @@ fn tokens_have_their_members(rt: HostRuntime) -> Result<(), Fail> {
     Ok(())
 }
 
+const ONE_TOKEN: &str = r#"{
+  "a": {"$type": "number", "$value": 1}
+}
+"#;
+
+const TWO_TOKENS: &str = r#"{
+  "a": {"$type": "number", "$value": 1},
+  "b": {"$type": "number", "$value": 1}
+}
+"#;
+
 /// Sheets of no, one and two tokens.
 #[test]
 fn sheets_have_their_frame(rt: HostRuntime) -> Result<(), Fail> {
     let alloc = rt.alloc();
-    for (names, wanted) in [
-        ("", "{\n}\n"),
-        (
-            "a",
-            "{\n  \"a\": {\"$type\": \"number\", \"$value\": 1}\n}\n",
-        ),
-        (
-            "a b",
-            "{\n  \"a\": {\"$type\": \"number\", \"$value\": 1},\n  \"b\": {\"$type\": \"number\", \"$value\": 1}\n}\n",
-        ),
-    ] {
+    for (names, wanted) in [("", "{\n}\n"), ("a", ONE_TOKEN), ("a b", TWO_TOKENS)] {
         let mut sheet = Sheet::start(alloc, frame())?;
         for name in names.split(' ') {
             if name.is_empty() {

@@ -4,7 +4,8 @@ ghost use Rattle.std.specs.Prelude.{◌≡◌, true, option_map};
 ghost use Rattle.std.specs.List.{list_all};
 ghost use Rattle.json_span.specs.Spelling.{are_bytes};
 ghost use Rattle.json_out.specs.Properties.{extras_view};
-ghost use Rattle.json_out.specs.Sheets.{AreBytes, families_in, simple_families, reason_of, text_or_none};
+ghost use Rattle.json_out.specs.Sheets.{AreBytes, families_in, simple_families, reason_of};
+ghost use Rattle.json_out.specs.Sheets.{text_or_none};
 
 use crate::extras::Extras;
 use composite_rules::Typed;

@@ -4,7 +4,10 @@ ghost use Rattle.std.specs.Prelude.{◌≡◌, ◌∷◌, ◌++◌, OnOk};
 ghost use Rattle.json_span.specs.Plain.{plain_string, plain_members_of};
 ghost use Rattle.type_rules.specs.Words.{size_unit_name, time_unit_name, space_name};
 ghost use Rattle.composite_rules.specs.Words.{stroke_word_name, cap_name};
-ghost use Rattle.json_out.specs.PlatformValue.{component_json, hex_members, size_json, time_json, curve_json, color_json, stroke_json, border_json, transition_json, shadow_json, stop_json, typography_json, simple_json, typed_json};
+ghost use Rattle.json_out.specs.PlatformValue.{component_json, hex_members, size_json, time_json};
+ghost use Rattle.json_out.specs.PlatformValue.{curve_json, color_json, stroke_json, border_json};
+ghost use Rattle.json_out.specs.PlatformValue.{transition_json, shadow_json, stop_json};
+ghost use Rattle.json_out.specs.PlatformValue.{typography_json, simple_json, typed_json};
 ghost use Rattle.json_out.specs.Spelling.{value_text, more_members_text};
 
 use crate::spelling::{Spell, list_behind, spell_behind, spell_list, spell_word};

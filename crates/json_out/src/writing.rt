@@ -7,7 +7,8 @@ ghost use Rattle.name_path.specs.Reference.{path_text};
 ghost use Rattle.transforms.specs.View.{frame_view};
 ghost use Rattle.composite_rules.specs.Sound.{IsTyped, kind_of};
 ghost use Rattle.json_out.specs.Properties.{extras_view, mark_json};
-ghost use Rattle.json_out.specs.Spelling.{value_text, given_text, extras_text, token_text, fragment_text};
+ghost use Rattle.json_out.specs.Spelling.{value_text, given_text, extras_text, token_text};
+ghost use Rattle.json_out.specs.Spelling.{fragment_text};
 ghost use Rattle.json_out.specs.Sheets.{json_frame, AreBytes, IsReadAsMember};
 
 use crate::extras::Extras;

@@ -8,7 +8,7 @@ use Rattle.std.proofs.lemmas.Cmp.{tied_itself}
 use Rattle.std.proofs.lemmas.List.Kept.{AllPairs-cons}
 use Rattle.std.proofs.lemmas.List.{get_or_default}
 use Rattle.tk_io.specs.Order.{text_cmp}
-use Rattle.transforms.specs.Clash.{Taken, with_names, is_among, Named, AllAdded, ShareNoName, IsNameAt, NamesAreApart, NamesAreThere, NamesComeFromTokens}
+use Rattle.transforms.specs.Clash.{Taken, with_names, is_among, NamedToken, AllAdded, ShareNoName, HasName, NamesAreApart, NamesAreThere, NamesComeFromTokens}
 use Rattle.transforms.proofs.Taken.{get-with_names, absent, same_name}
 
 -- an element is the first, or one of the others
@@ -53,7 +53,7 @@ some_other : {X : Type 0} {x : X} → Some x ≡ None → ⊥
 some_other e = cc
 
 -- a name that is there stays under its path
-stays : (tokens : List Named) (before after : Taken) → AllAdded before tokens after → (name : List ℕ) (path : List (List ℕ)) → map.get before name ≡ Some path → map.get after name ≡ Some path
+stays : (tokens : List NamedToken) (before after : Taken) → AllAdded before tokens after → (name : List ℕ) (path : List (List ℕ)) → map.get before name ≡ Some path → map.get after name ≡ Some path
 stays [] before after added name path there = ap (λ m. map.get m name) added ∙ there
 stays (token ∷ tokens) before after added name path there =
     stays tokens (with_names before token.names token.path) after added.1 name path (at (is_among name token.names) refl)
@@ -63,7 +63,7 @@ stays (token ∷ tokens) before after added name path there =
     at false is = get-with_names before token.names token.path name ∙ (ap (λ b. cond b (Some token.path) (map.get before name)) is ∙ there)
 
 -- no token has a name that was there before
-fresh : (tokens : List Named) (before after : Taken) → AllAdded before tokens after → (token : Named) → Contains tokens token
+fresh : (tokens : List NamedToken) (before after : Taken) → AllAdded before tokens after → (token : NamedToken) → Contains tokens token
     → (name : List ℕ) → Contains token.names name → map.get before name ≡ None
 fresh [] before after added token there name has = absurd (omega (arith, there.1))
 fresh (first ∷ tokens) before after added token there name has = elim (first_or_later first tokens token there) [
@@ -75,7 +75,7 @@ fresh (first ∷ tokens) before after added token there name has = elim (first_o
     at true is none = absent before first.names added.0 name is
     at false is none = sym (get-with_names before first.names first.path name ∙ ap (λ b. cond b (Some first.path) (map.get before name)) is) ∙ none
 
-apart : (tokens : List Named) (before after : Taken) → AllAdded before tokens after → AllPairs ShareNoName tokens
+apart : (tokens : List NamedToken) (before after : Taken) → AllAdded before tokens after → AllPairs ShareNoName tokens
 apart [] before after added = λ i j d less within. absurd (omega arith)
 apart (token ∷ tokens) before after added =
     AllPairs-cons ShareNoName token tokens others (apart tokens (with_names before token.names token.path) after added.1)
@@ -87,7 +87,7 @@ apart (token ∷ tokens) before after added =
     others = λ k d less name has its. some_other (sym (now name has)
         ∙ fresh tokens (with_names before token.names token.path) after added.1 (get_or tokens k d) (k, less, get_or_default tokens k (get_or tokens k d) d less) name its)
 
-there_later : (tokens : List Named) (before after : Taken) → AllAdded before tokens after → (token : Named) → Contains tokens token
+there_later : (tokens : List NamedToken) (before after : Taken) → AllAdded before tokens after → (token : NamedToken) → Contains tokens token
     → (name : List ℕ) → Contains token.names name → map.get after name ≡ Some token.path
 there_later [] before after added token there name has = absurd (omega (arith, there.1))
 there_later (first ∷ tokens) before after added token there name has = elim (first_or_later first tokens token there) [
@@ -98,14 +98,14 @@ there_later (first ∷ tokens) before after added token there name has = elim (f
 ]
 
 -- a name that is there was there before, or is a token's
-comes : (tokens : List Named) (before after : Taken) → AllAdded before tokens after → (name : List ℕ) (path : List (List ℕ))
-    → map.get after name ≡ Some path → (map.get before name ≡ Some path) ⊎ IsNameAt tokens name path
+comes : (tokens : List NamedToken) (before after : Taken) → AllAdded before tokens after → (name : List ℕ) (path : List (List ℕ))
+    → map.get after name ≡ Some path → (map.get before name ≡ Some path) ⊎ HasName tokens name path
 comes [] before after added name path there = inl (ap (λ m. map.get m name) (sym added) ∙ there)
 comes (token ∷ tokens) before after added name path there =
     at (comes tokens (with_names before token.names token.path) after added.1 name path there)
   where
     here : (b : Bool) → is_among name token.names ≡ b → map.get (with_names before token.names token.path) name ≡ Some path
-        → (map.get before name ≡ Some path) ⊎ IsNameAt (token ∷ tokens) name path
+        → (map.get before name ≡ Some path) ⊎ HasName (token ∷ tokens) name path
     here true is found = inr (record {
       token = token;
       there = the_first token tokens token refl;
@@ -114,7 +114,7 @@ comes (token ∷ tokens) before after added name path there =
     })
     here false is found = inl (sym (get-with_names before token.names token.path name ∙ ap (λ b. cond b (Some token.path) (map.get before name)) is) ∙ found)
 
-    at : (map.get (with_names before token.names token.path) name ≡ Some path) ⊎ IsNameAt tokens name path → (map.get before name ≡ Some path) ⊎ IsNameAt (token ∷ tokens) name path
+    at : (map.get (with_names before token.names token.path) name ≡ Some path) ⊎ HasName tokens name path → (map.get before name ≡ Some path) ⊎ HasName (token ∷ tokens) name path
     at (inl found) = here (is_among name token.names) refl found
     at (inr is) = inr (record { token = is.token; there = a_later token tokens is.token is.there; path_is = is.path_is; has_name = is.has_name })
 

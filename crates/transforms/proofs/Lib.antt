@@ -1,15 +1,15 @@
 pub mod Spelled
-pub mod Names
+mod Names
 pub mod Taken
-pub mod FirstRefused
-pub mod Added
-pub mod HexDigits
+mod FirstRefused
+mod Added
+mod HexDigits
 pub mod Endings
-pub mod Allowed
-pub mod PathsNamed
+mod Allowed
+mod PathsNamed
 pub mod FiveNamesDiffer
 pub mod NamesApart
 pub mod PlainFramesJoin
 pub mod QuotedReadsBack
-pub mod RunsAreFronts
+pub mod RunsAreFirst
 pub mod ScaledAreWritten

@@ -7,7 +7,7 @@ use Rattle.std.specs.FinMap as map
 use Rattle.std.specs.Map.{lookup, remove_entry}
 use Rattle.std.specs.Ordering.{is_eq}
 use Rattle.tk_io.specs.Order.{text_cmp}
-use Rattle.tk_io.specs.Shown.{shown_by}
+use Rattle.tk_io.specs.View.{entries_view}
 use Rattle.tk_io.proofs.MapViews as views
 use Rattle.tk_io.proofs.TextMaps.{text_cmp-IsAntisymmetric}
 
@@ -18,7 +18,7 @@ same_option (Some v) = refl
 module _ {Z X : Type 0} where
   -- the map that the entries show
   abbrev pub by_name : List (Vec ℕ Z × X) → map.FinMap text_cmp X
-  by_name es = map.from_entries (shown_by (λ name. name.items) (λ v. v) es)
+  by_name es = map.from_entries (entries_view (λ name. name.items) (λ v. v) es)
 
   pub name_get : (es : List (Vec ℕ Z × X)) (q : List ℕ) → lookup (λ k. is_eq (text_cmp q k.items)) es ≡ map.get (by_name es) q
   name_get es q = sym (views.get_shown nat_list_cmp_total text_cmp-IsAntisymmetric (λ name. name.items) (λ v. v) es q ∙ same_option _)

@@ -5,7 +5,7 @@ use Rattle.std.specs.List.{AllByRecursion}
 use Rattle.ring.specs.Lists.{In, AreApart, Each}
 use Rattle.ring.proofs.Ends.{in_left, in_right, in_cases}
 use Rattle.ring.proofs.ListWords.{in_has_place}
-use Rattle.transforms.specs.Clash.{Named, ShareNoName, AllNamesApart}
+use Rattle.transforms.specs.Clash.{NamedToken, ShareNoName, AllNamesApart}
 
 pub in_flat : {A B : Type 0} (f : A → List B) (a : A) (b : B) (xs : List A) → In a xs → In b (f a) → In b (flat_map f xs)
 in_flat f a b [] i j = absurd i
@@ -51,7 +51,7 @@ apart_append (x ∷ xs) ys h i none = (
 )
 
 -- the same of whatever has names
-module _ {A : Type 0} (named : A → Named) where
+module _ {A : Type 0} (named : A → NamedToken) where
   pub names_apart : (xs : List A) → Each xs (λ x. AreApart (named x).names) → AllPairs ShareNoName (map named xs)
       → AreApart (flat_map (λ x. (named x).names) xs)
   names_apart [] own h = tt

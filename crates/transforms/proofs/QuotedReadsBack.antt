@@ -1,7 +1,8 @@
 -- What is spelled between quotes is read as it is, and what is read of a text is read whatever follows it.
 use Rattle.std.proofs.Common.{◌≡◌, ℕ, ◌==◌, ◌||◌, Bool, true, false, List, [], ◌∷◌, ◌++◌, flat_map, refl, ap, subst, Option, Some, None, arith}
 use Rattle.std.specs.Prelude.{if◌then◌else◌}
-use Rattle.transforms.specs.Quoted.{quote, backslash, escape, with_first, string_from, QuotedReadsBack, QuotedReadsOn}
+use Rattle.tk_io.specs.Characters.{quote, backslash}
+use Rattle.transforms.specs.Quoted.{escaped_character, with_first, string_from, QuotedReadsBack, QuotedReadsOn}
 
 escaped_step : (c : ℕ) (s x t : List ℕ) (b : Bool) → ((c == quote) || (c == backslash)) ≡ b → string_from false (s ++ quote ∷ t) ≡ Some (x, t)
     → string_from false (((if b then backslash ∷ c ∷ [] else c ∷ []) ++ s) ++ quote ∷ t) ≡ Some (c ∷ x, t)
@@ -11,7 +12,7 @@ escaped_step c s x t false e again =
 
 pub string_again : QuotedReadsBack
 string_again [] t = refl
-string_again (c ∷ x) t = escaped_step c (flat_map escape x) x t ((c == quote) || (c == backslash)) refl (string_again x t)
+string_again (c ∷ x) t = escaped_step c (flat_map escaped_character x) x t ((c == quote) || (c == backslash)) refl (string_again x t)
 
 -- what is found, and what is found with more behind
 abbrev pub Longer : List ℕ → Option (List ℕ × List ℕ) → Option (List ℕ × List ℕ) → Type 0

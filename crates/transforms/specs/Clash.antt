@@ -36,42 +36,43 @@ Leaves before names path after None = AddsNames before after names path
 Leaves before names path after (Some other) = after ≡ before
 
 -- a token's path and its names
-pub record Named : Type 0 where
+pub record NamedToken : Type 0 where
   pub path : List (List ℕ)
   pub names : List (List ℕ)
 
 -- the tokens are added one after another, none of their names is there before, and these are the names afterwards
-abbrev pub AllAdded : Taken → List Named → Taken → Type 0
+abbrev pub AllAdded : Taken → List NamedToken → Taken → Type 0
 AllAdded before [] after = after ≡ before
 AllAdded before (token ∷ tokens) after =
     (first_taken before token.names ≡ None) × AllAdded (with_names before token.names token.path) tokens after
 
 -- no name is a name of both
-abbrev pub ShareNoName : Named → Named → Type 0
+abbrev pub ShareNoName : NamedToken → NamedToken → Type 0
 ShareNoName earlier later = (name : List ℕ) → Contains earlier.names name → Contains later.names name → ⊥
 
 -- a token has the name, and this is its path
-pub record IsNameAt (tokens : List Named) (name : List ℕ) (path : List (List ℕ)) : Type 0 where
-  pub token : Named
+pub record HasName (tokens : List NamedToken) (name : List ℕ) (path : List (List ℕ)) : Type 0 where
+  pub token : NamedToken
   pub there : Contains tokens token
   pub path_is : token.path ≡ path
   pub has_name : Contains token.names name
 
 -- no token has a name of an earlier one
 abbrev pub NamesAreApart : Type 0
-NamesAreApart = (tokens : List Named) (taken : Taken) → AllAdded map.empty tokens taken → AllPairs ShareNoName tokens
+NamesAreApart = (tokens : List NamedToken) (taken : Taken) → AllAdded map.empty tokens taken
+    → AllPairs ShareNoName tokens
 
 -- each name of a token is there, under the token's path
 abbrev pub NamesAreThere : Type 0
-NamesAreThere = (tokens : List Named) (taken : Taken) → AllAdded map.empty tokens taken
-    → (name : List ℕ) (path : List (List ℕ)) → IsNameAt tokens name path → map.get taken name ≡ Some path
+NamesAreThere = (tokens : List NamedToken) (taken : Taken) → AllAdded map.empty tokens taken
+    → (name : List ℕ) (path : List (List ℕ)) → HasName tokens name path → map.get taken name ≡ Some path
 
 -- each name that is there is the name of a token of that path
 abbrev pub NamesComeFromTokens : Type 0
-NamesComeFromTokens = (tokens : List Named) (taken : Taken) → AllAdded map.empty tokens taken
-    → (name : List ℕ) (path : List (List ℕ)) → map.get taken name ≡ Some path → IsNameAt tokens name path
+NamesComeFromTokens = (tokens : List NamedToken) (taken : Taken) → AllAdded map.empty tokens taken
+    → (name : List ℕ) (path : List (List ℕ)) → map.get taken name ≡ Some path → HasName tokens name path
 
 -- all names are apart, where those of each token are and no two tokens share one
 abbrev pub AllNamesApart : Type 0
-AllNamesApart = (tokens : List Named) → Each tokens (λ token. AreApart token.names) → AllPairs ShareNoName tokens
+AllNamesApart = (tokens : List NamedToken) → Each tokens (λ token. AreApart token.names) → AllPairs ShareNoName tokens
     → AreApart (flat_map (λ token. token.names) tokens)

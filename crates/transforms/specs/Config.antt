@@ -90,7 +90,7 @@ pub record IsFirstRefused (table : Members) (key : List ℕ) : Type 0 where
   pub first : (other : List ℕ) (its : Data) → get_member other table ≡ Some its → is_setting other its ≡ false
       → text_cmp key other ≢ Greater
 
--- the fault that the text gives; want of memory says nothing of it
+-- the fault that the text gives; out of memory says nothing of it
 abbrev pub IsFaultOf : List ℕ → ConfigFault → Type 0
 IsFaultOf text Toml = config_of text ≡ Err Toml
 IsFaultOf text (Key key) = config_of text ≡ Err (Key key)

@@ -3,6 +3,7 @@ use Rattle.std.specs.Prelude.{◌≡◌, ℕ, ◌==◌, ◌&&◌, ◌||◌, not,
 use Rattle.std.specs.Char.{is_ascii_alphanumeric, is_ascii_digit}
 use Rattle.std.specs.List.{flat_map, join_with_byte, list_all, starts_with}
 use Rattle.std.specs.Str.{bytes_eq, chars, IsUtf8}
+use Rattle.tk_io.specs.Characters.{hyphen, low_line}
 use Rattle.name_path.specs.Names.{root_name, IsTokenPath}
 use Rattle.transforms.specs.Config.{Settings, AreAllowed}
 use Rattle.transforms.specs.Hexadecimal.{hex_number}
@@ -11,13 +12,13 @@ use Rattle.transforms.specs.declared.platform.Platform.TheVariants.{Css, Android
 
 -- what joins the pieces of a name: '-' or '_'
 abbrev pub joint : Platform → ℕ
-joint Css = 45
-joint Android = 95
-joint Swift = 95
+joint Css = hyphen
+joint Android = low_line
+joint Swift = low_line
 
 -- an ASCII letter, a digit, '_', and on CSS '-'
 abbrev pub is_kept : Platform → ℕ → Bool
-is_kept platform c = is_ascii_alphanumeric c || ((c == 95) || (c == joint platform))
+is_kept platform c = is_ascii_alphanumeric c || ((c == low_line) || (c == joint platform))
 
 -- a character: one beyond ASCII is 'u' and its number
 abbrev pub spelled_char : Platform → ℕ → List ℕ
@@ -87,5 +88,6 @@ EndingsStay = (platform : Platform) (name ending : List ℕ) → is_name_on plat
 
 -- the path of a token has a name on each platform
 abbrev pub PathsAreNamed : Type 0
-PathsAreNamed = (platform : Platform) (settings : Settings) (path : List (List ℕ)) → AreAllowed settings → All IsUtf8 path
+PathsAreNamed = (platform : Platform) (settings : Settings) (path : List (List ℕ)) → AreAllowed settings
+    → All IsUtf8 path
     → IsTokenPath path → is_name_on platform (name_on platform settings.prefix path) ≡ true

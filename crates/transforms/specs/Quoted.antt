@@ -2,23 +2,18 @@
 use Rattle.std.specs.Prelude.{◌≡◌, ℕ, ◌==◌, ◌||◌, not, ◌&&◌, nat_le, Bool, true, false, List, [], ◌∷◌, ◌++◌, flat_map, Option, Some, None, option_map, if◌then◌else◌}
 use Rattle.std.specs.List.{list_all}
 use Rattle.std.specs.Str.{chars}
-
-abbrev pub quote : ℕ
-quote = 34
-
-abbrev pub backslash : ℕ
-backslash = 92
+use Rattle.tk_io.specs.Characters.{backslash, blank, quote}
 
 -- a character from U+0020 on, and not U+007F, U+FFFE or U+FFFF
 abbrev pub is_printable_char : ℕ → Bool
-is_printable_char c = nat_le 32 c && not ((c == 127) || ((c == 65534) || (c == 65535)))
+is_printable_char c = nat_le blank c && not ((c == 127) || ((c == 65534) || (c == 65535)))
 
 abbrev pub is_printable : List ℕ → Bool
 is_printable text = list_all is_printable_char (chars text)
 
 -- a `\` before `"` and `\`
-abbrev pub escape : ℕ → List ℕ
-escape c = if (c == quote) || (c == backslash) then backslash ∷ c ∷ [] else c ∷ []
+abbrev pub escaped_character : ℕ → List ℕ
+escaped_character c = if (c == quote) || (c == backslash) then backslash ∷ c ∷ [] else c ∷ []
 
 -- the text and a character, which stands before it
 abbrev pub with_first : ℕ → Option (List ℕ × List ℕ) → Option (List ℕ × List ℕ)
@@ -35,7 +30,8 @@ string_from false (c ∷ t) =
 
 -- what is spelled between quotes is read as it is
 abbrev pub QuotedReadsBack : Type 0
-QuotedReadsBack = (text behind : List ℕ) → string_from false (flat_map escape text ++ quote ∷ behind) ≡ Some (text, behind)
+QuotedReadsBack = (text behind : List ℕ)
+    → string_from false (flat_map escaped_character text ++ quote ∷ behind) ≡ Some (text, behind)
 
 -- what is read of a text is read whatever follows the text
 abbrev pub QuotedReadsOn : Type 0

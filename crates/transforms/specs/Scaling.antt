@@ -9,4 +9,5 @@ scaled value is_rem base = if is_rem then times value base else value
 
 -- what is scaled of an exact number is a number that can be written
 abbrev pub ScaledAreWritten : Type 0
-ScaledAreWritten = (value : Decimal) (is_rem : Bool) (base : ℕ) → IsExact value → base < 2 ^ 8 → IsDec (scaled value is_rem base)
+ScaledAreWritten = (value : Decimal) (is_rem : Bool) (base : ℕ) → IsExact value → base < 2 ^ 8
+    → IsDec (scaled value is_rem base)

@@ -55,5 +55,6 @@ Gains before after body =
     (frame : FrameData) (bodies : List (List ℕ)) → Holds before frame bodies → Holds after frame (bodies ++ body ∷ [])
 
 -- the bytes are the sheet of all that it holds
-abbrev pub IsTextOf : OpenSheet → List ℕ → Type 0
-IsTextOf sheet bytes = (frame : FrameData) (bodies : List (List ℕ)) → Holds sheet frame bodies → bytes ≡ sheet_text frame bodies
+abbrev pub IsSheetText : OpenSheet → List ℕ → Type 0
+IsSheetText sheet bytes = (frame : FrameData) (bodies : List (List ℕ)) → Holds sheet frame bodies
+    → bytes ≡ sheet_text frame bodies

@@ -1,4 +1,4 @@
 pub mod Joined
-pub mod Glue
+pub mod Growing
 pub mod Elsewhere
 pub mod Unread

@@ -4,7 +4,8 @@ ghost use Rattle.std.specs.Prelude.{◌≡◌, IfOk, OnOk, OnErr};
 ghost use Rattle.std.specs.FinMap as map;
 ghost use Rattle.std.specs.Option.{option_copied};
 ghost use Rattle.transforms.specs.Clash.{first_taken, with_names, Leaves};
-ghost use Rattle.transforms.specs.inner.Elsewhere.{PutsName, SameElsewhere, RemovesName, RemovesNames};
+ghost use Rattle.transforms.specs.inner.Elsewhere.{PutsName, SameElsewhere, RemovesName};
+ghost use Rattle.transforms.specs.inner.Elsewhere.{RemovesNames};
 
 use crate::Names;
 use name_path::Path;
@@ -14,7 +15,7 @@ use std::marker::Model;
 use tk_io::{Bytes, NoMemory};
 
 /// The names that tokens have on one platform, seen as a finite map from each name to the path of its token.
-#[derive(Drop)]
+#[derive(Debug, Drop)]
 pub struct Clash<'s> {
     alloc: Global,
     paths: BTreeMap<Vec<u8>, Path<'s>>,
@@ -25,13 +26,14 @@ impl<'s> Model for Clash<'s> {
     ghost use Rattle.std.specs.FinMap as map;
     ghost use Rattle.std.specs.Coded.{coded_list, coded_ℕ};
     ghost use Rattle.tk_io.specs.Order.{text_cmp};
-    ghost use Rattle.tk_io.specs.Shown.{shown_by};
+    ghost use Rattle.tk_io.specs.View.{entries_view};
 
     ghost Value = { map.FinMap text_cmp (List (List ℕ)) };
 
     ghost coded = { map.code (coded_list coded_ℕ) (coded_list (coded_list coded_ℕ)) };
 
-    ghost view = { λ c. map.from_entries (shown_by (λ name. name.items) (λ path. path) c.paths.entries) };
+    ghost view = { λ c. map.from_entries
+        (entries_view (λ name. name.items) (λ path. path) c.paths.entries) };
 }
 
 impl<'s> Clash<'s> {

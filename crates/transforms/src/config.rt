@@ -1,13 +1,16 @@
 // The configuration.
 
-ghost use Rattle.std.specs.Prelude.{◌≡◌, ◌≢◌, true, Ok, Err, Some, None, IfOk, IfErr, IfSome, option_map};
+ghost use Rattle.std.specs.Prelude.{◌≡◌, ◌≢◌, true, Ok, Err, Some, None, IfOk, IfErr, IfSome};
+ghost use Rattle.std.specs.Prelude.{option_map};
 ghost use Rattle.std.specs.List.{list_all};
 ghost use Rattle.std.specs.Char.{is_ascii_alphanumeric};
 ghost use Rattle.toml.specs.Data.{get_member};
 ghost use Rattle.toml.specs.Parse.{parse_document};
 ghost use Rattle.toml.specs.View.{view, table_view};
 ghost use Rattle.transforms.specs.inner.Unread.{IsUnread};
-ghost use Rattle.transforms.specs.Config.{is_prefix, plain, prefix_in, base_in, is_setting, first_refused, settings_in, config_of, IsFirstRefused, IsFaultOf, RefusesFirst};
+ghost use Rattle.transforms.specs.Config.{is_prefix, plain, prefix_in, base_in, is_setting};
+ghost use Rattle.transforms.specs.Config.{first_refused, settings_in, config_of, IsFirstRefused};
+ghost use Rattle.transforms.specs.Config.{IsFaultOf, RefusesFirst};
 
 use std::alloc::Global;
 use std::marker::Model;
@@ -15,7 +18,7 @@ use tk_io::{Bytes, NoMemory};
 use toml::{Table, Value};
 
 /// How names and values are spelled. The prefix is empty, or an ASCII letter and at most 31 ASCII letters and digits.
-#[derive(Drop)]
+#[derive(Debug, Drop)]
 pub struct Config {
     /// What goes before the names of each path.
     pub prefix: Bytes,
@@ -26,7 +29,7 @@ pub struct Config {
 }
 
 /// Why a text gives no configuration.
-#[derive(Drop)]
+#[derive(Debug, Drop)]
 pub enum ConfigFault {
     /// The text is no TOML.
     Toml,
@@ -39,9 +42,9 @@ pub enum ConfigFault {
 /// Memory ran out.
 impl From<NoMemory> for ConfigFault {
     ghost use Rattle.std.specs.Prelude.{◌≡◌};
-    ghost use Rattle.transforms.specs.declared.config.ConfigFault.TheVariants.{NoMemory as OutOfMemory};
+    ghost use Rattle.transforms.specs.declared.config.ConfigFault.TheVariants as fault;
 
-    ghost from_gives = { λ _ e. e ≡ OutOfMemory };
+    ghost from_gives = { λ _ e. e ≡ fault.NoMemory };
 
     fn from(_: NoMemory) -> ConfigFault {
         ConfigFault::NoMemory
@@ -50,12 +53,12 @@ impl From<NoMemory> for ConfigFault {
 
 impl Model for Config {
     ghost use Rattle.std.specs.Prelude.{◌≡◌, true};
-    ghost use Rattle.transforms.specs.inner.Unread.{IsUnread};
     ghost use Rattle.transforms.specs.Config.{Settings, is_prefix};
 
     ghost Value = { Settings };
 
-    ghost view = { λ c. record { prefix = c.prefix; rem_base = c.rem_base; references = c.references } };
+    ghost view = { λ c. record
+        { prefix = c.prefix; rem_base = c.rem_base; references = c.references } };
 
     ghost invariant = { λ c. is_prefix c.prefix ≡ true };
 }

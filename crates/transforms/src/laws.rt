@@ -1,12 +1,13 @@
 // Laws of the definitions alone, for the layers above.
 
-ghost use Rattle.transforms.specs.Clash.{AllNamesApart, NamesAreApart, NamesAreThere, NamesComeFromTokens};
+ghost use Rattle.transforms.specs.Clash.{AllNamesApart, NamesAreApart, NamesAreThere};
+ghost use Rattle.transforms.specs.Clash.{NamesComeFromTokens};
 ghost use Rattle.transforms.specs.Config.{plain, AreAllowed, TextsSayAllowed};
 ghost use Rattle.transforms.specs.FiveNames.{FiveNamesDiffer};
 ghost use Rattle.transforms.specs.Hexadecimal.{NumbersReadBack};
 ghost use Rattle.transforms.specs.PlatformName.{EndingsStay, PathsAreNamed};
 ghost use Rattle.transforms.specs.Quoted.{QuotedReadsBack, QuotedReadsOn};
-ghost use Rattle.transforms.specs.Runs.{NumbersPass, NumbersStart, RunsAreFronts};
+ghost use Rattle.transforms.specs.Runs.{NumbersPass, NumbersStart, RunsAreFirst};
 ghost use Rattle.transforms.specs.Scaling.{ScaledAreWritten};
 ghost use Rattle.transforms.specs.Sheet.{PlainFramesJoin};
 
@@ -37,12 +38,12 @@ pub fn name_laws()
 {}
 
 /// What is spelled between quotes is read as it is, and what is read of a text is read whatever follows the text. A run of
-/// bytes that pass a test is the front of a text, up to a byte that does not. What is spelled of a number begins with one,
-/// and passes each test that digits, `-` and `.` pass. A length that is scaled can be spelled.
+/// bytes that pass a test is the longest such prefix of a text where a byte that does not pass follows. What is spelled of a
+/// number begins with one, and passes each test that digits, `-` and `.` pass. A length that is scaled can be spelled.
 pub fn spelling_laws()
     ensures back { QuotedReadsBack }
     ensures on { QuotedReadsOn }
-    ensures runs { RunsAreFronts }
+    ensures runs { RunsAreFirst }
     ensures start { NumbersStart }
     ensures pass { NumbersPass }
     ensures scaled { ScaledAreWritten }

@@ -6,7 +6,10 @@ ghost use Rattle.std.specs.Str.{bytes_eq};
 ghost use Rattle.name_path.specs.Names.{IsTokenPath, root_name};
 ghost use Rattle.transforms.specs.Config.{is_prefix};
 ghost use Rattle.transforms.specs.inner.Joined.{joined_names, HasFirst};
-ghost use Rattle.transforms.specs.PlatformName.{joint, is_kept, spelled_char, spelled, without_root, joined, begins_with_digit, behind_mark, is_property, is_identifier, name_on, is_name_on};
+ghost use Rattle.transforms.specs.PlatformName.{joint, is_kept, spelled_char, spelled};
+ghost use Rattle.transforms.specs.PlatformName.{without_root, joined, begins_with_digit};
+ghost use Rattle.transforms.specs.PlatformName.{behind_mark, is_property, is_identifier, name_on};
+ghost use Rattle.transforms.specs.PlatformName.{is_name_on};
 
 use crate::hexadecimal::append_number;
 use crate::{Config, Platform};

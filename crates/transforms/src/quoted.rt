@@ -2,7 +2,7 @@
 
 ghost use Rattle.std.specs.Prelude.{◌≡◌, ◌++◌, OnOk};
 ghost use Rattle.std.specs.List.{flat_map};
-ghost use Rattle.transforms.specs.Quoted.{is_printable_char, is_printable, escape};
+ghost use Rattle.transforms.specs.Quoted.{is_printable_char, is_printable, escaped_character};
 
 use tk_io::{Bytes, NoMemory};
 
@@ -21,7 +21,7 @@ pub fn is_printable(text: &str) -> bool
 }
 
 fn append_escape(out: &mut Bytes, c: u8) -> Result<(), NoMemory>
-    ensures { OnOk result (out.new ≡ out.old ++ escape c) }
+    ensures { OnOk result (out.new ≡ out.old ++ escaped_character c) }
 {
     if c == b'"' || c == b'\\' {
         return out.append(&[b'\\', c]);
@@ -31,7 +31,7 @@ fn append_escape(out: &mut Bytes, c: u8) -> Result<(), NoMemory>
 
 /// Appends the text as it stands between quotes: with a `\` before each `"` and `\`.
 pub fn append_escaped(out: &mut Bytes, text: &[u8]) -> Result<(), NoMemory>
-    ensures { OnOk result (out.new ≡ out.old ++ flat_map escape text.now) }
+    ensures { OnOk result (out.new ≡ out.old ++ flat_map escaped_character text.now) }
 {
     for c in text {
         append_escape(out, *c)?;

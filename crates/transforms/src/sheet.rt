@@ -1,9 +1,9 @@
 // Sheets, and the fragments that they are made of.
 
 ghost use Rattle.std.specs.Prelude.{◌≡◌, [], IfOk, OnOk, OnErr};
-ghost use Rattle.transforms.specs.Sheet.{Holds, Gains, IsTextOf};
+ghost use Rattle.transforms.specs.Sheet.{Holds, Gains, IsSheetText};
 ghost use Rattle.transforms.specs.View.{frame_view};
-ghost use Rattle.transforms.specs.inner.Glue.{without_loose, LooseGlueEnds};
+ghost use Rattle.transforms.specs.inner.Growing.{OnlyTextGrows};
 
 use std::alloc::Global;
 use std::marker::Model;
@@ -13,7 +13,7 @@ use tk_io::{Bytes, NoMemory, Sequence};
 pub type Names = Sequence<Bytes>;
 
 /// What a token gives to a sheet: the names that it declares there, and its lines.
-#[derive(Drop)]
+#[derive(Debug, Drop)]
 pub struct Frag {
     pub names: Names,
     pub body: Bytes,
@@ -30,25 +30,20 @@ pub struct Frame {
 }
 
 /// A sheet that grows in one buffer.
-#[derive(Drop)]
+#[derive(Debug, Drop)]
 pub struct Sheet {
     frame: Frame,
     text: Bytes,
     has_body: bool,
-    /// Whether the text ends with a glue whose body was refused for want of memory.
-    has_loose_glue: bool,
 }
 
 impl Model for Sheet {
     ghost use Rattle.transforms.specs.Sheet.{OpenSheet};
     ghost use Rattle.transforms.specs.View.{frame_view};
-    ghost use Rattle.transforms.specs.inner.Glue.{without_loose, LooseGlueStands};
 
     ghost Value = { OpenSheet };
 
-    ghost view = { λ s. record { frame = frame_view s.frame; text = without_loose s.has_loose_glue (frame_view s.frame).glue s.text; has_body = s.has_body } };
-
-    ghost invariant = { λ s. LooseGlueStands s.has_loose_glue s.has_body (frame_view s.frame).glue s.text };
+    ghost view = { λ s. record { frame = frame_view s.frame; text = s.text; has_body = s.has_body } };
 }
 
 impl Sheet {
@@ -62,8 +57,19 @@ impl Sheet {
             frame,
             text,
             has_body: false,
-            has_loose_glue: false,
         })
+    }
+
+    fn append_body(&mut self, body: &[u8]) -> Result<(), NoMemory>
+        ensures ok { OnOk result (Gains self.old self.new body.now) }
+        ensures err { OnErr result (OnlyTextGrows self.old self.new) }
+    {
+        if self.has_body {
+            self.text.append(self.frame.glue)?;
+        }
+        self.text.append(body)?;
+        self.has_body = true;
+        Ok(())
     }
 
     /// Adds the fragment's body at the end, behind the glue where there is a body before it. Where memory runs out the sheet
@@ -72,39 +78,21 @@ impl Sheet {
         ensures ok { OnOk result (Gains self.old self.new frag.now.body) }
         ensures err { OnErr result (self.new ≡ self.old) }
     {
-        if self.has_body && !self.has_loose_glue {
-            self.text.append(self.frame.glue)?;
-            self.has_loose_glue = true;
-        }
-        self.text.append(frag.body.as_slice())?;
-        self.has_loose_glue = false;
-        self.has_body = true;
-        Ok(())
+        let start = self.text.len();
+        let appended = self.append_body(frag.body.as_slice());
+        self.text.all_or_nothing(start, appended)
     }
 
     /// The bytes of the sheet: the head, the bodies with the glue between, `last` where there is a body, and the tail. Where
     /// memory runs out nothing is handed back.
     pub fn finish(self) -> Result<Bytes, NoMemory>
-        ensures { IfOk result (IsTextOf self) }
+        ensures { IfOk result (IsSheetText self) }
     {
-        let mut text = front(self.text, self.frame.glue, self.has_loose_glue)?;
+        let mut text = self.text;
         if self.has_body {
             text.append(self.frame.last)?;
         }
         text.append(self.frame.tail)?;
         Ok(text)
     }
-}
-
-/// The text without the glue at its end, where that stands loose.
-fn front(text: Bytes, glue: &[u8], has_loose_glue: bool) -> Result<Bytes, NoMemory>
-    requires { LooseGlueEnds has_loose_glue glue.now text }
-    ensures { IfOk result (λ front. front ≡ without_loose has_loose_glue glue.now text) }
-{
-    if !has_loose_glue {
-        return Ok(text);
-    }
-    let mut front = text.fresh();
-    front.append(&text.as_slice()[..text.len() - glue.len()])?;
-    Ok(front)
 }

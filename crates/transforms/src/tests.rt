@@ -46,7 +46,7 @@ fn config(alloc: Global, prefix: &str) -> Result<Config, Fail> {
     if prefix.is_empty() {
         return Ok(Config::plain(alloc));
     }
-    let text = format!(in alloc; "prefix = \"{prefix}\"")?;
+    let text = format!(in alloc; "prefix = '{prefix}'")?;
     match read_config(alloc, text.as_str()) {
         Ok(config) => Ok(config),
         Err(_) => Err(Fail::from(NoMemory)),

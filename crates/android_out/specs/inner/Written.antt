@@ -1,5 +1,6 @@
 -- What a fragment of given values is, and how its lines grow.
 use Rattle.std.specs.Prelude.{Bool, List, None, Option, Some, [], codes, false, if◌then◌else◌, true, ℕ, ◌++◌, ◌==◌, ◌∷◌, ◌≡◌}
+use Rattle.tk_io.specs.Characters.{blank}
 use Rattle.transforms.specs.declared.sheet.Frag.{Frag}
 use Rattle.android_out.specs.Element.{Values, value_names, Tag, tag_name, attributes}
 use Rattle.android_out.specs.PlatformValue.{is_plain_char}
@@ -19,7 +20,9 @@ end_text tag = codes "</" ++ (tag_name tag ++ codes ">\n")
 
 -- whether a word is begun behind a byte, or none where the byte can't stand there
 abbrev pub after_byte : Bool → ℕ → Option Bool
-after_byte begun c = if c == 32 then (if begun then Some false else None) else (if is_plain_char c then Some true else None)
+after_byte begun c =
+    if c == blank then (if begun then Some false else None)
+    else (if is_plain_char c then Some true else None)
 
 abbrev pub when_some : (Bool → Bool) → Option Bool → Bool
 when_some f None = false

@@ -1,10 +1,10 @@
 -- What a fragment of given lines is.
 use Rattle.std.specs.Prelude.{◌≡◌, ℕ, List, map}
 use Rattle.transforms.specs.declared.sheet.Frag.{Frag}
-use Rattle.css_out.specs.Parts.{Entry, declaration}
+use Rattle.css_out.specs.Parts.{NamedParts, declaration}
 use Rattle.css_out.specs.Spelling.{body_text}
 
 -- the names of the lines, and their text under the token's name
-pub record IsFragment (name : List ℕ) (es : List Entry) (f : Frag) : Type 0 where
+pub record IsFragment (name : List ℕ) (es : List NamedParts) (f : Frag) : Type 0 where
   pub names : f.names ≡ map (λ e. e.name) es
   pub body : f.body ≡ body_text name (map declaration es)

@@ -7,7 +7,10 @@ pub(super) const CONFIGS: [(&str, Wanted); 54] = [
     ("", Says("", 16, true)),
     ("\n# only a remark\n", Says("", 16, true)),
     (
-        "prefix = \"ds\"\nrem_base = 10\nreferences = false\n",
+        r#"prefix = "ds"
+rem_base = 10
+references = false
+"#,
         Says("ds", 10, false),
     ),
     (r#"prefix = """#, Says("", 16, true)),
@@ -25,7 +28,7 @@ pub(super) const CONFIGS: [(&str, Wanted); 54] = [
     (r#"prefix = "a_b""#, Refuses("prefix")),
     (r#"prefix = "éa""#, Refuses("prefix")),
     (r#"prefix = "aé""#, Refuses("prefix")),
-    ("prefix = \"\\x64s\"", Says("ds", 16, true)),
+    (r#"prefix = "\x64s""#, Says("ds", 16, true)),
     (r#"prefix = """ds""""#, Says("ds", 16, true)),
     (r#"prefix = "a b""#, Refuses("prefix")),
     ("prefix = 1", Refuses("prefix")),
@@ -49,8 +52,8 @@ pub(super) const CONFIGS: [(&str, Wanted); 54] = [
     ("references = 1", Refuses("references")),
     ("colour = 1", Refuses("colour")),
     (r#"Prefix = "ds""#, Refuses("Prefix")),
-    ("prefix = \"-\"\ncolour = 1\n", Refuses("colour")),
-    ("rem_base = 0\nprefix = \"-\"\n", Refuses("prefix")),
+    ("prefix = '-'\ncolour = 1\n", Refuses("colour")),
+    ("rem_base = 0\nprefix = '-'\n", Refuses("prefix")),
     ("references = 0\nrem_base = 0\n", Refuses("references")),
     ("zeta = 1\nalpha = 2\n", Refuses("alpha")),
     (r#""" = 1"#, Refuses("")),
@@ -62,11 +65,11 @@ pub(super) const CONFIGS: [(&str, Wanted); 54] = [
     ("references = { }", Refuses("references")),
     ("=", NotToml),
     ("prefix = ", NotToml),
-    ("prefix = \"a\"\nprefix = \"b\"\n", NotToml),
+    ("prefix = 'a'\nprefix = 'b'\n", NotToml),
     (r#"prefix = "a"#, NotToml),
     ("é = 1", NotToml),
     ("a = 1 b = 2", NotToml),
-    ("\u{feff}prefix = \"ds\"", Says("ds", 16, true)),
+    ("\u{feff}prefix = 'ds'", Says("ds", 16, true)),
 ];
 
 /// A prefix, the names of a path joined by points, and the token's name on CSS, on Android and in Swift, with `|` between.
@@ -102,7 +105,7 @@ pub(super) const NAMES: [&str; 46] = [
     "|a\u{9}b|--a-b|a_b|a_b",
     "|50%|--50-|_50_|_50_",
     "|a/b~c|--a-b-c|a_b_c|a_b_c",
-    "|\"x\"|---x-|_x_|_x_",
+    r#"|"x"|---x-|_x_|_x_"#,
     "|Aa.Zz.09|--Aa-Zz-09|Aa_Zz_09|Aa_Zz_09",
     "x|größe|--x-gru00f6u00dfe|x_gru00f6u00dfe|x_gru00f6u00dfe",
     "Ds2|color.text ink|--Ds2-color-text-ink|Ds2_color_text_ink|Ds2_color_text_ink",

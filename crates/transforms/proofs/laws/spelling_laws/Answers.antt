@@ -1,5 +1,5 @@
 use Rattle.transforms.proofs.QuotedReadsBack.{reads_on, string_again}
-use Rattle.transforms.proofs.RunsAreFronts.{numbers_pass, numbers_start, runs_are_fronts}
+use Rattle.transforms.proofs.RunsAreFirst.{numbers_pass, numbers_start, runs_are_first}
 use Rattle.transforms.proofs.ScaledAreWritten.{scaled_dec}
 use Rattle.transforms.proofs.laws.spelling_laws.Goals as goal
 
@@ -10,7 +10,7 @@ pub returns-clause-on : goal.returns-clause-on
 returns-clause-on c = reads_on
 
 pub returns-clause-runs : goal.returns-clause-runs
-returns-clause-runs c = runs_are_fronts
+returns-clause-runs c = runs_are_first
 
 pub returns-clause-start : goal.returns-clause-start
 returns-clause-start c = numbers_start

@@ -1,4 +1,4 @@
--- A run of bytes that pass is the front of a text; and what is spelled of numbers.
+-- A run of bytes that pass is the longest such prefix of a text; and what is spelled of numbers.
 use Rattle.std.proofs.Common.{◌≡◌, ℕ, suc, ◌<◌, ◌/◌, ◌^◌, ◌==◌, not, Bool, true, false, List, [], ◌∷◌, ◌++◌, length, refl, sym, ◌∙◌, ap, append_assoc, arith, ℤ, pos, negsuc, unsigned_abs}
 use Rattle.std.specs.Prelude.{if◌then◌else◌}
 use Rattle.std.specs.Char.{is_ascii_digit}
@@ -10,29 +10,29 @@ use Rattle.std.proofs.lemmas.Fmt.{decimal_is_IsNumeral_wide}
 use Rattle.std.proofs.lemmas.List.Folds.{list_all-append}
 use Rattle.dec_fix.specs.Writing.{spelling, point_and, last_digits}
 use Rattle.dec_fix.proofs.Again.{both, decimal-digits, last_digits-digits}
-use Rattle.transforms.specs.Runs.{front, rest, ends_run, RunsAreFronts, starts_digit, starts_number, NumbersStart, PassesNumbers, NumbersPass}
+use Rattle.transforms.specs.Runs.{first_run, behind_run, ends_run, RunsAreFirst, starts_digit, starts_number, NumbersStart, PassesNumbers, NumbersPass}
 use Rattle.transforms.proofs.Spelled.{both as together}
 
-pub front-append : (p : ℕ → Bool) (s t : List ℕ) → list_all p s ≡ true → ends_run p t ≡ true → front p (s ++ t) ≡ s
-front-append p [] [] h e = refl
-front-append p [] (c ∷ t) h e = grind arith
-front-append p (d ∷ s) t h e = let x = both (p d) (list_all p s) h in rw (x.0) (ap (λ v. d ∷ v) (front-append p s t x.1 e))
+pub first_run-append : (p : ℕ → Bool) (s t : List ℕ) → list_all p s ≡ true → ends_run p t ≡ true → first_run p (s ++ t) ≡ s
+first_run-append p [] [] h e = refl
+first_run-append p [] (c ∷ t) h e = grind arith
+first_run-append p (d ∷ s) t h e = let x = both (p d) (list_all p s) h in rw (x.0) (ap (λ v. d ∷ v) (first_run-append p s t x.1 e))
 
-pub rest-append : (p : ℕ → Bool) (s t : List ℕ) → list_all p s ≡ true → ends_run p t ≡ true → rest p (s ++ t) ≡ t
-rest-append p [] [] h e = refl
-rest-append p [] (c ∷ t) h e = grind arith
-rest-append p (d ∷ s) t h e = let x = both (p d) (list_all p s) h in rw (x.0) (rest-append p s t x.1 e)
+pub behind_run-append : (p : ℕ → Bool) (s t : List ℕ) → list_all p s ≡ true → ends_run p t ≡ true → behind_run p (s ++ t) ≡ t
+behind_run-append p [] [] h e = refl
+behind_run-append p [] (c ∷ t) h e = grind arith
+behind_run-append p (d ∷ s) t h e = let x = both (p d) (list_all p s) h in rw (x.0) (behind_run-append p s t x.1 e)
 
-pub runs_are_fronts : RunsAreFronts
-runs_are_fronts p s t h e = record { front_is = front-append p s t h e; rest_is = rest-append p s t h e }
+pub runs_are_first : RunsAreFirst
+runs_are_first p s t h e = record { run_is = first_run-append p s t h e; behind_is = behind_run-append p s t h e }
 
 -- two runs before the same byte, which ends them
 pub runs_once : (p : ℕ → Bool) (s u : List ℕ) (c : ℕ) (t v : List ℕ) → list_all p s ≡ true → list_all p u ≡ true → p c ≡ false
     → s ++ (c ∷ t) ≡ u ++ (c ∷ v) → (s ≡ u) × (t ≡ v)
 runs_once p s u c t v h i e same =
     let ends : not (p c) ≡ true = ap not e in
-    let fronts : s ≡ u = sym (front-append p s (c ∷ t) h ends) ∙ ap (front p) same ∙ front-append p u (c ∷ v) i ends in
-    let rests : c ∷ t ≡ c ∷ v = sym (rest-append p s (c ∷ t) h ends) ∙ ap (rest p) same ∙ rest-append p u (c ∷ v) i ends in
+    let fronts : s ≡ u = sym (first_run-append p s (c ∷ t) h ends) ∙ ap (first_run p) same ∙ first_run-append p u (c ∷ v) i ends in
+    let rests : c ∷ t ≡ c ∷ v = sym (behind_run-append p s (c ∷ t) h ends) ∙ ap (behind_run p) same ∙ behind_run-append p u (c ∷ v) i ends in
     let tails : t ≡ v = cc in
     (fronts, tails)
 
