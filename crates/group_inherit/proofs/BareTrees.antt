@@ -1,10 +1,11 @@
 -- A tree in which no group extends another is its own expansion, and breaks no rule but those of its size.
-use Rattle.std.proofs.Common.{◌≡◌, ℕ, ◌+◌, ◌≤◌, min, max, T, List, [], ◌∷◌, ◌++◌, Option, Some, option_map, option_and_then, option_to_list, unwrap_or, inl, inr, refl, sym, ap, ap₂, subst, ◌∙◌, map, sum, arith, append-nil, append_assoc}
+use Rattle.std.proofs.Common.{◌≡◌, ℕ, ◌+◌, ◌≤◌, min, max, T, List, [], ◌∷◌, ◌++◌, Option, None, Some, option_map, option_and_then, option_to_list, unwrap_or, inl, inr, refl, sym, ap, subst, ◌∙◌, map, sum, arith, append-nil, append_assoc}
 use Rattle.std.proofs.lemmas.List.Sums.{sum_by-cons}
 use Rattle.std.specs.Cmp.Lexicographic.{nat_list_cmp_total}
 use Rattle.std.specs.FinMap as map_of
 use Rattle.std.specs.FinMap.Entries.{find, is_sorted}
-use Rattle.ring.specs.Routes.{In, HasNoRing}
+use Rattle.ring.specs.Lists.{In}
+use Rattle.ring.specs.Routes.{HasNoRing}
 use Rattle.ring.specs.Values.{Comes, comes, AllCome, none, more}
 use Rattle.ring.proofs.Ends.{Ends, ends, no_ring}
 use Rattle.tk_io.specs.Order.{text_cmp}
@@ -13,12 +14,10 @@ use Rattle.token_tree.specs.Tree.{Properties, Child, a_token, a_group, Group, gr
 use Rattle.group_inherit.specs.Ordered.{entries_in}
 use Rattle.group_inherit.specs.inner.Bare.{IsBare, AreBare, IsBareChild, members_of, members_among, members_in, levels_of, levels_among, levels_in}
 use Rattle.group_inherit.specs.Merging.{named, empty_group}
-use Rattle.group_inherit.specs.Expansion.{without_extension, Expands}
-use Rattle.group_inherit.specs.inner.Expanding.{with_groups, behind_groups, over_first, expand}
-use Rattle.group_inherit.specs.Extension.{GroupPath, group_of, group_at, at_path, groups_from, groups_among, groups_in, extension_of, names_of_groups, needs_of, needs, Lost, lost_at, lost_among, lost_targets, how_many, count_of, tokens_height, greatest_raised, height_of}
+use Rattle.group_inherit.specs.Expansion.{without_extension, expanded, Expands, expands, AreExpanded, no_member, own_token, child_group, IsInherited, no_target}
+use Rattle.group_inherit.specs.Extension.{GroupPath, group_of, group_at, at_path, groups_from, groups_among, groups_in, children_in, extension_of, target_path, names_of_groups, needs_of, needs, Lost, lost_at, lost_among, has_group, lost_targets, how_many, count_of, tokens_height, greatest_raised, height_of}
 use Rattle.group_inherit.specs.inner.Numbering.{GroupAt, LacksName, AreNamed, AreNamedAmong, AreNamedIn}
 use Rattle.group_inherit.specs.Answer.{IsCounted, IsSound}
-use Rattle.group_inherit.proofs.Expansions.{comes_expands}
 use Rattle.group_inherit.proofs.Finding.{goes_on}
 use Rattle.group_inherit.proofs.Naming.{sorted_lacks, sorted_rest, get_here, get_later}
 use Rattle.group_inherit.proofs.OrderedTrees.{again}
@@ -51,23 +50,23 @@ mutual
 
 -- No target is lost.
 
-lost_join : (tree : Group) (xs ys : List GroupAt) → lost_among tree (xs ++ ys) ≡ lost_among tree xs ++ lost_among tree ys
+lost_join : (tree : Group) (xs ys : List GroupAt) → lost_among (has_group tree) (xs ++ ys) ≡ lost_among (has_group tree) xs ++ lost_among (has_group tree) ys
 lost_join tree [] ys = refl
 lost_join tree (x ∷ xs) ys =
-    ap (λ (ls : List Lost). lost_at tree x.0 (extension_of x.1) ++ ls) (lost_join tree xs ys)
-    ∙ sym (append_assoc (lost_at tree x.0 (extension_of x.1)) (lost_among tree xs) (lost_among tree ys))
+    ap (λ (ls : List Lost). lost_at (has_group tree) x.0 (extension_of x.1) ++ ls) (lost_join tree xs ys)
+    ∙ sym (append_assoc (lost_at (has_group tree) x.0 (extension_of x.1)) (lost_among (has_group tree) xs) (lost_among (has_group tree) ys))
 
 mutual
-  none_lost : (tree : Group) (path : GroupPath) (g : Group) → IsBare g → lost_among tree (groups_from path g) ≡ []
-  none_lost tree path (group ps cs) b = ap (λ o. lost_at tree path o ++ lost_among tree (groups_among path cs)) b.0 ∙ none_lost_among tree path cs b.2
+  none_lost : (tree : Group) (path : GroupPath) (g : Group) → IsBare g → lost_among (has_group tree) (groups_from path g) ≡ []
+  none_lost tree path (group ps cs) b = ap (λ o. lost_at (has_group tree) path o ++ lost_among (has_group tree) (groups_among path cs)) b.0 ∙ none_lost_among tree path cs b.2
 
-  none_lost_among : (tree : Group) (path : GroupPath) (cs : Children) → AreBare cs → lost_among tree (groups_among path cs) ≡ []
+  none_lost_among : (tree : Group) (path : GroupPath) (cs : Children) → AreBare cs → lost_among (has_group tree) (groups_among path cs) ≡ []
   none_lost_among tree path no_children b = refl
   none_lost_among tree path (child name c cs) b =
       lost_join tree (groups_in (path ++ name ∷ []) c) (groups_among path cs)
-      ∙ (ap (λ (ls : List Lost). ls ++ lost_among tree (groups_among path cs)) (none_lost_in tree (path ++ name ∷ []) c b.0) ∙ none_lost_among tree path cs b.1)
+      ∙ (ap (λ (ls : List Lost). ls ++ lost_among (has_group tree) (groups_among path cs)) (none_lost_in tree (path ++ name ∷ []) c b.0) ∙ none_lost_among tree path cs b.1)
 
-  none_lost_in : (tree : Group) (path : GroupPath) (c : Child) → IsBareChild c → lost_among tree (groups_in path c) ≡ []
+  none_lost_in : (tree : Group) (path : GroupPath) (c : Child) → IsBareChild c → lost_among (has_group tree) (groups_in path c) ≡ []
   none_lost_in tree path (a_token d) b = refl
   none_lost_in tree path (a_group g) b = none_lost tree path g b
 
@@ -147,25 +146,36 @@ mutual
 
 -- The expansion.
 
-with_same : (cs : Children) → with_groups cs (map (λ (g : Group). g) (groups_of cs)) ≡ named cs
-with_same no_children = refl
-with_same (child name (a_token d) cs) = ap (λ m. map_of.insert m name (a_token d)) (with_same cs)
-with_same (child name (a_group g) cs) = ap (λ m. map_of.insert m name (a_group g)) (with_same cs)
-
-behind_same : (cs : Children) → behind_groups cs (map (λ (g : Group). g) (groups_of cs)) ≡ []
-behind_same no_children = refl
-behind_same (child name (a_token d) cs) = behind_same cs
-behind_same (child name (a_group g) cs) = behind_same cs
-
-expand_same : (ps : Properties) (cs : Children) → IsBare (group ps cs) → expand (group ps cs) (map (λ (g : Group). g) (groups_of cs)) ≡ group ps cs
-expand_same ps cs b =
+expanded_same : (ps : Properties) (cs : Children) → IsBare (group ps cs) → expanded (group ps cs) cs None ≡ group ps cs
+expanded_same ps cs b =
     let without : without_extension ps ≡ ps = λ i. record { kind = ps.kind; deprecated = ps.deprecated; extends = sym b.0 i } in
-    ap (over_first (group_with (without_extension ps) (with_groups cs (map (λ (g : Group). g) (groups_of cs))))) (behind_same cs)
-    ∙ (ap₂ group_with without (with_same cs)
-    ∙ (ap (λ es. group ps (children_of es)) (kept cs b.1) ∙ ap (group ps) (again cs)))
+    ap (λ (qs : Properties). group_with qs (named cs)) without
+    ∙ (ap (λ es. group ps (children_of es)) (kept cs b.1) ∙ ap (group ps) (again cs))
+
+module _ (tree : Group) where
+  mutual
+    bare_at : (path : GroupPath) (g : Group) → group_at tree path ≡ Some g → IsBare g → Expands tree path g
+    bare_at path (group ps cs) f b =
+        let at : at_path tree path ≡ group ps cs = ap (λ (o : Option Group). unwrap_or o empty_group) f in
+        let members : AreExpanded tree path (children_in (at_path tree path)) cs =
+        subst (λ (g : Group). AreExpanded tree path (children_in g) cs) (sym at)
+        (bare_members path cs (bare_named (group ps cs) b) (λ name h e. goes_on tree path (group ps cs) (name ∷ []) f ∙ below (map_of.get (named cs) name) h e) b.2) in
+        let target : target_path (at_path tree path) ≡ None =
+        ap target_path at ∙ ap (option_map (λ e. e.target)) b.0 in
+        let inherited : IsInherited tree (target_path (at_path tree path)) None =
+        subst (λ (o : Option GroupPath). IsInherited tree o None) (sym target) no_target in
+        subst (Expands tree path) (ap (λ (g : Group). expanded g cs None) at ∙ expanded_same ps cs b) (expands members inherited)
+
+    bare_members : (path : GroupPath) (cs : Children) → AreNamedAmong cs → ((name : List ℕ) (h : Group) → map_of.get (named cs) name ≡ Some (a_group h) → group_at tree (path ++ name ∷ []) ≡ Some h) → AreBare cs
+        → AreExpanded tree path cs cs
+    bare_members path no_children a h b = no_member
+    bare_members path (child name (a_token d) cs) a h b = own_token (bare_members path cs a.2 (λ n g e. h n g (get_later name (a_token d) cs n (a_group g) a.0 e)) b.1)
+    bare_members path (child name (a_group g) cs) a h b =
+        child_group (bare_at (path ++ name ∷ []) g (h name g (get_here name (a_group g) cs)) b.0)
+        (bare_members path cs a.2 (λ n f e. h n f (get_later name (a_group g) cs n (a_group f) a.0 e)) b.1)
 
 pub bare_expands : (tree : Group) → IsBare tree → Expands tree [] tree
-bare_expands tree b = comes_expands tree [] tree (come tree expand (λ g. g) expand_same b)
+bare_expands tree b = bare_at tree [] tree refl b
 
 -- No ring.
 

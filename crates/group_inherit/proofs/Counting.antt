@@ -9,15 +9,15 @@ use Rattle.std.proofs.lemmas.List.Sums.{sum_by-cons}
 use Rattle.std.specs.FinMap as map_of
 use Rattle.std.specs.Prelude.{slice_index}
 use Rattle.ring.specs.Order.{Follows}
-use Rattle.ring.specs.Routes.{In}
+use Rattle.ring.specs.Lists.{In}
 use Rattle.ring.specs.Values.{Comes, comes, AllCome, none, more, total_step, IsTotal}
 use Rattle.ring.proofs.Ends.{in_cases}
 use Rattle.ring.proofs.Sums.{follows_at}
 use Rattle.tk_io.specs.Order.{text_cmp}
-use Rattle.token_tree.specs.Tree.{Child, a_token, a_group, Group, group, Children, no_children, child, children_of}
+use Rattle.token_tree.specs.Tree.{Child, a_token, a_group, Group, Children, no_children, child, children_of}
 use Rattle.group_inherit.specs.declared.fault.TreeFault.TheVariants.{TooManyTokens, TooHigh}
 use Rattle.group_inherit.specs.Extension.{GroupPath, needs_of, target_path, name_of_group, names_of_groups, group_names, children_in, how_many, count_of, token_height, tokens_height, greatest, greatest_raised, height_of}
-use Rattle.group_inherit.specs.inner.Numbering.{GroupAt, group_in, path_in, AreRows}
+use Rattle.group_inherit.specs.inner.Numbering.{GroupAt, group_in, path_in, AreNeeds}
 use Rattle.group_inherit.specs.inner.Sizes.{HeightsIn, IsCountedIn, IsLowIn, IsHeight, IsCountFault, IsHeightFault}
 
 sum_cons : (x : ℕ) (xs : List ℕ) → sum (x ∷ xs) ≡ x + sum xs
@@ -213,5 +213,5 @@ needs_length p q g =
     let b = length-map (group_names g) (λ (m : List ℕ). q ++ m ∷ []) in
     omega (arith, a, b, length-append (map (λ (m : List ℕ). p ++ m ∷ []) (group_names g)) (option_to_list (target_path g)), length-append (map (λ (m : List ℕ). q ++ m ∷ []) (group_names g)) (option_to_list (target_path g)))
 
-pub row_length : (nodes : List GroupAt) (rows : List (Vec ℕ Global)) (v : ℕ) → AreRows nodes rows → v < length nodes → length (needs_in rows v) ≡ length (needs_of [] (group_in nodes v))
+pub row_length : (nodes : List GroupAt) (rows : List (Vec ℕ Global)) (v : ℕ) → AreNeeds nodes rows → v < length nodes → length (needs_in rows v) ≡ length (needs_of [] (group_in nodes v))
 row_length nodes rows v are h = sym (length-map (needs_in rows v) (path_in nodes)) ∙ (ap length (are v h) ∙ needs_length (path_in nodes v) [] (group_in nodes v))

@@ -1,20 +1,20 @@
 -- Each tree answers: it breaks a rule first, or breaks none and has a flat tree.
-use Rattle.std.proofs.Common.{◌≡◌, ◌≢◌, ◌⊎◌, ℕ, ◌<◌, ◌≤◌, min, true, List, [], ◌∷◌, ◌++◌, map, Option, Some, None, option_and_then, option_map, option_to_list, unwrap_or, inl, inr, refl, sym, ap, ◌∙◌, subst}
+use Rattle.std.proofs.Common.{◌≡◌, ◌⊎◌, ℕ, min, List, [], ◌∷◌, ◌++◌, map, Option, Some, None, option_and_then, option_map, option_to_list, unwrap_or, inl, inr, refl, sym, ap, ◌∙◌, subst}
 use Rattle.std.proofs.lemmas.Bool.{cases_Bool, cases_lt, false≢true}
 use Rattle.std.specs.BTreeMap.{is_at}
 use Rattle.std.specs.FinMap as map_of
 use Rattle.std.specs.Prelude.{slice_get}
-use Rattle.ring.specs.Existence.{IsDecided, IsWithin, IsGrounded, grounded}
-use Rattle.ring.specs.Routes.{In, Leads, IsRoute, IsReached, IsRing, HasNoRing}
+use Rattle.ring.specs.Existence.{IsDecided, ReachesOnly, IsGrounded, grounded}
+use Rattle.ring.specs.Lists.{In}
+use Rattle.ring.specs.Routes.{IsChain, IsRoute, IsReached, IsRing, HasNoRing}
 use Rattle.ring.proofs.Ends.{in_left, in_right, in_cases}
 use Rattle.ring.proofs.FirstRoutes.{ring_or_none, is_grounded}
 use Rattle.ring.proofs.ValuesExist.{has_value}
 use Rattle.ring.proofs.Renamings.{in_map, in_names}
 use Rattle.tk_io.specs.Order.{names_cmp}
 use Rattle.token_tree.specs.Tree.{Extension, Child, a_token, a_group, Group, group, Children, no_children, child}
-use Rattle.group_inherit.specs.declared.fault.TreeFault.{TreeFault}
-use Rattle.group_inherit.specs.declared.fault.TreeFault.TheVariants.{ExtendsTarget, ExtendsCycle, TooManyTokens, TooHigh, NoMemory}
-use Rattle.group_inherit.specs.Answer.{IsTreeBreak, IsSound, IsFlat, most_members, most_levels, most_told}
+use Rattle.group_inherit.specs.declared.fault.TreeFault.TheVariants.{ExtendsTarget, ExtendsCycle, TooManyTokens, TooHigh}
+use Rattle.group_inherit.specs.Answer.{most_members, most_levels, most_told}
 use Rattle.group_inherit.specs.Expansion.{expanded, Expands, expands, AreExpanded, no_member, own_token, child_group, IsInherited, no_target, its_target}
 use Rattle.group_inherit.specs.Extension.{GroupPath, group_of, group_at, at_path, groups_from, group_paths, children_in, extension_of, names_of_groups, group_names, target_path, needs_of, needs, Lost, lost_targets, Counts, Heights, count_of, height_of}
 use Rattle.group_inherit.specs.Flattening.{flat_of}
@@ -145,7 +145,7 @@ module _ (tree : Group) (ordered : IsOrdered tree) (lost : lost_targets tree ≡
   reached_there : (w : GroupPath) → IsReached (needs tree) [] w → IsThere tree w
   reached_there w r = begins r.before r.steps
     where
-      along : (at : GroupPath) (xs : List GroupPath) → IsThere tree at → Leads (needs tree) at (xs ++ w ∷ []) → IsThere tree w
+      along : (at : GroupPath) (xs : List GroupPath) → IsThere tree at → IsChain (needs tree) at (xs ++ w ∷ []) → IsThere tree w
       along at [] t l = need_there at w t l.0
       along at (x ∷ xs) t l = along x xs (need_there at x t l.0) l.1
 
@@ -153,7 +153,7 @@ module _ (tree : Group) (ordered : IsOrdered tree) (lost : lost_targets tree ≡
       begins [] s = (tree, ap (group_at tree) s.0)
       begins (x ∷ xs) s = along x xs (tree, ap (group_at tree) s.0) s.1
 
-  all_listed : IsWithin (needs tree) [] (group_paths tree)
+  all_listed : ReachesOnly (needs tree) [] (group_paths tree)
   all_listed w r =
       let t = reached_there w r in
       in_map (λ (e : GroupAt). e.0) (groups_from [] tree) (w, t.0) (listed w t.0 t.1)

@@ -5,11 +5,11 @@ use Rattle.std.proofs.lemmas.List.{append_cancel_left}
 use Rattle.std.proofs.lemmas.Option.{none-some, same_Some}
 use Rattle.std.specs.FinMap as map_of
 use Rattle.std.specs.Ordering.{eq_by_cmp}
-use Rattle.ring.specs.Routes.{In, AreApart}
+use Rattle.ring.specs.Lists.{In, AreApart}
 use Rattle.ring.proofs.Ends.{in_left, in_cases}
 use Rattle.tk_io.specs.Order.{text_cmp}
 use Rattle.token_tree.specs.Tree.{Properties, Child, a_token, a_group, Group, group, Children, no_children, child}
-use Rattle.group_inherit.specs.Merging.{named, child_at}
+use Rattle.group_inherit.specs.Merging.{named, member_at}
 use Rattle.group_inherit.specs.Extension.{GroupPath, group_of, group_at, groups_from, groups_among, groups_in}
 use Rattle.group_inherit.specs.inner.Numbering.{GroupAt, LacksName, AreNamed, AreNamedAmong, AreNamedIn}
 use Rattle.group_inherit.proofs.Naming.{same_name, get_here, get_there, get_later, get_none}
@@ -209,4 +209,4 @@ further path rest h (Some x) f e = f x e
 
 pub goes_on : (g : Group) (path : GroupPath) (h : Group) (rest : GroupPath) → group_at g path ≡ Some h → group_at g (path ++ rest) ≡ group_at h rest
 goes_on g [] h rest e = ap (λ (x : Group). group_at x rest) (same_Some g h e)
-goes_on g (name ∷ path) h rest e = further path rest h (option_and_then group_of (child_at name g)) (λ x k. goes_on x path h rest k) e
+goes_on g (name ∷ path) h rest e = further path rest h (option_and_then group_of (member_at name g)) (λ x k. goes_on x path h rest k) e

@@ -21,7 +21,6 @@ mod Overs
 mod PathOrder
 mod Placing
 mod Puts
-mod Ready
 mod Reports
 mod Tables
 mod Trees

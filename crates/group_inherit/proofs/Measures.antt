@@ -1,11 +1,10 @@
 -- The size of a bare group, member by member.
-use Rattle.std.proofs.Common.{◌≡◌, ℕ, suc, ◌+◌, ◌≤◌, min, max, List, [], ◌∷◌, None, T, arith, ap, ap₂, refl, sym, subst, ◌∙◌}
+use Rattle.std.proofs.Common.{◌≡◌, ℕ, suc, ◌+◌, ◌≤◌, min, max, List, [], ◌∷◌, None, T, arith, sym, subst, ◌∙◌}
 use Rattle.std.specs.FinMap as map_of
 use Rattle.std.specs.FinMap.Entries.{is_sorted}
 use Rattle.tk_io.specs.Order.{text_cmp}
-use Rattle.token_tree.specs.Tree.{Properties, Child, a_group, Group, Named, children_of, group_with}
-use Rattle.group_inherit.specs.Ordered.{entries_in}
-use Rattle.group_inherit.specs.inner.Bare.{IsBare, AreBare, IsBareChild, IsSize, IsChildSize, members_among, members_in, levels_among, levels_in}
+use Rattle.token_tree.specs.Tree.{Properties, Child, Named, children_of, group_with}
+use Rattle.group_inherit.specs.inner.Bare.{AreBare, IsSize, IsChildSize, members_among, members_in, levels_among, levels_in}
 use Rattle.group_inherit.proofs.OrderedTrees.{entries_again}
 
 abbrev pub Entries : Type 0

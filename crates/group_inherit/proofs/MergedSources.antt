@@ -1,12 +1,11 @@
 -- Merged sources.
-use Rattle.std.proofs.Common.{◌≡◌, ℕ, List, [], ◌∷◌, ◌++◌, None, refl, ap, ap₂, ◌∙◌}
+use Rattle.std.proofs.Common.{◌≡◌, ℕ, List, [], ◌∷◌, ◌++◌, None, refl, ap₂}
 use Rattle.std.specs.FinMap as map
-use Rattle.tk_io.specs.Order.{text_cmp}
 use Rattle.json_span.specs.Tree.{Tree, a_null, a_boolean, a_number, a_string, an_array, an_object, Placed, tree_of, entries_in as fields_in}
 use Rattle.token_tree.specs.Shape.{properties_of, put_children, group_of, shape_of}
-use Rattle.token_tree.specs.Tree.{Properties, Child, Group, Children, no_children, child, Named, children_of, group_with}
+use Rattle.token_tree.specs.Tree.{Properties, Group, Named, group_with}
 use Rattle.group_inherit.specs.Laws.{SourcesInOrder}
-use Rattle.group_inherit.specs.Merging.{over_properties, named, over, over_members, over_child, empty_group, merged_over, merged}
+use Rattle.group_inherit.specs.Merging.{over_properties, over, empty_group, merged_over, merged}
 use Rattle.group_inherit.proofs.Merges.{over_members_alone}
 use Rattle.group_inherit.proofs.Puts.{either_none}
 

@@ -9,7 +9,7 @@ use Rattle.std.specs.Option.{option_or}
 use Rattle.std.specs.Ordering.{eq_by_cmp}
 use Rattle.tk_io.specs.Order.{text_cmp}
 use Rattle.tk_io.proofs.TextMaps.{text_cmp-IsAntisymmetric}
-use Rattle.token_tree.specs.Shown.{child_view, member_view}
+use Rattle.token_tree.specs.View.{child_view, member_view}
 use Rattle.token_tree.specs.declared.tree.Member.{Member}
 use Rattle.token_tree.specs.Tree.{Child, a_token, a_group, Children, no_children, child, Named, children_of}
 use Rattle.group_inherit.specs.inner.Halves.{Ahead}

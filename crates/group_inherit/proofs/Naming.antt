@@ -11,8 +11,8 @@ use Rattle.std.specs.Str.{bytes_eq}
 use Rattle.tk_io.specs.Order.{text_cmp}
 use Rattle.tk_io.proofs.TextMaps.{text_cmp-IsAntisymmetric}
 use Rattle.token_tree.proofs.Names.{same_text, text_same}
-use Rattle.token_tree.specs.Tree.{Child, Group, group, Children, no_children, child, children_of, child_among, child_at as first_child_at}
-use Rattle.group_inherit.specs.Merging.{named, child_at}
+use Rattle.token_tree.specs.Tree.{Child, Group, group, Children, no_children, child, children_of, child_among, child_at}
+use Rattle.group_inherit.specs.Merging.{named, member_at}
 use Rattle.group_inherit.specs.inner.Numbering.{LacksName}
 
 tied : (r : Ordering) → is_eq r ≡ true → r ≡ Equal
@@ -54,7 +54,7 @@ first_among name no_children = get_none name
 first_among name (child k c cs) =
     get_child k c cs name ∙ ap₂ (λ b o. cond b (Some c) o) (same_name_test name k) (first_among name cs)
 
-pub first_of_name : (name : List ℕ) (g : Group) → child_at name g ≡ first_child_at name g
+pub first_of_name : (name : List ℕ) (g : Group) → member_at name g ≡ child_at name g
 first_of_name name (group ps cs) = first_among name cs
 
 -- a name that is not there

@@ -1,5 +1,5 @@
 -- The list of all groups.
-use Rattle.std.proofs.Common.{◌≡◌, ℕ, zero, suc, ◌+◌, ◌<◌, ◌≤◌, List, [], ◌∷◌, ◌++◌, refl, sym, ap, ◌∙◌, subst, append_assoc, drop, arith}
+use Rattle.std.proofs.Common.{◌≡◌, ℕ, zero, suc, ◌+◌, ◌≤◌, List, [], ◌∷◌, ◌++◌, ap, ◌∙◌, subst, append_assoc, drop, arith}
 use Rattle.token_tree.specs.Tree.{Definition, Child, a_token, a_group, Group, group, Children, no_children, child, children_of}
 use Rattle.group_inherit.specs.Extension.{GroupPath, groups_from, groups_among}
 use Rattle.group_inherit.specs.inner.Numbering.{GroupAt, LacksName, AreNamed, AreNamedAmong}

@@ -1,5 +1,5 @@
 -- A tree has one answer: the break that comes first, or its flat tree.
-use Rattle.std.proofs.Common.{◌≡◌, ◌≢◌, ℕ, ◌<◌, ◌≤◌, List, [], ◌∷◌, Some, None, refl, sym, ap, ◌∙◌, subst, min, arith}
+use Rattle.std.proofs.Common.{◌≡◌, ◌≢◌, ℕ, ◌<◌, List, [], Some, refl, sym, ap, ◌∙◌, subst, min, arith}
 use Rattle.std.specs.FinMap as map
 use Rattle.std.specs.Prelude.{slice_get}
 use Rattle.tk_io.specs.Order.{names_cmp}

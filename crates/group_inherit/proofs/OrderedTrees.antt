@@ -8,7 +8,7 @@ use Rattle.std.specs.FinMap as map
 use Rattle.std.specs.FinMap.Entries.{is_sorted}
 use Rattle.std.specs.Ordering.{eq_by_cmp}
 use Rattle.tk_io.specs.Order.{text_cmp}
-use Rattle.json_span.specs.Tree.{Tree, a_null, a_boolean, a_number, a_string, an_array, an_object, Placed, placed, tree_of, Members, no_members, member, entries_in as fields_in}
+use Rattle.json_span.specs.Tree.{Tree, a_null, a_boolean, a_number, a_string, an_array, an_object, Placed, placed, tree_of, Members, no_members, a_member, entries_in as fields_in}
 use Rattle.token_tree.specs.Shape.{properties_of, def_of, is_token, is_child, put_children, child_of, group_of, shape_of}
 use Rattle.token_tree.specs.Tree.{Properties, Child, a_token, a_group, Group, group, Children, no_children, child, Named, children_of, group_with}
 use Rattle.group_inherit.specs.Expansion.{properties_in, without_extension, over_inherited, Expands, expands, AreExpanded, no_member, own_token, child_group, IsInherited, no_target, its_target}
@@ -131,7 +131,7 @@ mutual
 
   put_ordered : (file text : List ℕ) (ms : Members) (cs : Named) → AllOrdered cs → AllOrdered (put_children file text ms cs)
   put_ordered file text no_members cs h = h
-  put_ordered file text (member name start end n ms) cs h =
+  put_ordered file text (a_member name start end n ms) cs h =
       put_ordered file text ms (cond (is_child name) (map.insert cs name (child_of file text n)) cs)
       (elim (is_child name) as (λ b. AllOrdered (cond b (map.insert cs name (child_of file text n)) cs)) [
         | true ↦ more_ordered cs name (child_of file text n) h (child_shown file text n)

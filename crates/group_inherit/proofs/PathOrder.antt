@@ -6,8 +6,8 @@ use Rattle.std.specs.FinMap.Entries.{is_sorted, below_all}
 use Rattle.std.specs.Ordering.{is_lt, ordering_then}
 use Rattle.tk_io.specs.Order.{text_cmp, names_cmp}
 use Rattle.token_tree.specs.Tree.{Extension, Child, a_token, a_group, Group, group, Children, no_children, child}
-use Rattle.group_inherit.specs.Extension.{GroupPath, group_at, groups_from, groups_among, groups_in, extension_of, Lost, lost_unless, lost_at, lost_among, lost_targets}
-use Rattle.group_inherit.specs.Flattening.{Flattened, Nearest, nearest, tokens_in, tokens_among, tokens_at}
+use Rattle.group_inherit.specs.Extension.{GroupPath, group_at, groups_from, groups_among, groups_in, extension_of, Lost, lost_unless, lost_at, lost_among, has_group, lost_targets}
+use Rattle.group_inherit.specs.Flattening.{Nearest, nearest, tokens_in, tokens_among, tokens_at}
 use Rattle.group_inherit.specs.Ordered.{entries_in, IsOrdered, AreOrdered, IsOrderedChild}
 use Rattle.group_inherit.specs.inner.Numbering.{GroupAt}
 use Rattle.group_inherit.proofs.Finding.{one_name}
@@ -186,24 +186,24 @@ abbrev lost_entry : Lost → GroupPath × Extension
 lost_entry l = (l.path, l.extension)
 
 -- a group's target is lost, or it is not
-lost_or : (tree : Group) (path : GroupPath) (o : Option Extension) (rest : List Lost) (P : List Lost → Type 0) → P rest → ((e : Extension) → P (record { path = path; extension = e } ∷ rest)) → P (lost_at tree path o ++ rest)
+lost_or : (tree : Group) (path : GroupPath) (o : Option Extension) (rest : List Lost) (P : List Lost → Type 0) → P rest → ((e : Extension) → P (record { path = path; extension = e } ∷ rest)) → P (lost_at (has_group tree) path o ++ rest)
 lost_or tree path None rest P h k = h
 lost_or tree path (Some e) rest P h k = elim (is_some (group_at tree e.target)) as (λ b. P (lost_unless b path e ++ rest)) [ true ↦ h | false ↦ k e ]
 
-before_lost : (tree : Group) (p : GroupPath) (gs : List GroupAt) → T (below_all names_cmp p gs) → T (below_all names_cmp p (map lost_entry (lost_among tree gs)))
+before_lost : (tree : Group) (p : GroupPath) (gs : List GroupAt) → T (below_all names_cmp p gs) → T (below_all names_cmp p (map lost_entry (lost_among (has_group tree) gs)))
 before_lost tree p [] h = tt
 before_lost tree p (g ∷ gs) h =
     let less_here = first (is_lt (names_cmp p g.0)) (below_all names_cmp p gs) h in
     let rest = before_lost tree p gs (second (is_lt (names_cmp p g.0)) (below_all names_cmp p gs) h) in
-    lost_or tree g.0 (extension_of g.1) (lost_among tree gs) (λ ls. T (below_all names_cmp p (map lost_entry ls))) rest
-    (λ e. both (is_lt (names_cmp p g.0)) (below_all names_cmp p (map lost_entry (lost_among tree gs))) less_here rest)
+    lost_or tree g.0 (extension_of g.1) (lost_among (has_group tree) gs) (λ ls. T (below_all names_cmp p (map lost_entry ls))) rest
+    (λ e. both (is_lt (names_cmp p g.0)) (below_all names_cmp p (map lost_entry (lost_among (has_group tree) gs))) less_here rest)
 
-lost_sorted_among : (tree : Group) (gs : List GroupAt) → T (is_sorted names_cmp gs) → T (is_sorted names_cmp (map lost_entry (lost_among tree gs)))
+lost_sorted_among : (tree : Group) (gs : List GroupAt) → T (is_sorted names_cmp gs) → T (is_sorted names_cmp (map lost_entry (lost_among (has_group tree) gs)))
 lost_sorted_among tree [] s = tt
 lost_sorted_among tree (g ∷ gs) s =
     let rest = lost_sorted_among tree gs (second (below_all names_cmp g.0 gs) (is_sorted names_cmp gs) s) in
-    lost_or tree g.0 (extension_of g.1) (lost_among tree gs) (λ ls. T (is_sorted names_cmp (map lost_entry ls))) rest
-    (λ e. both (below_all names_cmp g.0 (map lost_entry (lost_among tree gs))) (is_sorted names_cmp (map lost_entry (lost_among tree gs)))
+    lost_or tree g.0 (extension_of g.1) (lost_among (has_group tree) gs) (λ ls. T (is_sorted names_cmp (map lost_entry ls))) rest
+    (λ e. both (below_all names_cmp g.0 (map lost_entry (lost_among (has_group tree) gs))) (is_sorted names_cmp (map lost_entry (lost_among (has_group tree) gs)))
     (before_lost tree g.0 gs (first (below_all names_cmp g.0 gs) (is_sorted names_cmp gs) s)) rest)
 
 pub lost_sorted : (tree : Group) → IsOrdered tree → T (is_sorted names_cmp (map lost_entry (lost_targets tree)))

@@ -1,21 +1,21 @@
 -- Numbers by paths, and rows of numbers.
-use Rattle.std.proofs.Common.{◌≡◌, ℕ, zero, suc, ◌+◌, ◌<◌, ◌≤◌, Bool, true, false, cond, List, [], ◌∷◌, ◌++◌, Option, Some, None, option_and_then, option_map, is_some, inl, inr, refl, sym, ap, ◌∙◌, subst, map, length, get_or, arith, append-nil, append_assoc, Vec, option_to_list, slice_get, Ordering, Less, Equal, Greater, is_eq}
+use Rattle.std.proofs.Common.{◌≡◌, ℕ, ◌+◌, ◌<◌, ◌≤◌, true, false, cond, List, [], ◌∷◌, ◌++◌, Option, Some, None, option_map, is_some, inl, inr, refl, sym, ap, ◌∙◌, subst, map, length, get_or, drop, arith, append-nil, append_assoc, Vec, Global, slice_get, Ordering, Less, Equal, Greater, is_eq}
 use Rattle.std.proofs.lemmas.Bool.{cases_Bool, cases_eq, false≢true}
-use Rattle.std.proofs.lemmas.List.{map-append, map_push}
+use Rattle.std.proofs.lemmas.List.{map_push, drop_all, drop_more}
 use Rattle.std.proofs.lemmas.Option.{none-some, same_Some}
 use Rattle.std.specs.BTreeMap.{is_at}
 use Rattle.std.specs.Cmp.{tied_itself}
 use Rattle.std.specs.Cmp.Lexicographic.{lists_total, nat_list_cmp_total}
 use Rattle.std.specs.FinMap as map_of
 use Rattle.std.specs.FinMap.{slice_cmp-IsAntisymmetric, nat_cmp-IsAntisymmetric}
-use Rattle.std.specs.declared.alloc.Global.{Global}
 use Rattle.tk_io.specs.Order.{names_cmp}
-use Rattle.token_tree.specs.Tree.{Definition, Extension, Child, a_token, a_group, Group, Children, child, children_of}
+use Rattle.token_tree.specs.Tree.{Definition, Extension, Child, a_token, a_group, Group, children_of}
 use Rattle.group_inherit.specs.declared.fault.TreeFault.{TreeFault}
 use Rattle.group_inherit.specs.declared.fault.TreeFault.TheVariants.{ExtendsTarget, ExtendsCycle, TooManyTokens, TooHigh, NoMemory}
+use Rattle.group_inherit.specs.declared.targets.Row.{Row}
 use Rattle.group_inherit.specs.inner.Faults.{IsLostTarget}
-use Rattle.group_inherit.specs.Extension.{GroupPath, Lost, extension_of, target_path, names_of_groups, group_names, needs_of, lost_unless}
-use Rattle.group_inherit.specs.inner.Numbering.{GroupAt, path_in, Places, ArePlaces, AreKnown, EachKnown, IsRow, EachRow, lost_by, lost_of, lost_nodes}
+use Rattle.group_inherit.specs.Extension.{GroupPath, Lost, extension_of, names_of_groups, group_names, lost_unless, lost_at}
+use Rattle.group_inherit.specs.inner.Numbering.{GroupAt, path_in, Places, ArePlaces, AreKnown, EachKnown, IsRow, EachRow, numbers_of, has_number, lost_of, lost_nodes}
 use Rattle.group_inherit.proofs.Numbers.{Entries}
 
 tied : (r : Ordering) → is_eq r ≡ true → r ≡ Equal
@@ -93,7 +93,7 @@ module _ (places : Places) (path : GroupPath) (all : List (Option ℕ)) where
         known = q.known.1;
       }
 
--- The target behind the child groups.
+-- The child groups and the target.
 
 module _ (places : Places) (n : GroupAt) (row : List ℕ)
     (children : map (λ (v : ℕ). Some v) row ≡ map (λ (name : List ℕ). map_of.get places (n.0 ++ name ∷ [])) (group_names n.1)) where
@@ -101,40 +101,40 @@ module _ (places : Places) (n : GroupAt) (row : List ℕ)
   children_row [] = refl
   children_row (x ∷ xs) = ap (λ (os : List (Option ℕ)). map_of.get places (n.0 ++ x ∷ []) ∷ os) (children_row xs)
 
-  pub row_without : extension_of n.1 ≡ None → IsRow places n row × (lost_of places n ≡ [])
-  row_without e =
-      let kids = map (λ (name : List ℕ). n.0 ++ name ∷ []) (group_names n.1) in (
-        children ∙ (children_row (group_names n.1)
-            ∙ (ap (map (map_of.get places)) (sym (append-nil kids))
-            ∙ ap (λ (o : Option Extension). map (map_of.get places) (kids ++ option_to_list (option_map (λ x. x.target) o))) (sym e))),
-        ap (lost_by places n.0) e,
-      )
+  pub row_without : (made : Row) → made.children.items ≡ row → made.target ≡ None → extension_of n.1 ≡ None → IsRow places n made × (lost_of places n ≡ [])
+  row_without made is none e = (
+    record {
+      children = ap (map (λ (v : ℕ). Some v)) is ∙ (children ∙ children_row (group_names n.1));
+      target = ap (option_map (λ (v : ℕ). Some v)) none ∙ ap (λ (o : Option Extension). option_map (map_of.get places) (option_map (λ x. x.target) o)) (sym e);
+    },
+    ap (lost_at (has_number places) n.0) e,
+  )
 
-  pub row_with : (x : Extension) (v : ℕ) (more : List ℕ) → extension_of n.1 ≡ Some x → map_of.get places x.target ≡ Some v → more ≡ row ++ v ∷ [] → IsRow places n more × (lost_of places n ≡ [])
-  row_with x v more e f made =
-      let kids = map (λ (name : List ℕ). n.0 ++ name ∷ []) (group_names n.1) in (
-        ap (map (λ (y : ℕ). Some y)) made
-            ∙ (map_push (λ (y : ℕ). Some y) row v
-            ∙ (ap (λ (os : List (Option ℕ)). os ++ Some v ∷ []) (children ∙ children_row (group_names n.1))
-            ∙ (ap (λ (o : Option ℕ). map (map_of.get places) kids ++ o ∷ []) (sym f)
-            ∙ (sym (map-append (map_of.get places) kids (x.target ∷ []))
-            ∙ ap (λ (o : Option Extension). map (map_of.get places) (kids ++ option_to_list (option_map (λ y. y.target) o))) (sym e))))),
-        ap (lost_by places n.0) e ∙ ap (λ (o : Option ℕ). lost_unless (is_some o) n.0 x) f,
-      )
+  pub row_with : (made : Row) (x : Extension) (v : ℕ) → made.children.items ≡ row → made.target ≡ Some v → extension_of n.1 ≡ Some x → map_of.get places x.target ≡ Some v → IsRow places n made × (lost_of places n ≡ [])
+  row_with made x v is some e f = (
+    record {
+      children = ap (map (λ (y : ℕ). Some y)) is ∙ (children ∙ children_row (group_names n.1));
+      target =
+          ap (option_map (λ (y : ℕ). Some y)) some
+          ∙ (ap (λ (o : Option ℕ). Some o) (sym f)
+          ∙ ap (λ (o : Option Extension). option_map (map_of.get places) (option_map (λ y. y.target) o)) (sym e));
+    },
+    ap (lost_at (has_number places) n.0) e ∙ ap (λ (o : Option ℕ). lost_unless (is_some o) n.0 x) f,
+  )
 
 pub row_lost : (places : Places) (n : GroupAt) (x : Extension) → extension_of n.1 ≡ Some x → map_of.get places x.target ≡ None → lost_of places n ≡ (record { path = n.0; extension = x }) ∷ []
-row_lost places n x e f = ap (lost_by places n.0) e ∙ ap (λ (o : Option ℕ). lost_unless (is_some o) n.0 x) f
+row_lost places n x e f = ap (lost_at (has_number places) n.0) e ∙ ap (λ (o : Option ℕ). lost_unless (is_some o) n.0 x) f
 
 -- Rows, one after the other.
 
-pub record Rowing (places : Places) (nodes : List GroupAt) (rows : List (Vec ℕ Global)) (left : List GroupAt) : Type 0 where
-  pub rows_are : (rest : List (Vec ℕ Global)) → EachRow places left rest → EachRow places nodes (rows ++ rest)
+pub record Rowing (places : Places) (nodes : List GroupAt) (rows : List Row) (left : List GroupAt) : Type 0 where
+  pub rows_are : (rest : List Row) → EachRow places left rest → EachRow places nodes (rows ++ rest)
   pub sound : lost_nodes places left ≡ lost_nodes places nodes
   pub known : EachKnown places left
 
-pub one_row_more : (places : Places) (nodes : List GroupAt) (rows more : List (Vec ℕ Global)) (n : GroupAt) (left : List GroupAt) (row : Vec ℕ Global) → Rowing places nodes rows (n ∷ left) → IsRow places n row.items → lost_of places n ≡ [] → more ≡ rows ++ row ∷ [] → Rowing places nodes more left
+pub one_row_more : (places : Places) (nodes : List GroupAt) (rows more : List Row) (n : GroupAt) (left : List GroupAt) (row : Row) → Rowing places nodes rows (n ∷ left) → IsRow places n row → lost_of places n ≡ [] → more ≡ rows ++ row ∷ [] → Rowing places nodes more left
 one_row_more places nodes rows more n left row r is none made = record {
-  rows_are = λ rest e. subst (λ (xs : List (Vec ℕ Global)). EachRow places nodes xs) (sym (ap (λ (xs : List (Vec ℕ Global)). xs ++ rest) made ∙ append_assoc rows (row ∷ []) rest)) (r.rows_are (row ∷ rest) (is, e));
+  rows_are = λ rest e. subst (λ (xs : List Row). EachRow places nodes xs) (sym (ap (λ (xs : List Row). xs ++ rest) made ∙ append_assoc rows (row ∷ []) rest)) (r.rows_are (row ∷ rest) (is, e));
   sound = ap (λ (xs : List Lost). xs ++ lost_nodes places left) (sym none) ∙ r.sound;
   known = r.known.1;
 }
@@ -149,3 +149,20 @@ lost_first xs ys (ExtendsCycle ring span) h = absurd h
 lost_first xs ys (TooManyTokens shown) h = absurd h
 lost_first xs ys (TooHigh height) h = absurd h
 lost_first xs ys NoMemory h = tt
+
+-- Lists of numbers, one after the other.
+
+pub one_list_more : (rows : List Row) (i : ℕ) (row : Row) (lists more : List (Vec ℕ Global)) (list : Vec ℕ Global) → i < length rows → row ≡ get_or rows i row → list.items ≡ numbers_of row → more ≡ lists ++ list ∷ []
+    → map (λ l. l.items) lists ++ map numbers_of (drop i rows) ≡ map numbers_of rows → map (λ l. l.items) more ++ map numbers_of (drop (i + 1) rows) ≡ map numbers_of rows
+one_list_more rows i row lists more list h e is made so =
+    let left = map numbers_of (drop (i + 1) rows) in
+    let first : drop i rows ≡ row ∷ drop (i + 1) rows = drop_more rows i row h ∙ ap (λ (r : Row). r ∷ drop (i + 1) rows) (sym e) in
+    ap (λ (ls : List (Vec ℕ Global)). map (λ l. l.items) ls ++ left) made
+    ∙ (ap (λ (ls : List (List ℕ)). ls ++ left) (map_push (λ (l : Vec ℕ Global). l.items) lists list)
+    ∙ (append_assoc (map (λ l. l.items) lists) (list.items ∷ []) left
+    ∙ (ap (λ (l : List ℕ). map (λ l. l.items) lists ++ l ∷ left) is
+    ∙ (ap (λ (rs : List Row). map (λ l. l.items) lists ++ map numbers_of rs) (sym first) ∙ so))))
+
+pub all_listed : (rows : List Row) (i : ℕ) (lists : List (Vec ℕ Global)) → length rows ≤ i → map (λ l. l.items) lists ++ map numbers_of (drop i rows) ≡ map numbers_of rows → map (λ l. l.items) lists ≡ map numbers_of rows
+all_listed rows i lists h so =
+    sym (append-nil (map (λ l. l.items) lists)) ∙ (ap (λ (rs : List Row). map (λ l. l.items) lists ++ map numbers_of rs) (sym (drop_all i rows h)) ∙ so)

@@ -5,7 +5,8 @@ use Rattle.std.proofs.lemmas.Option.{none-some}
 use Rattle.std.specs.Cmp.Lexicographic.{lists_equiv, nat_list_eq_equiv}
 use Rattle.std.specs.declared.alloc.Global.{Global}
 use Rattle.ring.specs.Graph.{needs_in}
-use Rattle.ring.specs.Routes.{In, Leads, IsRoute, IsRing}
+use Rattle.ring.specs.Lists.{In}
+use Rattle.ring.specs.Routes.{IsChain, IsRoute, IsRing}
 use Rattle.ring.proofs.Ends.{in_cases, leads_tail}
 use Rattle.ring.proofs.Renamings.{in_map, in_names}
 use Rattle.token_tree.specs.Tree.{Extension, Group}
@@ -14,7 +15,7 @@ use Rattle.group_inherit.specs.declared.fault.TreeFault.TheVariants.{ExtendsTarg
 use Rattle.group_inherit.specs.inner.Faults.{IsReportOf, IsRingFault}
 use Rattle.group_inherit.specs.Merging.{either}
 use Rattle.group_inherit.specs.Extension.{GroupPath, at_path, extension_of, group_names, needs_of, needs, target_path, same_path, where_target, extension_to, head_or, extension_along, extension_around, ring_extension}
-use Rattle.group_inherit.specs.inner.Numbering.{GroupAt, group_in, path_in, AreRows, extension_after, extension_in}
+use Rattle.group_inherit.specs.inner.Numbering.{GroupAt, group_in, path_in, AreNeeds, extension_after, extension_in}
 
 same_itself : (p : GroupPath) → same_path p p ≡ true
 same_itself p = (lists_equiv nat_list_eq_equiv).refl p
@@ -28,7 +29,7 @@ record Round {N : Type 0} (needs : N → List N) (ring : List N) : Type 0 where
   first : N
   rest : List N
   is : ring ≡ first ∷ rest
-  leads : Leads needs first (rest ++ first ∷ [])
+  leads : IsChain needs first (rest ++ first ∷ [])
 
 round_of : {N : Type 0} (needs : N → List N) (root : N) (ring : List N) → IsRing needs root ring → Round needs ring
 round_of {N} needs root ring r =
@@ -41,7 +42,7 @@ round_of {N} needs root ring r =
       leads = behind p.before p.last (p.rest ++ p.last ∷ []) (subst (IsRoute needs root) e r.first.closed.steps);
     }
   where
-    behind : (xs : List N) (x : N) (ys : List N) → IsRoute needs root (xs ++ x ∷ ys) → Leads needs x ys
+    behind : (xs : List N) (x : N) (ys : List N) → IsRoute needs root (xs ++ x ∷ ys) → IsChain needs x ys
     behind [] x ys s = s.1
     behind (z ∷ xs) x ys s = leads_tail needs z xs x ys s.1
 
@@ -65,7 +66,7 @@ some_or (Some e) f = (e, refl)
 -- Groups have names of any kind: by its path, each need of a node is one of its group.
 module _ {N : Type 0} (path : N → GroupPath) (at : N → Group) (needs : N → List N) (P : N → Type 0)
     (need : (v w : N) → P v → In w (needs v) → In (path w) (needs_of (path v) (at v))) where
-  goes_down : (first v : N) (vs : List N) → P v → All P vs → Leads needs v (vs ++ first ∷ [])
+  goes_down : (first v : N) (vs : List N) → P v → All P vs → IsChain needs v (vs ++ first ∷ [])
       → extension_along path at first (v ∷ vs) ≡ None → length (path v) < length (path first)
   goes_down first v [] h all l e =
       let none = either_none (extension_to (path first) (at v)) (extension_along path at first []) e in
@@ -93,7 +94,7 @@ module _ {N : Type 0} (path : N → GroupPath) (at : N → Group) (needs : N →
   extension_there root ring all r = some_or (extension_around path at ring) (reports root ring all r)
 
 -- .. where the names are numbers
-pub extension_of_ring : (nodes : List GroupAt) (rows : List (Vec ℕ Global)) → AreRows nodes rows
+pub extension_of_ring : (nodes : List GroupAt) (rows : List (Vec ℕ Global)) → AreNeeds nodes rows
     → (ring : List ℕ) → All (λ w. w < length nodes) ring → IsRing (needs_in rows) 0 ring
     → (e : Extension) × (extension_in nodes ring ≡ Some e)
 extension_of_ring nodes rows are =

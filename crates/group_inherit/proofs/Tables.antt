@@ -1,42 +1,29 @@
 -- The table of expansions.
-use Rattle.std.proofs.Common.{◌≡◌, ℕ, zero, suc, true, ◌==◌, ◌+◌, ◌<◌, ◌≤◌, List, [], ◌∷◌, inl, inr, refl, sym, ap, ◌∙◌, subst, map, length, get_or, set, take, drop, arith, drop-cons, add-one}
+use Rattle.std.proofs.Common.{◌≡◌, ℕ, zero, suc, ◌+◌, ◌<◌, List, [], ◌∷◌, ◌++◌, All, Option, None, Some, option_map, option_to_list, inl, inr, refl, sym, ap, ◌∙◌, subst, map, length, get_or, set, take, arith, slice_get, IfSome}
 use Rattle.std.proofs.lemmas.Bool.{cases_eq}
-use Rattle.std.proofs.lemmas.Bool.Decides.{nat_tests}
-use Rattle.std.proofs.lemmas.List.{take_more, drop_all, get_or-map}
+use Rattle.std.proofs.lemmas.List.{take_more, get_or-map, length-map}
+use Rattle.std.proofs.lemmas.Option.{slice_get_read}
+use Rattle.std.proofs.lemmas.List.Elements.{All-nil, All-cons, All-head, All-tail}
 use Rattle.token_tree.specs.Tree.{Group as GroupData}
-use Rattle.token_tree.specs.Shown.{group_view}
+use Rattle.token_tree.specs.View.{group_view}
 use Rattle.token_tree.specs.declared.tree.Group.{Group}
-use Rattle.ring.specs.Routes.{In}
+use Rattle.ring.specs.Lists.{In}
 use Rattle.ring.specs.Order.{Follows}
-use Rattle.ring.specs.Values.{Comes, comes, AllCome, none, more}
-use Rattle.ring.proofs.Ends.{in_cases}
+use Rattle.ring.proofs.Ends.{in_cases, in_left, in_right}
 use Rattle.ring.proofs.Sums.{follows_at}
+use Rattle.group_inherit.specs.declared.targets.Row.{Row}
+use Rattle.group_inherit.specs.Expansion.{Expands}
+use Rattle.group_inherit.specs.Extension.{GroupPath, group_names, child_paths, target_path}
 use Rattle.group_inherit.specs.Merging.{empty_group}
-use Rattle.group_inherit.specs.inner.Expanding.{numbered}
-use Rattle.group_inherit.specs.inner.Tables.{values_in}
-
--- the group of a number in a table
-abbrev pub value : List Group → ℕ → GroupData
-value table v = numbered (map group_view table) v
+use Rattle.group_inherit.specs.inner.Numbering.{GroupAt, group_in, nowhere, path_in, IsNumbering, AreRows, IsRowOf, numbers_of, needs_by}
+use Rattle.group_inherit.specs.inner.Outcomes.{HoldsExpansion}
+use Rattle.group_inherit.specs.declared.numbered.Node.{Node}
+use Rattle.group_inherit.specs.inner.View.{node_view, nodes_view}
+use Rattle.group_inherit.proofs.Trees.{root_path, needs_by_row}
+use Rattle.group_inherit.specs.inner.Tables.{value, HaveExpansions, HasTarget}
 
 pub value_read : (table : List Group) (w : ℕ) (g : Group) → w < length table → g ≡ get_or table w g → value table w ≡ group_view g
 value_read table w g h e = get_or-map group_view table w g empty_group h ∙ ap group_view (sym e)
-
-pub values_first : (table : List Group) (row : List ℕ) (at : ℕ) → at < length row → values_in table (drop at row) ≡ value table (get_or row at 0) ∷ values_in table (drop (at + 1) row)
-values_first table row at h =
-    let cut : drop at row ≡ get_or row at 0 ∷ drop (at + 1) row = rw add-one (drop-cons row at 0 h) in
-    ap (values_in table) cut
-
-pub values_past : (table : List Group) (row : List ℕ) (at : ℕ) → length row ≤ at → values_in table (drop at row) ≡ []
-values_past table row at h = ap (values_in table) (drop_all at row h)
-
-zero_of : (n : ℕ) → (n == 0) ≡ true → n ≡ 0
-zero_of n h = grind (arith, nat_tests)
-
--- an empty row has none
-pub no_values : (table : List Group) (row : List ℕ) → (length row == 0) ≡ true → values_in table row ≡ []
-no_values table [] e = refl
-no_values table (w ∷ row) e = absurd (omega (arith, zero_of (length (w ∷ row)) e))
 
 value_set_same : (table : List Group) (v : ℕ) (g : Group) → v < length table → value (set table v g) v ≡ group_view g
 value_set_same [] v g h = absurd (omega arith)
@@ -50,22 +37,42 @@ value_set_other (x ∷ xs) zero (suc u) g n = refl
 value_set_other (x ∷ xs) (suc v) zero g n = refl
 value_set_other (x ∷ xs) (suc v) (suc u) g n = value_set_other xs v u g (λ e. n (ap suc e))
 
-all_come : (needs : ℕ → List ℕ) (step : ℕ → List GroupData → GroupData) (table : List Group) (ws : List ℕ) → ((w : ℕ) → In w ws → Comes needs step w (value table w)) → AllCome needs step ws (values_in table ws)
-all_come needs step table [] known = none
-all_come needs step table (w ∷ ws) known = more (known w (inl refl)) (all_come needs step table ws (λ x i. known x (inr i)))
+-- The expansions of all that a group needs, from those of the groups before it in the order.
 
--- the table has the values of all these
-abbrev pub Knows : (ℕ → List ℕ) → (ℕ → List GroupData → GroupData) → List Group → List ℕ → Type 0
-Knows needs step table done = (v : ℕ) → In v done → Comes needs step v (value table v)
+have_each : (tree : GroupData) (table : List Group) (path : ℕ → GroupPath) (ws : List ℕ) → ((w : ℕ) → In w ws → Expands tree (path w) (value table w))
+    → HaveExpansions tree table (map path ws) ws
+have_each tree table path [] known = tt
+have_each tree table path (w ∷ ws) known = (known w (inl refl), have_each tree table path ws (λ x i. known x (inr i)))
 
-pub knows_more : (needs : ℕ → List ℕ) (step : ℕ → List GroupData → GroupData) (table : List Group) (order : List ℕ) (k v : ℕ) (g : Group) → Follows needs [] order → k < length order → v ≡ get_or order k 0 → v < length table →
-    Knows needs step table (take k order) → group_view g ≡ step v (values_in table (needs v)) → Knows needs step (set table v g) (take (k + 1) order)
-knows_more needs step table order k v g f h e within known is u i =
+have_target : (tree : GroupData) (table : List Group) (path : ℕ → GroupPath) (o : Option ℕ) → ((w : ℕ) → In w (option_to_list o) → Expands tree (path w) (value table w))
+    → HasTarget tree table (option_map path o) o
+have_target tree table path None known = tt
+have_target tree table path (Some w) known = known w (inl refl)
+
+module _ (nodes : List GroupAt) (rows : List Row) (table : List Group) (order : List ℕ) (k v : ℕ) (row : Row)
+    (is : IsRowOf nodes v row) (own : needs_by rows v ≡ numbers_of row) (follows : Follows (needs_by rows) [] order) (h : k < length order) (e : v ≡ get_or order k 0)
+    (known : (w : ℕ) → In w (take k order) → HoldsExpansion nodes table w) where
+  before : (w : ℕ) → In w (numbers_of row) → HoldsExpansion nodes table w
+  before w i = known w (follows_at (needs_by rows) [] order k follows h w (subst (λ (x : ℕ). In w (needs_by rows x)) e (subst (In w) (sym own) i)))
+
+  pub children_known : HaveExpansions (group_in nodes 0) table (child_paths (path_in nodes v) (group_in nodes v)) row.children.items
+  children_known =
+      subst (λ (ps : List GroupPath). HaveExpansions (group_in nodes 0) table ps row.children.items) is.children
+      (have_each (group_in nodes 0) table (path_in nodes) row.children.items (λ w i. before w (in_left row.children.items (option_to_list row.target) w i)))
+
+  pub target_known : HasTarget (group_in nodes 0) table (target_path (group_in nodes v)) row.target
+  target_known =
+      subst (λ (o : Option GroupPath). HasTarget (group_in nodes 0) table o row.target) is.target
+      (have_target (group_in nodes 0) table (path_in nodes) row.target (λ w i. before w (in_right row.children.items (option_to_list row.target) w i)))
+
+pub expansion_more : (nodes : List GroupAt) (table : List Group) (order : List ℕ) (k v : ℕ) (g : Group) → k < length order → v ≡ get_or order k 0 → v < length table
+    → ((w : ℕ) → In w (take k order) → HoldsExpansion nodes table w) → Expands (group_in nodes 0) (path_in nodes v) (group_view g)
+    → (u : ℕ) → In u (take (k + 1) order) → HoldsExpansion nodes (set table v g) u
+expansion_more nodes table order k v g h e within known is u i =
     elim (cases_eq u v) [
-      | inl p ↦ subst (λ (x : ℕ). Comes needs step x (value (set table v g) x)) (sym p)
-          (subst (Comes needs step v) (sym (value_set_same table v g within ∙ is))
-          (comes (all_come needs step table (needs v) (λ w j. known w (follows_at needs [] order k f h w (subst (λ (x : ℕ). In w (needs x)) e j))))))
-      | inr q ↦ subst (Comes needs step u) (sym (value_set_other table v u g q)) (known u (before q))
+      | inl p ↦ subst (HoldsExpansion nodes (set table v g)) (sym p)
+          (subst (Expands (group_in nodes 0) (path_in nodes v)) (sym (value_set_same table v g within)) is)
+      | inr q ↦ subst (Expands (group_in nodes 0) (path_in nodes u)) (sym (value_set_other table v u g q)) (known u (before q))
     ]
   where
     before : (u ≡ v → ⊥) → In u (take k order)
@@ -73,3 +80,55 @@ knows_more needs step table order k v g f h e within known is u i =
       | inl j ↦ j
       | inr j ↦ elim j [ inl p ↦ absurd (q (p ∙ sym e)) | inr z ↦ absurd z ]
     ]
+
+-- What holds of all numbers of a row holds of those of the child groups and of the target's.
+
+pub all_left : (P : ℕ → Type 0) (xs ys : List ℕ) → All P (xs ++ ys) → All P xs
+all_left P [] ys a = All-nil P
+all_left P (x ∷ xs) ys a = All-cons P x xs (All-head P x (xs ++ ys) a) (all_left P xs ys (All-tail P x (xs ++ ys) a))
+
+all_right : (P : ℕ → Type 0) (xs ys : List ℕ) → All P (xs ++ ys) → All P ys
+all_right P [] ys a = a
+all_right P (x ∷ xs) ys a = all_right P xs ys (All-tail P x (xs ++ ys) a)
+
+some_within : (P : ℕ → Type 0) (o : Option ℕ) → All P (option_to_list o) → IfSome o P
+some_within P None a = tt
+some_within P (Some w) a = All-head P w [] a
+
+pub target_within : (P : ℕ → Type 0) (row : Row) → All P (numbers_of row) → IfSome row.target P
+target_within P row a = some_within P row.target (all_right P row.children.items (option_to_list row.target) a)
+
+-- The row of a number, and what it says of its group.
+
+pub known_row : (nodes : List GroupAt) (rows : List Row) (v : ℕ) (row : Row) → AreRows nodes rows → v < length rows → row ≡ get_or rows v row → IsRowOf nodes v row × (needs_by rows v ≡ numbers_of row)
+known_row nodes rows v row each h e =
+    let there : slice_get rows v ≡ Some row = slice_get_read rows (length rows) v row refl h e in
+    (each v row there, needs_by_row rows v row there)
+
+pub children_many : (nodes : List GroupAt) (v : ℕ) (row : Row) (g : GroupData) → IsRowOf nodes v row → group_in nodes v ≡ g → length row.children.items ≡ length (group_names g)
+children_many nodes v row g is itself =
+    sym (length-map row.children.items (path_in nodes))
+    ∙ (ap length is.children
+    ∙ (length-map (group_names (group_in nodes v)) (λ (name : List ℕ). path_in nodes v ++ name ∷ []) ∙ ap (λ (h : GroupData). length (group_names h)) itself))
+
+pub group_read : (nodes : List Node) (v : ℕ) (n : Node) → v < length nodes → group_in (nodes_view nodes) v ≡ group_view (get_or nodes v n).group.now
+group_read nodes v n h = ap (λ (m : GroupAt). m.1) (get_or-map node_view nodes v n nowhere h)
+
+-- what holds of a table holds of the slice that shows it
+pub in_slice : (tree : GroupData) (table slice : List Group) (g h : GroupData) (path : GroupPath) (row : Row) → slice ≡ table → g ≡ h
+    → HaveExpansions tree table (child_paths path g) row.children.items → HaveExpansions tree slice (child_paths path h) row.children.items
+in_slice tree table slice g h path row same itself known =
+    subst (λ (ts : List Group). HaveExpansions tree ts (child_paths path h) row.children.items) (sym same)
+    (subst (λ (k : GroupData). HaveExpansions tree table (child_paths path k) row.children.items) itself known)
+
+pub target_in_slice : (tree : GroupData) (table slice : List Group) (g h : GroupData) (row : Row) → slice ≡ table → g ≡ h
+    → HasTarget tree table (target_path g) row.target → HasTarget tree slice (target_path h) row.target
+target_in_slice tree table slice g h row same itself known =
+    subst (λ (ts : List Group). HasTarget tree ts (target_path h) row.target) (sym same)
+    (subst (λ (k : GroupData). HasTarget tree table (target_path k) row.target) itself known)
+
+-- the expansion of the root
+pub root_expands : (tree : GroupData) (nodes : List GroupAt) (table : List Group) → IsNumbering nodes → group_in nodes 0 ≡ tree → HoldsExpansion nodes table 0 → Expands tree [] (value table 0)
+root_expands tree nodes table n itself known =
+    subst (λ (t : GroupData). Expands t [] (value table 0)) itself
+    (subst (λ (p : GroupPath). Expands (group_in nodes 0) p (value table 0)) (root_path (group_in nodes 0) nodes n.all n.named) known)

@@ -1,20 +1,24 @@
 -- A numbered tree, and the tree.
-use Rattle.std.proofs.Common.{◌≡◌, ℕ, zero, suc, ◌+◌, ◌<◌, ◌≤◌, Bool, true, false, List, [], ◌∷◌, ◌++◌, Option, Some, None, option_and_then, option_map, is_some, unwrap_or, inl, inr, refl, sym, ap, ◌∙◌, subst, map, length, get_or, arith, All, Vec, option_to_list}
+use Rattle.std.proofs.Common.{◌≡◌, ℕ, zero, suc, ◌<◌, Bool, true, List, [], ◌∷◌, ◌++◌, Option, Some, None, option_and_then, option_map, is_some, unwrap_or, inl, inr, refl, sym, ap, ◌∙◌, subst, map, length, get_or, arith, All, Vec, option_to_list, slice_get}
 use Rattle.std.proofs.lemmas.List.{map-append, length-map}
-use Rattle.std.proofs.lemmas.List.Elements.{All-nil, All-cons}
+use Rattle.std.proofs.lemmas.List.Elements.{All-nil, All-cons, All-head, All-tail}
 use Rattle.std.proofs.lemmas.Option.{none-some, same_Some}
 use Rattle.std.specs.FinMap as map_of
 use Rattle.std.specs.declared.alloc.Global.{Global}
 use Rattle.ring.specs.Graph.{needs_in, IsGraph}
 use Rattle.ring.specs.Renaming.{IsRenaming}
-use Rattle.ring.specs.Routes.{In, AreApart, IsReached, IsRing, HasNoRing}
+use Rattle.ring.specs.Order.{Follows}
+use Rattle.ring.specs.Lists.{In, AreApart}
+use Rattle.ring.specs.Routes.{IsReached, IsRing, HasNoRing}
 use Rattle.ring.specs.Values.{Comes}
+use Rattle.ring.proofs.Ends.{in_cases}
 use Rattle.ring.proofs.Renamings.{ring_named, no_ring_named, value_named, root_reached}
 use Rattle.ring.proofs.Within.{within}
-use Rattle.token_tree.specs.Tree.{Extension, Child, a_token, a_group, Group, group, Children, no_children, child}
+use Rattle.token_tree.specs.Tree.{Child, a_token, a_group, Group, group, Children, no_children, child}
+use Rattle.group_inherit.specs.declared.targets.Row.{Row}
 use Rattle.group_inherit.specs.Merging.{named, empty_group}
-use Rattle.group_inherit.specs.Extension.{GroupPath, group_of, group_at, at_path, groups_from, children_in, extension_of, needs_of, needs, Lost, lost_unless, lost_at, lost_among, lost_targets}
-use Rattle.group_inherit.specs.inner.Numbering.{GroupAt, nowhere, group_in, path_in, LacksName, AreNamed, AreNamedAmong, Places, ArePlaces, IsKnown, AreKnown, EachKnown, IsRow, EachRow, lost_by, lost_of, lost_nodes, AreRows}
+use Rattle.group_inherit.specs.Extension.{GroupPath, group_of, group_at, at_path, groups_from, children_in, target_path, child_paths, needs_of, needs, lost_among, has_group, lost_targets}
+use Rattle.group_inherit.specs.inner.Numbering.{GroupAt, nowhere, group_in, path_in, AreNamed, AreNamedAmong, Places, ArePlaces, AreKnown, EachKnown, IsRow, EachRow, IsRowOf, AreRows, AreListed, numbers_of, needs_by, has_number, lost_nodes, AreNeeds}
 use Rattle.group_inherit.proofs.Naming.{get_here, get_later}
 use Rattle.group_inherit.proofs.Finding.{paths, Found, found_from, listed_from, apart_from, named_from, goes_on}
 
@@ -72,17 +76,17 @@ in_all : (P : ℕ → Type 0) (xs : List ℕ) → ((x : ℕ) → In x xs → P x
 in_all P [] h = All-nil P
 in_all P (x ∷ xs) h = All-cons P x xs (h x (inl refl)) (in_all P xs (λ y i. h y (inr i)))
 
-pub rows_long : (places : Places) (ns : List GroupAt) (rows : List (Vec ℕ Global)) → EachRow places ns rows → length rows ≡ length ns
+pub rows_long : (places : Places) (ns : List GroupAt) (rows : List Row) → EachRow places ns rows → length rows ≡ length ns
 rows_long places [] [] e = refl
 rows_long places [] (r ∷ rows) e = absurd e
 rows_long places (n ∷ ns) [] e = absurd e
 rows_long places (n ∷ ns) (r ∷ rows) e = ap suc (rows_long places ns rows e.1)
 
-row_at : (places : Places) (ns : List GroupAt) (rows : List (Vec ℕ Global)) (v : ℕ) → EachRow places ns rows → v < length ns → IsRow places (get_or ns v nowhere) (needs_in rows v)
-row_at places [] rows v e h = absurd (omega arith)
-row_at places (n ∷ ns) [] v e h = absurd e
-row_at places (n ∷ ns) (r ∷ rows) zero e h = e.0
-row_at places (n ∷ ns) (r ∷ rows) (suc v) e h = row_at places ns rows v e.1 (omega arith)
+row_at : (places : Places) (ns : List GroupAt) (rows : List Row) (v : ℕ) (row : Row) → EachRow places ns rows → slice_get rows v ≡ Some row → IsRow places (get_or ns v nowhere) row
+row_at places ns [] v row e s = absurd (none-some row s)
+row_at places [] (r ∷ rows) v row e s = absurd e
+row_at places (n ∷ ns) (r ∷ rows) zero row e s = subst (IsRow places n) (same_Some r row s) e.0
+row_at places (n ∷ ns) (r ∷ rows) (suc v) row e s = row_at places ns rows v row e.1 s
 
 no_child : (xs : List ℕ) (ys : List (Option ℕ)) → map (λ (v : ℕ). Some v) xs ≡ ys → (P : ℕ → Type 0) → ((v : ℕ) → In (Some v) ys → P v) → (x : ℕ) → In x xs → P x
 no_child [] ys e P h x i = absurd i
@@ -101,14 +105,6 @@ found_in_row places [] v i = absurd i
 found_in_row places (q ∷ qs) v (inl e) = (q, sym e)
 found_in_row places (q ∷ qs) v (inr i) = found_in_row places qs v i
 
-rows_below : (places : Places) (n : ℕ) (ns : List GroupAt) (rows : List (Vec ℕ Global)) → EachRow places ns rows → ((q : GroupPath) (v : ℕ) → map_of.get places q ≡ Some v → v < n) → All (λ row. All (λ w. w < n) row.items) rows
-rows_below places n ns [] e h = All-nil (λ row. All (λ w. w < n) row.items)
-rows_below places n [] (r ∷ rows) e h = absurd e
-rows_below places n (m ∷ ns) (r ∷ rows) e h =
-    All-cons (λ row. All (λ w. w < n) row.items) r rows
-    (in_all (λ w. w < n) r.items (no_child r.items (map (map_of.get places) (needs_of m.0 m.1)) e.0 (λ w. w < n) (λ v i. (let f = found_in_row places (needs_of m.0 m.1) v i in h f.0 v f.1))))
-    (rows_below places n ns rows e.1 h)
-
 named_row : (nodes : List GroupAt) (n : ℕ) (places : Places) → ArePlaces nodes n places → (row : List ℕ) (qs : List GroupPath) → map (λ (v : ℕ). Some v) row ≡ map (map_of.get places) qs → map (path_in nodes) row ≡ qs
 named_row nodes n places p [] [] e = refl
 named_row nodes n places p [] (q ∷ qs) e = absurd (cc)
@@ -117,6 +113,94 @@ named_row nodes n places p (v ∷ row) (q ∷ qs) e =
     let f : Some v ≡ map_of.get places q = cc in
     let r : map (λ (x : ℕ). Some x) row ≡ map (map_of.get places) qs = cc in
     ap (λ (x : GroupPath). x ∷ map (path_in nodes) row) (p.found q v (sym f)).1 ∙ ap (λ (xs : List GroupPath). q ∷ xs) (named_row nodes n places p row qs r)
+
+named_target : (nodes : List GroupAt) (n : ℕ) (places : Places) → ArePlaces nodes n places → (t : Option ℕ) (o : Option GroupPath)
+    → option_map (λ (v : ℕ). Some v) t ≡ option_map (map_of.get places) o → option_map (path_in nodes) t ≡ o
+named_target nodes n places p None None e = refl
+named_target nodes n places p None (Some q) e = absurd (none-some (map_of.get places q) e)
+named_target nodes n places p (Some v) None e = absurd (none-some (Some v) (sym e))
+named_target nodes n places p (Some v) (Some q) e = ap (λ (x : GroupPath). Some x) (p.found q v (sym (same_Some (Some v) (map_of.get places q) e))).1
+
+-- a target's number is found
+found_target : (places : Places) (t : Option ℕ) (o : Option GroupPath) → option_map (λ (v : ℕ). Some v) t ≡ option_map (map_of.get places) o
+    → (v : ℕ) → In v (option_to_list t) → (q : GroupPath) × (map_of.get places q ≡ Some v)
+found_target places None o e v i = absurd i
+found_target places (Some w) None e v i = absurd (none-some (Some w) (sym e))
+found_target places (Some w) (Some q) e v (inl p) = (q, sym (same_Some (Some w) (map_of.get places q) e) ∙ ap (λ (x : ℕ). Some x) (sym p))
+found_target places (Some w) (Some q) e v (inr i) = absurd i
+
+-- the row by paths
+row_of : (nodes : List GroupAt) (n : ℕ) (places : Places) (v : ℕ) (row : Row) → n ≡ length nodes → ArePlaces nodes n places → IsRow places (get_or nodes v nowhere) row → IsRowOf nodes v row
+row_of nodes n places v row many p r = record {
+  children = named_row nodes n places p row.children.items (child_paths (path_in nodes v) (group_in nodes v)) r.children;
+  target = named_target nodes n places p row.target (target_path (group_in nodes v)) r.target;
+  within = in_all (λ w. w < length nodes) (numbers_of row) (λ w i. elim (in_cases row.children.items (option_to_list row.target) w i) [
+    | inl j ↦ no_child row.children.items (map (map_of.get places) (child_paths (path_in nodes v) (group_in nodes v))) r.children (λ x. x < length nodes)
+        (λ x k. below (found_in_row places (child_paths (path_in nodes v) (group_in nodes v)) x k)) w j
+    | inr j ↦ below (found_target places row.target (target_path (group_in nodes v)) r.target w j)
+  ]);
+}
+  where
+    below : {x : ℕ} → (q : GroupPath) × (map_of.get places q ≡ Some x) → x < length nodes
+    below {x} f = subst (λ (m : ℕ). x < m) many (p.found f.0 x f.1).0
+
+-- Rows, each in one list.
+
+all_by_index : (P : Row → Type 0) (rows : List Row) → ((v : ℕ) (row : Row) → slice_get rows v ≡ Some row → P row) → All P rows
+all_by_index P [] h = All-nil P
+all_by_index P (r ∷ rows) h = All-cons P r rows (h 0 r refl) (all_by_index P rows (λ v row s. h (suc v) row s))
+
+all_listed : (P : List ℕ → Type 0) (rows : List Row) (lists : List (Vec ℕ Global)) → AreListed rows lists → All (λ r. P (numbers_of r)) rows → All (λ l. P l.items) lists
+all_listed P rows [] e a = All-nil (λ l. P l.items)
+all_listed P [] (l ∷ lists) e a = absurd (cc)
+all_listed P (r ∷ rows) (l ∷ lists) e a =
+    let p : l.items ≡ numbers_of r = cc in
+    let q : AreListed rows lists = cc in
+    All-cons (λ m. P m.items) l lists (subst P (sym p) (All-head (λ s. P (numbers_of s)) r rows a)) (all_listed P rows lists q (All-tail (λ s. P (numbers_of s)) r rows a))
+
+needs_same : (rows : List Row) (lists : List (Vec ℕ Global)) → AreListed rows lists → (v : ℕ) → needs_in lists v ≡ needs_by rows v
+needs_same [] [] e v = refl
+needs_same [] (l ∷ lists) e v = absurd (cc)
+needs_same (r ∷ rows) [] e v = absurd (cc)
+needs_same (r ∷ rows) (l ∷ lists) e zero = let p : l.items ≡ numbers_of r = cc in p
+needs_same (r ∷ rows) (l ∷ lists) e (suc v) = let q : AreListed rows lists = cc in needs_same rows lists q v
+
+pub needs_by_row : (rows : List Row) (v : ℕ) (row : Row) → slice_get rows v ≡ Some row → needs_by rows v ≡ numbers_of row
+needs_by_row [] v row s = absurd (none-some row s)
+needs_by_row (r ∷ rows) zero row s = ap numbers_of (same_Some r row s)
+needs_by_row (r ∷ rows) (suc v) row s = needs_by_row rows v row s
+
+row_there : (rows : List Row) (v : ℕ) → v < length rows → (row : Row) × (slice_get rows v ≡ Some row)
+row_there [] v h = absurd (omega arith)
+row_there (r ∷ rows) zero h = (r, refl)
+row_there (r ∷ rows) (suc v) h = row_there rows v (omega arith)
+
+named_option : (path : ℕ → GroupPath) (o : Option ℕ) → map path (option_to_list o) ≡ option_to_list (option_map path o)
+named_option path None = refl
+named_option path (Some w) = refl
+
+module _ (nodes : List GroupAt) (rows : List Row) (lists : List (Vec ℕ Global)) (long : length rows ≡ length nodes) (each : AreRows nodes rows) (same : AreListed rows lists) where
+  pub lists_long : length lists ≡ length nodes
+  lists_long = sym (length-map lists (λ l. l.items)) ∙ (ap length same ∙ (length-map rows numbers_of ∙ long))
+
+  pub lists_graph : IsGraph lists
+  lists_graph = all_listed (λ ws. All (λ w. w < length lists) ws) rows lists same (all_by_index (λ r. All (λ w. w < length lists) (numbers_of r)) rows
+      (λ v row s. subst (λ (n : ℕ). All (λ w. w < n) (numbers_of row)) (sym lists_long) (each v row s).within))
+
+  pub lists_needs : AreNeeds nodes lists
+  lists_needs v h =
+      let t = row_there rows v (omega (arith, h, long)) in
+      let row = t.0 in
+      let r = each v row t.1 in
+      ap (map (path_in nodes)) (needs_same rows lists same v ∙ needs_by_row rows v row t.1)
+      ∙ (map-append (path_in nodes) row.children.items (option_to_list row.target)
+      ∙ (ap (λ (ps : List GroupPath). ps ++ map (path_in nodes) (option_to_list row.target)) r.children
+      ∙ ap (λ (ps : List GroupPath). child_paths (path_in nodes v) (group_in nodes v) ++ ps) (named_option (path_in nodes) row.target ∙ ap option_to_list r.target)))
+
+  pub lists_follow : (order : List ℕ) → Follows (needs_in lists) [] order → Follows (needs_by rows) [] order
+  lists_follow order f =
+      let steps : needs_in lists ≡ needs_by rows = λ i. λ v. needs_same rows lists same v i in
+      subst (λ (needs : ℕ → List ℕ). Follows needs [] order) steps f
 
 module _ (tree : Group) (nodes : List GroupAt) (all : nodes ≡ groups_from [] tree) (names : AreNamed tree) where
   pub some_nodes : 0 < length nodes
@@ -182,29 +266,18 @@ module _ (tree : Group) (nodes : List GroupAt) (all : nodes ≡ groups_from [] t
         subst (λ (m : GroupAt). AreKnown places m.0 (children_in m.1)) k.is
         (known_children (path_in nodes v) (group_in nodes v) (named_from [] tree (path_in nodes v) (group_in nodes v) names (listed_at v k.within)) (found_at v k.within))))
 
-    lost_same : (path : GroupPath) (o : Option Extension) → lost_by places path o ≡ lost_at tree path o
-    lost_same path None = refl
-    lost_same path (Some e) = ap (λ (b : Bool). lost_unless b path e) (known e.target)
-
-    lost_each : (ns : List GroupAt) → lost_nodes places ns ≡ lost_among tree ns
-    lost_each [] = refl
-    lost_each (n ∷ ns) =
-        ap (λ (xs : List Lost). xs ++ lost_nodes places ns) (lost_same n.0 (extension_of n.1))
-        ∙ ap (λ (xs : List Lost). lost_at tree n.0 (extension_of n.1) ++ xs) (lost_each ns)
-
     -- the targets that have no number are the lost ones
     pub lost_are : lost_nodes places nodes ≡ lost_targets tree
     unfolding lost_targets
-    lost_are = lost_each nodes ∙ ap (lost_among tree) all
+    lost_are =
+        let same : has_number places ≡ has_group tree = λ i. λ q. known q i in
+        ap (λ (is_group : GroupPath → Bool). lost_among is_group nodes) same ∙ ap (lost_among (has_group tree)) all
 
-    module _ (rows : List (Vec ℕ Global)) (made : EachRow places nodes rows) where
-      pub rows_graph : IsGraph rows
-      rows_graph = subst (λ (n : ℕ). All (λ row. All (λ w. w < n) row.items) rows) (sym (rows_long places nodes rows made)) (rows_below places (length nodes) nodes rows made (λ q v e. (p.found q v e).0))
+    -- the rows have what the groups need
+    pub each_row : (rows : List Row) → EachRow places nodes rows → AreRows nodes rows
+    each_row rows made v row s = row_of nodes (length nodes) places v row refl p (row_at places nodes rows v row made s)
 
-      pub are_rows : AreRows nodes rows
-      are_rows v h = named_row nodes (length nodes) places p (needs_in rows v) (needs_of (path_in nodes v) (group_in nodes v)) (row_at places nodes rows v made h)
-
-  module _ (rows : List (Vec ℕ Global)) (graph : IsGraph rows) (long : length rows ≡ length nodes) (are : AreRows nodes rows) where
+  module _ (rows : List (Vec ℕ Global)) (graph : IsGraph rows) (long : length rows ≡ length nodes) (are : AreNeeds nodes rows) where
     reached_below : (v : ℕ) → IsReached (needs_in rows) 0 v → v < length nodes
     reached_below v r = omega (arith, within rows 0 v graph (omega (arith, some_nodes, long)) r, long)
 

@@ -3,7 +3,7 @@ use Rattle.std.proofs.Common.{◌≡◌, ℕ, ◌+◌, ◌<◌, ◌≤◌, List,
 use Rattle.std.proofs.lemmas.List.{get_or-map, drop_all, length-map}
 use Rattle.std.specs.FinMap as finite
 use Rattle.token_tree.specs.Tree.{Child as ChildData, Named, children_of}
-use Rattle.token_tree.specs.Shown.{child_view, member_view}
+use Rattle.token_tree.specs.View.{child_view, member_view}
 use Rattle.token_tree.specs.declared.tree.Member.{Member}
 use Rattle.group_inherit.specs.Putting.{put_all}
 use Rattle.group_inherit.proofs.Weights.{child_weight, children_weight, member_lighter}

@@ -4,7 +4,7 @@ use Rattle.std.specs.Prelude.{ℕ, suc, ◌+◌, max, Bool, true, false, if◌th
 use Rattle.std.specs.Cmp.Lexicographic.{pointwise}
 use Rattle.std.specs.Str.{bytes_eq}
 use Rattle.token_tree.specs.Tree.{Extension, Child, a_token, a_group, Group, group, Children, no_children, child}
-use Rattle.group_inherit.specs.Merging.{either, child_at, empty_group}
+use Rattle.group_inherit.specs.Merging.{either, member_at, empty_group}
 use Rattle.ring.specs.Values.{Comes}
 
 abbrev pub GroupPath : Type 0
@@ -18,7 +18,7 @@ group_of (a_group g) = Some g
 -- the group at a path below a group
 abbrev pub group_at : Group → GroupPath → Option Group
 group_at g [] = Some g
-group_at g (name ∷ path) = option_and_then (λ h. group_at h path) (option_and_then group_of (child_at name g))
+group_at g (name ∷ path) = option_and_then (λ h. group_at h path) (option_and_then group_of (member_at name g))
 
 -- the same, or the empty group where there is none
 abbrev pub at_path : Group → GroupPath → Group
@@ -67,9 +67,16 @@ group_names g = names_of_groups (children_in g)
 abbrev pub target_path : Group → Option GroupPath
 target_path g = option_map (λ e. e.target) (extension_of g)
 
+-- the paths of the child groups of a group at a path, in the order of the children
+abbrev pub paths_below : GroupPath → Children → List GroupPath
+paths_below path cs = map (λ name. path ++ name ∷ []) (names_of_groups cs)
+
+abbrev pub child_paths : GroupPath → Group → List GroupPath
+child_paths path g = paths_below path (children_in g)
+
 -- what a group at a path needs: its child groups in byte order of names, and then its target
 abbrev pub needs_of : GroupPath → Group → List GroupPath
-needs_of path g = map (λ name. path ++ name ∷ []) (group_names g) ++ option_to_list (target_path g)
+needs_of path g = child_paths path g ++ option_to_list (target_path g)
 
 -- .. of a tree; nothing where no group is at the path
 abbrev pub needs : Group → GroupPath → List GroupPath
@@ -86,17 +93,21 @@ abbrev pub lost_unless : Bool → GroupPath → Extension → List Lost
 lost_unless true path e = []
 lost_unless false path e = record { path = path; extension = e } ∷ []
 
-abbrev pub lost_at : Group → GroupPath → Option Extension → List Lost
-lost_at tree path None = []
-lost_at tree path (Some e) = lost_unless (is_some (group_at tree e.target)) path e
+-- what is lost at a path, and of these groups, where just the paths that pass the test are groups
+abbrev pub lost_at : (GroupPath → Bool) → GroupPath → Option Extension → List Lost
+lost_at is_group path None = []
+lost_at is_group path (Some e) = lost_unless (is_group e.target) path e
 
-abbrev pub lost_among : Group → List (GroupPath × Group) → List Lost
-lost_among tree [] = []
-lost_among tree (g ∷ gs) = lost_at tree g.0 (extension_of g.1) ++ lost_among tree gs
+abbrev pub lost_among : (GroupPath → Bool) → List (GroupPath × Group) → List Lost
+lost_among is_group [] = []
+lost_among is_group (g ∷ gs) = lost_at is_group g.0 (extension_of g.1) ++ lost_among is_group gs
+
+abbrev pub has_group : Group → GroupPath → Bool
+has_group tree path = is_some (group_at tree path)
 
 -- each group whose target is no group of the tree, in path order
 unfoldable pub lost_targets : Group → List Lost
-lost_targets tree = lost_among tree (groups_from [] tree)
+lost_targets tree = lost_among (has_group tree) (groups_from [] tree)
 
 -- Counts: a group has one for each member, what each child group has, and what its target has. Overridden members count too.
 
@@ -162,7 +173,7 @@ abbrev pub head_or : {A : Type 0} → A → List A → A
 head_or x [] = x
 head_or x (y ∷ ys) = y
 
--- .. of the first of these groups whose target is the group behind it; behind the last stands `first`. Groups have names of
+-- .. of the first of these groups whose target is the group after it; after the last comes `first`. Groups have names of
 -- any kind, each of which stands for a path and a group.
 abbrev pub extension_along : {N : Type 0} → (N → GroupPath) → (N → Group) → N → List N → Option Extension
 extension_along path at first [] = None

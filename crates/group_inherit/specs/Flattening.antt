@@ -65,12 +65,12 @@ token_below (name ∷ path) near (a_group (group ps cs)) = option_and_then (λ c
 abbrev pub flattened_at : List (List ℕ) → Group → Option Flattened
 flattened_at path g = token_below path nothing_above (a_group g)
 
--- what is left of a path behind a front
+-- what is left of a path after a prefix
 abbrev pub behind : List (List ℕ) → List (List ℕ) → Option (List (List ℕ))
 behind [] path = Some path
 behind (name ∷ front) [] = None
 behind (name ∷ front) (k ∷ path) = if eq_by_cmp text_cmp k name then behind front path else None
 
--- the token at a path, where the member stands at a front of it
+-- the token at a path, where the member stands at a prefix of it
 abbrev pub token_under : List (List ℕ) → Nearest → Child → List (List ℕ) → Option Flattened
 token_under front near c path = option_and_then (λ rest. token_below rest near c) (behind front path)

@@ -2,29 +2,29 @@
 use Rattle.std.specs.Prelude.{◌≡◌, ◌≢◌, ◌⊎◌, ℕ, List, [], ◌∷◌, ◌++◌, Option, None, Some, map as map_list, All, T}
 use Rattle.std.specs.FinMap as map
 use Rattle.std.specs.FinMap.{is_sorted}
-use Rattle.ring.specs.Routes.{In}
+use Rattle.ring.specs.Lists.{In}
 use Rattle.tk_io.specs.Order.{names_cmp}
 use Rattle.json_span.specs.Tree.{Placed}
 use Rattle.token_tree.specs.Shape.{shape_of}
-use Rattle.token_tree.specs.Tree.{Properties, Child, a_token, a_group, Group, Named, group_with, child_at as first_child_at}
+use Rattle.token_tree.specs.Tree.{Properties, Child, a_token, a_group, Group, Named, group_with, child_at}
 use Rattle.group_inherit.specs.declared.fault.TreeFault.{TreeFault}
 use Rattle.group_inherit.specs.declared.fault.TreeFault.TheVariants.{NoMemory}
 use Rattle.group_inherit.specs.Answer.{IsTreeBreak, IsSound, IsFlat}
 use Rattle.group_inherit.specs.Expansion.{Expands}
 use Rattle.group_inherit.specs.Extension.{GroupPath, group_at, at_path, groups_from, extension_of, target_path, Lost, lost_targets}
 use Rattle.group_inherit.specs.Flattening.{Flattened, flattened_at, tokens_in, nothing_above}
-use Rattle.group_inherit.specs.Merging.{over, empty_group, merged, child_at, stands}
+use Rattle.group_inherit.specs.Merging.{over, empty_group, merged, member_at, stands}
 use Rattle.group_inherit.specs.Ordered.{IsOrdered}
 
 -- Merging.
 
 -- in one group over another stands, at each name, what the two groups have there
 abbrev pub IsOverByName : Type 0
-IsOverByName = (later earlier : Group) (name : List ℕ) → child_at name (over later earlier) ≡ stands (child_at name later) (child_at name earlier)
+IsOverByName = (later earlier : Group) (name : List ℕ) → member_at name (over later earlier) ≡ stands (member_at name later) (member_at name earlier)
 
 -- at a name stands the first member of the name, in the order of the members
 abbrev pub IsFirstOfName : Type 0
-IsFirstOfName = (name : List ℕ) (g : Group) → child_at name g ≡ first_child_at name g
+IsFirstOfName = (name : List ℕ) (g : Group) → member_at name g ≡ child_at name g
 
 -- no source is the empty group, and one source more stands over what those before it come to
 abbrev pub SourcesInOrder : Type 0
@@ -60,14 +60,14 @@ IsOwn tree path (Some (a_group g)) own = (e : Group) × Expands tree path e × (
 -- what the expansion of a target has at a name, where there is a target
 abbrev pub IsOfTarget : Group → List ℕ → Option GroupPath → Option Child → Type 0
 IsOfTarget tree name None inherited = inherited ≡ None
-IsOfTarget tree name (Some path) inherited = (e : Group) × Expands tree path e × (inherited ≡ child_at name e)
+IsOfTarget tree name (Some path) inherited = (e : Group) × Expands tree path e × (inherited ≡ member_at name e)
 
 -- At each name of an expanded group stands its own token, or the expansion of its child group there over what the target has
 -- there, or, where it has no member of the name, what the target has there.
 abbrev pub ExpandedByName : Type 0
 ExpandedByName = (tree : Group) (path : GroupPath) (e : Group) (name : List ℕ) → Expands tree path e → (own inherited : Option Child)
-    × IsOwn tree (path ++ name ∷ []) (child_at name (at_path tree path)) own × IsOfTarget tree name (target_path (at_path tree path)) inherited
-    × (child_at name e ≡ stands own inherited)
+    × IsOwn tree (path ++ name ∷ []) (member_at name (at_path tree path)) own × IsOfTarget tree name (target_path (at_path tree path)) inherited
+    × (member_at name e ≡ stands own inherited)
 
 -- a group has one expansion
 abbrev pub OneExpansion : Type 0

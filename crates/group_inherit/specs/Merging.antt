@@ -53,8 +53,8 @@ merged sources = merged_over empty_group sources
 -- What stands at a name.
 
 -- the member of a name
-abbrev pub child_at : List ℕ → Group → Option Child
-child_at name (group ps cs) = map.get (named cs) name
+abbrev pub member_at : List ℕ → Group → Option Child
+member_at name (group ps cs) = map.get (named cs) name
 
 -- what stands where the later group has this member of a name, and the earlier group that one
 abbrev pub stands : Option Child → Option Child → Option Child

@@ -4,7 +4,7 @@ use Rattle.std.specs.Borrow.{Bor}
 use Rattle.std.specs.BTreeMap.{is_at}
 use Rattle.std.specs.FinMap as map
 use Rattle.tk_io.specs.Order.{names_cmp}
-use Rattle.token_tree.specs.Shown.{group_view}
+use Rattle.token_tree.specs.View.{group_view}
 use Rattle.token_tree.specs.declared.tree.Group.{Group}
 use Rattle.group_inherit.specs.Flattening.{Flattened}
 use Rattle.group_inherit.specs.Merging.{over}

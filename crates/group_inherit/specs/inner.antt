@@ -2,7 +2,6 @@ pub mod View
 pub mod Halves
 pub mod Numbering
 pub mod Tables
-pub mod Expanding
 pub mod Checking
 pub mod Bare
 pub mod Sizes

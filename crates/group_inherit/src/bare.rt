@@ -1,7 +1,7 @@
 //! Trees in which no group extends another: how large they are, and whether they are too large.
 
 ghost use Rattle.std.specs.Prelude.{◌≡◌, ◌+◌, ◌≤◌, min, max, IfErr, OnOk, IfSome};
-ghost use Rattle.token_tree.specs.Shown.{child_view, group_view};
+ghost use Rattle.token_tree.specs.View.{child_view, group_view};
 ghost use Rattle.group_inherit.specs.Answer.{IsSound, IsTreeBreak};
 ghost use Rattle.group_inherit.specs.inner.Bare.{IsSize, IsChildSize};
 

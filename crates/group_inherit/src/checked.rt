@@ -1,17 +1,22 @@
-//! Whether a tree breaks a rule of extension, and its groups in the order in which they are expanded.
+//! Whether a tree breaks a rule of extension, and its groups in a topological order of what they need.
 
-ghost use Rattle.std.specs.Prelude.{IfOk, IfErr, OnOk};
-ghost use Rattle.token_tree.specs.Shown.{group_view};
+ghost use Rattle.std.specs.Prelude.{◌≡◌, ◌<◌, [], All, IfOk, IfErr, OnOk, length};
+ghost use Rattle.ring.specs.Graph.{needs_in, IsGraph};
+ghost use Rattle.ring.specs.Order.{Follows, IsOrder};
+ghost use Rattle.ring.specs.Lists.{In};
+ghost use Rattle.token_tree.specs.View.{group_view};
 ghost use Rattle.group_inherit.specs.Answer.{IsSound, IsTreeBreak};
-ghost use Rattle.group_inherit.specs.inner.Outcomes.{AreReady, IsReady};
+ghost use Rattle.group_inherit.specs.Extension.{lost_targets};
+ghost use Rattle.group_inherit.specs.inner.Outcomes.{IsReady};
 ghost use Rattle.group_inherit.specs.inner.View.{nodes_view};
-ghost use Rattle.group_inherit.specs.inner.Numbering.{IsNumbering, group_in};
+ghost use Rattle.group_inherit.specs.inner.Numbering.{IsNumbering, AreNeeds, AreRows};
+ghost use Rattle.group_inherit.specs.inner.Numbering.{group_in, needs_by};
 
 use crate::fault::TreeFault;
 use crate::numbered::{Node, numbered_groups};
 use crate::rings::finish_order;
 use crate::sizes::{check_count, check_height};
-use crate::targets::{places, rows};
+use crate::targets::{Row, listed, places, rows};
 use std::alloc::Global;
 use token_tree::Group;
 
@@ -19,33 +24,67 @@ use token_tree::Group;
 #[derive(Drop)]
 pub(crate) struct ReadyTree<'t, 's> {
     pub nodes: Vec<Node<'t, 's>>,
-    /// What each group needs, by numbers: its child groups in byte order of names, and then its target.
-    pub rows: Vec<Vec<usize>>,
+    /// What each group needs, by numbers.
+    pub rows: Vec<Row>,
     /// The groups' numbers, each after all that the group needs.
     pub order: Vec<usize>,
 }
 
-// What numbered groups need, and an order in which each follows what it needs.
-#[derive(Drop)]
-struct Needs {
-    rows: Vec<Vec<usize>>,
-    order: Vec<usize>,
-}
-
-fn check_groups<'t, 's>(alloc: Global, nodes: &[Node<'t, 's>]) -> Result<Needs, TreeFault<'s>>
+// What each group needs, by numbers; or the first target in path order that is no group.
+fn checked_rows<'s>(alloc: Global, nodes: &[Node<'_, 's>]) -> Result<Vec<Row>, TreeFault<'s>>
     requires { IsNumbering (nodes_view nodes.now) }
-    ensures sound { OnOk result (IsSound (group_in (nodes_view nodes.now) 0)) }
-    ensures ready { IfOk result (AreReady nodes.now) }
+    ensures long { IfOk result (λ rows. length rows.items ≡ length nodes.now) }
+    ensures rows { IfOk result (λ rows. AreRows (nodes_view nodes.now) rows.items) }
+    ensures targets { OnOk result (lost_targets (group_in (nodes_view nodes.now) 0) ≡ []) }
     ensures broken { IfErr result (IsTreeBreak (group_in (nodes_view nodes.now) 0)) }
 {
     let numbers = places(alloc, nodes)?;
     let table = rows(alloc, nodes, &numbers)?;
-    let needs = table.as_slice();
+    Ok(table)
+}
+
+// An order in which each group follows what it needs; or the first rule that is broken after that of targets: rings,
+// counts, heights.
+fn checked_order<'s>(
+    alloc: Global,
+    nodes: &[Node<'_, 's>],
+    needs: &[Vec<usize>],
+) -> Result<Vec<usize>, TreeFault<'s>>
+    requires numbering { IsNumbering (nodes_view nodes.now) }
+    requires targets { lost_targets (group_in (nodes_view nodes.now) 0) ≡ [] }
+    requires graph { IsGraph needs.now }
+    requires long { length needs.now ≡ length nodes.now }
+    requires needs { AreNeeds (nodes_view nodes.now) needs.now }
+    ensures sound { OnOk result (IsSound (group_in (nodes_view nodes.now) 0)) }
+    ensures within { IfOk result (λ order. All (λ v. v < length needs.now) order.items) }
+    ensures order { IfOk result (λ order. IsOrder (needs_in needs.now) 0 order.items) }
+    ensures broken { IfErr result (IsTreeBreak (group_in (nodes_view nodes.now) 0)) }
+{
     let order = finish_order(alloc, nodes, needs)?;
-    let finished = order.as_slice();
-    check_count(alloc, nodes, needs, finished)?;
-    check_height(alloc, nodes, needs, finished)?;
-    Ok(Needs { rows: table, order })
+    check_count(alloc, nodes, needs, order.as_slice())?;
+    check_height(alloc, nodes, needs, order.as_slice())?;
+    Ok(order)
+}
+
+// The same of the groups' rows.
+fn order_of<'s>(
+    alloc: Global,
+    nodes: &[Node<'_, 's>],
+    rows: &[Row],
+) -> Result<Vec<usize>, TreeFault<'s>>
+    requires numbering { IsNumbering (nodes_view nodes.now) }
+    requires targets { lost_targets (group_in (nodes_view nodes.now) 0) ≡ [] }
+    requires long { length rows.now ≡ length nodes.now }
+    requires rows { AreRows (nodes_view nodes.now) rows.now }
+    ensures sound { OnOk result (IsSound (group_in (nodes_view nodes.now) 0)) }
+    ensures within { IfOk result (λ order. All (λ v. v < length nodes.now) order.items) }
+    ensures follows { IfOk result (λ order. Follows (needs_by rows.now) [] order.items) }
+    ensures root { IfOk result (λ order. In 0 order.items) }
+    ensures broken { IfErr result (IsTreeBreak (group_in (nodes_view nodes.now) 0)) }
+{
+    let lists = listed(alloc, rows)?;
+    let order = checked_order(alloc, nodes, lists.as_slice())?;
+    Ok(order)
 }
 
 /// The groups of a tree in the order in which they are expanded, or the first rule of extension that the tree breaks:
@@ -59,10 +98,11 @@ pub(crate) fn checked<'t, 's>(
     ensures broken { IfErr result (IsTreeBreak (group_view tree.entry.now)) }
 {
     let nodes = numbered_groups(alloc, tree)?;
-    let needs = check_groups(alloc, nodes.as_slice())?;
+    let table = checked_rows(alloc, nodes.as_slice())?;
+    let order = order_of(alloc, nodes.as_slice(), table.as_slice())?;
     Ok(ReadyTree {
         nodes,
-        rows: needs.rows,
-        order: needs.order,
+        rows: table,
+        order,
     })
 }

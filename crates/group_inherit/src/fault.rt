@@ -1,7 +1,7 @@
 //! The rules of extension, and where a tree breaks one.
 
 ghost use Rattle.std.specs.Prelude.{◌≡◌};
-ghost use Rattle.token_tree.specs.Shown.{extends_view};
+ghost use Rattle.token_tree.specs.View.{extends_view};
 ghost use Rattle.group_inherit.specs.Span.{span_of};
 ghost use Rattle.group_inherit.specs.declared.fault.TreeFault.TheVariants.{NoMemory as OutOfMemory};
 
@@ -12,13 +12,13 @@ use tk_io::NoMemory;
 use token_tree::Extends;
 
 /// A part of a file, seen as plain data.
-#[derive(Drop)]
+#[derive(Debug, Drop)]
 pub struct FileSpan<'s> {
     /// The name of the file.
     pub file: &'s str,
     /// The byte offset of the part in the file's text.
     pub start: usize,
-    /// The byte offset behind it.
+    /// The byte offset after it.
     pub end: usize,
 }
 
@@ -33,12 +33,12 @@ impl<'s> Model for FileSpan<'s> {
 }
 
 /// The first rule of extension that a tree breaks (Format Module 2025.10, `$extends`).
-#[derive(Drop)]
+#[derive(Debug, Drop)]
 pub enum TreeFault<'s> {
     /// The target of a group's `$extends` is no group of the tree: the first such group in path order by its path, and
     /// the string that names its target.
     ExtendsTarget(Path<'s>, FileSpan<'s>),
-    /// Groups need each other in a ring: the groups of the first ring, each of which needs the next one and the last the
+    /// Groups need each other in a cycle: the groups of the first one, each of which needs the next and the last the
     /// first, and the string that names the target of the first of them whose target is the next one.
     ExtendsCycle(Paths<'s>, FileSpan<'s>),
     /// The expanded tree would have more than 16,384 members, overridden ones included: how many, or 1,000,000 where

@@ -1,7 +1,7 @@
 //! The flat tree of a tree whose groups extend others.
 
 ghost use Rattle.std.specs.Prelude.{◌≡◌, ◌+◌, OnOk, IfOk, IfErr};
-ghost use Rattle.token_tree.specs.Shown.{group_view};
+ghost use Rattle.token_tree.specs.View.{group_view};
 ghost use Rattle.group_inherit.specs.Answer.{IsSound, IsFlat, IsTreeBreak};
 
 use crate::bare::{bare_size, check_size};
@@ -21,7 +21,7 @@ use token_tree::Group;
 ///
 /// # Errors
 /// The first rule that the tree breaks, in this order: [`TreeFault::ExtendsTarget`] where a target is no group of the
-/// tree, [`TreeFault::ExtendsCycle`] where groups need each other in a ring, [`TreeFault::TooManyTokens`] where there are
+/// tree, [`TreeFault::ExtendsCycle`] where groups need each other in a cycle, [`TreeFault::TooManyTokens`] where there are
 /// more than 16,384 members with those that are inherited, [`TreeFault::TooHigh`] where there are more than 64 levels.
 /// [`TreeFault::NoMemory`].
 pub fn flatten<'s, M: Ledger>(

@@ -1,9 +1,11 @@
 //! Laws over the definitions alone, for the layers above.
 
-ghost use Rattle.group_inherit.specs.Laws.{EachTreeAnswers, ExpandedAreOrdered, ExpandedByName, FlatAsList, FlatByPath};
 ghost use Rattle.group_inherit.specs.Laws.{IsFirstOfName, IsOverByName};
-ghost use Rattle.group_inherit.specs.Laws.{LostAreAll, LostAscend, MergedAreOrdered, OneBreak, OneExpansion, OneFileIsItsShape};
-ghost use Rattle.group_inherit.specs.Laws.{OneFlat, OneSourceIsItself, ShapesAreOrdered, SoundIsUnbroken, SourcesInOrder};
+ghost use Rattle.group_inherit.specs.Laws.{OneFileIsItsShape, OneSourceIsItself, SourcesInOrder};
+ghost use Rattle.group_inherit.specs.Laws.{ExpandedAreOrdered, MergedAreOrdered, ShapesAreOrdered};
+ghost use Rattle.group_inherit.specs.Laws.{ExpandedByName, OneExpansion};
+ghost use Rattle.group_inherit.specs.Laws.{FlatAsList, FlatByPath, LostAreAll, LostAscend};
+ghost use Rattle.group_inherit.specs.Laws.{EachTreeAnswers, OneBreak, OneFlat, SoundIsUnbroken};
 
 /// In one group over another stands, at each name, what the two groups have there: two groups of the name are merged,
 /// else the later member stands whole, and the earlier one only where there is no later one. Of the members of a group the

@@ -1,7 +1,7 @@
 //! The groups of a tree in one list.
 
 ghost use Rattle.std.specs.Prelude.{IfOk, OnOk};
-ghost use Rattle.token_tree.specs.Shown.{group_view};
+ghost use Rattle.token_tree.specs.View.{group_view};
 ghost use Rattle.group_inherit.specs.inner.Numbering.{AreNamed};
 ghost use Rattle.group_inherit.specs.inner.Outcomes.{AreGroupsAdded, AreGroupsOf};
 

@@ -1,16 +1,17 @@
-//! Rings of groups that need each other.
+//! Cycles of groups that need each other, as rings of their graph.
 
-ghost use Rattle.std.specs.Prelude.{◌≡◌, ◌<◌, ℕ, Some, IfOk, IfErr, OnOk, All, length, map, slice_index_or, ◌+◌};
+ghost use Rattle.std.specs.Prelude.{◌≡◌, ◌<◌, ◌+◌, ℕ, Some, IfOk, IfErr, OnOk, All};
+ghost use Rattle.std.specs.Prelude.{length, map, slice_index_or};
 ghost use Rattle.ring.specs.Graph.{needs_in, IsGraph};
 ghost use Rattle.ring.specs.Order.{IsOrder};
 ghost use Rattle.ring.specs.Routes.{HasNoRing};
-ghost use Rattle.token_tree.specs.Shown.{group_view};
+ghost use Rattle.token_tree.specs.View.{group_view};
 ghost use Rattle.token_tree.specs.Tree.{Extension};
 ghost use Rattle.group_inherit.specs.inner.Faults.{IsRingFault, IsReportOf};
 ghost use Rattle.group_inherit.specs.Extension.{extension_to};
 ghost use Rattle.group_inherit.specs.inner.Outcomes.{extension_view};
 ghost use Rattle.group_inherit.specs.inner.View.{nodes_view};
-ghost use Rattle.group_inherit.specs.inner.Numbering.{AreRows, path_in, extension_in};
+ghost use Rattle.group_inherit.specs.inner.Numbering.{AreNeeds, path_in, extension_in};
 
 use crate::fault::{TreeFault, span_of};
 use crate::numbered::Node;
@@ -35,7 +36,7 @@ fn extension_to<'t, 's>(group: &'t Group<'s>, next: &Path<'s>) -> Option<&'t Ext
     }
 }
 
-// The number behind the i-th one; behind the last stands the first.
+// The number after the i-th one; after the last comes the first.
 fn next_in(ring: &[usize], i: usize) -> usize
     requires { i < length ring.now }
     ensures { result ≡ slice_index_or ring.now (i + 1) (slice_index_or ring.now 0 0) }
@@ -98,18 +99,18 @@ fn ring_fault<'s>(
 pub(crate) fn finish_order<'s>(
     alloc: Global,
     nodes: &[Node<'_, 's>],
-    rows: &[Vec<usize>],
+    needs: &[Vec<usize>],
 ) -> Result<Vec<usize>, TreeFault<'s>>
-    requires graph { IsGraph rows.now }
-    requires some { 0 < length rows.now }
-    requires long { length rows.now ≡ length nodes.now }
-    requires rows { AreRows (nodes_view nodes.now) rows.now }
-    ensures no_ring { OnOk result (HasNoRing (needs_in rows.now) 0) }
-    ensures order { IfOk result (λ order. IsOrder (needs_in rows.now) 0 order.items) }
-    ensures within { IfOk result (λ order. All (λ v. v < length rows.now) order.items) }
-    ensures ring { IfErr result (IsRingFault (nodes_view nodes.now) (needs_in rows.now)) }
+    requires graph { IsGraph needs.now }
+    requires some { 0 < length needs.now }
+    requires long { length needs.now ≡ length nodes.now }
+    requires needs { AreNeeds (nodes_view nodes.now) needs.now }
+    ensures no_ring { OnOk result (HasNoRing (needs_in needs.now) 0) }
+    ensures order { IfOk result (λ order. IsOrder (needs_in needs.now) 0 order.items) }
+    ensures within { IfOk result (λ order. All (λ v. v < length needs.now) order.items) }
+    ensures ring { IfErr result (IsRingFault (nodes_view nodes.now) (needs_in needs.now)) }
 {
-    match ring_or_order(alloc, rows, 0)? {
+    match ring_or_order(alloc, needs, 0)? {
         Found::Order(order) => Ok(order),
         Found::Ring(ring) => Err(ring_fault(alloc, nodes, ring.as_slice())?),
     }

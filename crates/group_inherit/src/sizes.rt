@@ -1,15 +1,17 @@
 //! Counts and heights of groups.
 
-ghost use Rattle.std.specs.Prelude.{◌≡◌, ◌<◌, ◌≤◌, [], IfOk, IfErr, OnOk, All, length, min, ◌+◌, if◌then◌else◌};
+ghost use Rattle.std.specs.Prelude.{◌≡◌, ◌<◌, ◌≤◌, ◌+◌, [], IfOk, IfErr, OnOk, All};
+ghost use Rattle.std.specs.Prelude.{length, min, if◌then◌else◌};
 ghost use Rattle.ring.specs.Graph.{needs_in, IsGraph};
 ghost use Rattle.ring.specs.Order.{Follows};
-ghost use Rattle.ring.specs.Routes.{In};
-ghost use Rattle.token_tree.specs.Shown.{group_view};
+ghost use Rattle.ring.specs.Lists.{In};
+ghost use Rattle.token_tree.specs.View.{group_view};
 ghost use Rattle.group_inherit.specs.Extension.{children_in, group_names, tokens_height, needs_of};
 ghost use Rattle.group_inherit.specs.inner.Outcomes.{AreHeights, capped_height, own_counts};
 ghost use Rattle.group_inherit.specs.inner.View.{nodes_view};
-ghost use Rattle.group_inherit.specs.inner.Numbering.{AreRows};
-ghost use Rattle.group_inherit.specs.inner.Sizes.{IsCountedIn, IsLowIn, IsCountFault, IsHeightFault};
+ghost use Rattle.group_inherit.specs.inner.Numbering.{AreNeeds};
+ghost use Rattle.group_inherit.specs.inner.Sizes.{IsCountedIn, IsCountFault};
+ghost use Rattle.group_inherit.specs.inner.Sizes.{IsLowIn, IsHeightFault};
 
 use crate::fault::TreeFault;
 use crate::numbered::Node;
@@ -39,19 +41,19 @@ fn own_counts(alloc: Global, nodes: &[Node<'_, '_>]) -> Result<Vec<u64>, NoMemor
 pub(crate) fn check_count<'s>(
     alloc: Global,
     nodes: &[Node<'_, 's>],
-    rows: &[Vec<usize>],
+    needs: &[Vec<usize>],
     order: &[usize],
 ) -> Result<(), TreeFault<'s>>
-    requires graph { IsGraph rows.now }
-    requires long { length rows.now ≡ length nodes.now }
-    requires within { All (λ v. v < length rows.now) order.now }
-    requires order { Follows (needs_in rows.now) [] order.now }
+    requires graph { IsGraph needs.now }
+    requires long { length needs.now ≡ length nodes.now }
+    requires within { All (λ v. v < length needs.now) order.now }
+    requires order { Follows (needs_in needs.now) [] order.now }
     requires root { In 0 order.now }
-    ensures ok { OnOk result (IsCountedIn (nodes_view nodes.now) (needs_in rows.now)) }
-    ensures broken { IfErr result (IsCountFault (nodes_view nodes.now) (needs_in rows.now)) }
+    ensures ok { OnOk result (IsCountedIn (nodes_view nodes.now) (needs_in needs.now)) }
+    ensures broken { IfErr result (IsCountFault (nodes_view nodes.now) (needs_in needs.now)) }
 {
     let own = own_counts(alloc, nodes)?;
-    let counts = capped_totals(alloc, rows, order, own.as_slice())?;
+    let counts = capped_totals(alloc, needs, order, own.as_slice())?;
     let count = counts[0];
     if count > MOST_MEMBERS {
         return Err(TreeFault::TooManyTokens(count));
@@ -108,20 +110,20 @@ fn height_at(group: &Group<'_>, needs: &[usize], table: &[u64]) -> u64
 fn capped_heights(
     alloc: Global,
     nodes: &[Node<'_, '_>],
-    rows: &[Vec<usize>],
+    needs: &[Vec<usize>],
     order: &[usize],
 ) -> Result<Vec<u64>, NoMemory>
-    requires graph { IsGraph rows.now }
-    requires long { length rows.now ≡ length nodes.now }
-    requires rows { AreRows (nodes_view nodes.now) rows.now }
-    requires within { All (λ v. v < length rows.now) order.now }
-    requires order { Follows (needs_in rows.now) [] order.now }
-    ensures long { IfOk result (λ table. length table.items ≡ length rows.now) }
-    ensures heights { IfOk result (λ table. AreHeights nodes.now rows.now order.now table.items) }
+    requires graph { IsGraph needs.now }
+    requires long { length needs.now ≡ length nodes.now }
+    requires needs { AreNeeds (nodes_view nodes.now) needs.now }
+    requires within { All (λ v. v < length needs.now) order.now }
+    requires order { Follows (needs_in needs.now) [] order.now }
+    ensures long { IfOk result (λ table. length table.items ≡ length needs.now) }
+    ensures heights { IfOk result (λ table. AreHeights nodes.now needs.now order.now table.items) }
 {
-    let mut table = vec![in alloc; 0; rows.len()]?;
+    let mut table = vec![in alloc; 0; needs.len()]?;
     for v in order {
-        table[*v] = height_at(nodes[*v].group, rows[*v].as_slice(), table.as_slice());
+        table[*v] = height_at(nodes[*v].group, needs[*v].as_slice(), table.as_slice());
     }
     Ok(table)
 }
@@ -130,20 +132,20 @@ fn capped_heights(
 pub(crate) fn check_height<'s>(
     alloc: Global,
     nodes: &[Node<'_, 's>],
-    rows: &[Vec<usize>],
+    needs: &[Vec<usize>],
     order: &[usize],
 ) -> Result<(), TreeFault<'s>>
-    requires graph { IsGraph rows.now }
-    requires long { length rows.now ≡ length nodes.now }
-    requires rows { AreRows (nodes_view nodes.now) rows.now }
-    requires within { All (λ v. v < length rows.now) order.now }
-    requires order { Follows (needs_in rows.now) [] order.now }
+    requires graph { IsGraph needs.now }
+    requires long { length needs.now ≡ length nodes.now }
+    requires needs { AreNeeds (nodes_view nodes.now) needs.now }
+    requires within { All (λ v. v < length needs.now) order.now }
+    requires order { Follows (needs_in needs.now) [] order.now }
     requires root { In 0 order.now }
-    requires counted { IsCountedIn (nodes_view nodes.now) (needs_in rows.now) }
-    ensures ok { OnOk result (IsLowIn (nodes_view nodes.now) (needs_in rows.now)) }
-    ensures broken { IfErr result (IsHeightFault (nodes_view nodes.now) (needs_in rows.now)) }
+    requires counted { IsCountedIn (nodes_view nodes.now) (needs_in needs.now) }
+    ensures ok { OnOk result (IsLowIn (nodes_view nodes.now) (needs_in needs.now)) }
+    ensures broken { IfErr result (IsHeightFault (nodes_view nodes.now) (needs_in needs.now)) }
 {
-    let heights = capped_heights(alloc, nodes, rows, order)?;
+    let heights = capped_heights(alloc, nodes, needs, order)?;
     let height = heights[0];
     if height > HIGHEST {
         return Err(TreeFault::TooHigh(height));

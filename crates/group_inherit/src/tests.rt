@@ -3,11 +3,12 @@
 ghost use Rattle.std.specs.Prelude.{◌≡◌, ◌<◌};
 
 mod extension;
+mod members;
 
 use crate::walking::flat_of;
 use crate::{
-    Entry, FileSpan, Flat, TreeFault, expanded_by_name, flat_by_path, flatten, lost_in_order,
-    merged_in_order, one_answer, ordered_trees, over, over_by_name,
+    Entry, FileSpan, Flat, TreeFault, each_tree_answers, expanded_by_name, flat_by_path, flatten,
+    lost_in_order, merged_in_order, one_answer, ordered_trees, over, over_by_name,
 };
 use json_span::read;
 use name_path::{Path, print_group, print_path};
@@ -120,6 +121,7 @@ fn laws_hold(_rt: HostRuntime) -> Result<(), Fail> {
     flat_by_path();
     lost_in_order();
     one_answer();
+    each_tree_answers();
     Ok(())
 }
 

@@ -1,7 +1,7 @@
 //! From a group to the flat tree of its tokens.
 
 ghost use Rattle.std.specs.Prelude.{◌≡◌, IfOk, OnOk};
-ghost use Rattle.token_tree.specs.Shown.{group_view};
+ghost use Rattle.token_tree.specs.View.{group_view};
 ghost use Rattle.group_inherit.specs.Flattening.{flat_of};
 ghost use Rattle.group_inherit.specs.inner.Outcomes.{ChildPut, GroupPut, TokenPut};
 

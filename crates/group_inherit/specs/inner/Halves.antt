@@ -4,7 +4,7 @@ use Rattle.std.specs.declared.cmp.Ordering.{Ordering}
 use Rattle.std.specs.declared.cmp.Ordering.TheVariants.{Less, Equal, Greater}
 
 module _ {K X : Type 0} (R : K → K → Ordering) where
-  -- the key is behind all of these
+  -- the key is after all of these
   abbrev pub Passed : K → List (K × X) → Type 0
   Passed k [] = Unit {0}
   Passed k (e ∷ es) = (R k e.0 ≡ Greater) × Passed k es

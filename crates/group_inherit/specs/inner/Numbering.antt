@@ -1,5 +1,5 @@
 -- The groups of a tree, numbered in path order from 0, which is the root.
-use Rattle.std.specs.Prelude.{◌≡◌, ◌<◌, ℕ, List, [], ◌∷◌, ◌++◌, length, map, Option, Some, None, is_some, slice_index_or}
+use Rattle.std.specs.Prelude.{◌≡◌, ◌<◌, ℕ, zero, suc, List, [], ◌∷◌, ◌++◌, length, map, All, Bool, Option, Some, None, is_some, option_map, option_to_list, slice_get, slice_index_or}
 use Rattle.std.specs.FinMap as map_of
 use Rattle.std.specs.declared.alloc.Global.{Global}
 use Rattle.std.specs.declared.vec.Vec.{Vec}
@@ -7,7 +7,8 @@ use Rattle.ring.specs.Graph.{needs_in}
 use Rattle.tk_io.specs.Order.{names_cmp}
 use Rattle.token_tree.specs.Tree.{Extension, Child, a_token, a_group, Group, group, Children, no_children, child}
 use Rattle.group_inherit.specs.Merging.{empty_group}
-use Rattle.group_inherit.specs.Extension.{GroupPath, groups_from, children_in, Lost, lost_unless, extension_of, needs_of, extension_along, extension_around}
+use Rattle.group_inherit.specs.declared.targets.Row.{Row}
+use Rattle.group_inherit.specs.Extension.{GroupPath, groups_from, children_in, Lost, lost_at, lost_among, extension_of, target_path, child_paths, needs_of, extension_along, extension_around}
 
 -- a group with its path
 abbrev pub GroupAt : Type 0
@@ -23,6 +24,16 @@ group_in nodes v = (slice_index_or nodes v nowhere).1
 -- its path
 abbrev pub path_in : List GroupAt → ℕ → GroupPath
 path_in nodes v = (slice_index_or nodes v nowhere).0
+
+-- all numbers of a row: those of the child groups, and then the target's
+abbrev pub numbers_of : Row → List ℕ
+numbers_of row = row.children.items ++ option_to_list row.target
+
+-- .. of the row of a number; none where there is no row
+abbrev pub needs_by : List Row → ℕ → List ℕ
+needs_by [] v = []
+needs_by (row ∷ rows) zero = numbers_of row
+needs_by (row ∷ rows) (suc v) = needs_by rows v
 
 -- No two children of a group have one name.
 
@@ -70,34 +81,47 @@ abbrev pub EachKnown : Places → List GroupAt → Type 0
 EachKnown places [] = Unit {0}
 EachKnown places (n ∷ ns) = AreKnown places n.0 (children_in n.1) × EachKnown places ns
 
--- the row has the numbers of what the group needs
-abbrev pub IsRow : Places → GroupAt → List ℕ → Type 0
-IsRow places n row = map (λ v. Some v) row ≡ map (map_of.get places) (needs_of n.0 n.1)
+-- the row has the numbers of a group's child groups, in their order, and that of its target
+pub record IsRow (places : Places) (n : GroupAt) (row : Row) : Type 0 where
+  pub children : map (λ v. Some v) row.children.items ≡ map (map_of.get places) (child_paths n.0 n.1)
+  pub target : option_map (λ v. Some v) row.target ≡ option_map (map_of.get places) (target_path n.1)
 
-abbrev pub EachRow : Places → List GroupAt → List (Vec ℕ Global) → Type 0
+abbrev pub EachRow : Places → List GroupAt → List Row → Type 0
 EachRow places [] [] = Unit {0}
 EachRow places [] (row ∷ rows) = ⊥
 EachRow places (n ∷ ns) [] = ⊥
-EachRow places (n ∷ ns) (row ∷ rows) = IsRow places n row.items × EachRow places ns rows
+EachRow places (n ∷ ns) (row ∷ rows) = IsRow places n row × EachRow places ns rows
 
 -- targets that have no number
 
-abbrev pub lost_by : Places → GroupPath → Option Extension → List Lost
-lost_by places path None = []
-lost_by places path (Some e) = lost_unless (is_some (map_of.get places e.target)) path e
+abbrev pub has_number : Places → GroupPath → Bool
+has_number places path = is_some (map_of.get places path)
 
 abbrev pub lost_of : Places → GroupAt → List Lost
-lost_of places n = lost_by places n.0 (extension_of n.1)
+lost_of places n = lost_at (has_number places) n.0 (extension_of n.1)
 
 abbrev pub lost_nodes : Places → List GroupAt → List Lost
-lost_nodes places [] = []
-lost_nodes places (n ∷ ns) = lost_of places n ++ lost_nodes places ns
+lost_nodes places = lost_among (has_number places)
 
--- by its numbers a row has what the group of its number needs
-abbrev pub AreRows : List GroupAt → List (Vec ℕ Global) → Type 0
-AreRows nodes rows = (v : ℕ) → v < length nodes → map (path_in nodes) (needs_in rows v) ≡ needs_of (path_in nodes v) (group_in nodes v)
+-- by its numbers, the row has what the group of this number needs
+pub record IsRowOf (nodes : List GroupAt) (v : ℕ) (row : Row) : Type 0 where
+  pub children : map (path_in nodes) row.children.items ≡ child_paths (path_in nodes v) (group_in nodes v)
+  pub target : option_map (path_in nodes) row.target ≡ target_path (group_in nodes v)
+  pub within : All (λ w. w < length nodes) (numbers_of row)
 
--- what the first of these numbered groups whose target is the group behind it says of that target
+-- each row is that of its number
+abbrev pub AreRows : List GroupAt → List Row → Type 0
+AreRows nodes rows = (v : ℕ) (row : Row) → slice_get rows v ≡ Some row → IsRowOf nodes v row
+
+-- the lists have the numbers of the rows
+abbrev pub AreListed : List Row → List (Vec ℕ Global) → Type 0
+AreListed rows lists = map (λ l. l.items) lists ≡ map numbers_of rows
+
+-- by its numbers, a list has what the group of its number needs
+abbrev pub AreNeeds : List GroupAt → List (Vec ℕ Global) → Type 0
+AreNeeds nodes lists = (v : ℕ) → v < length nodes → map (path_in nodes) (needs_in lists v) ≡ needs_of (path_in nodes v) (group_in nodes v)
+
+-- what the first of these numbered groups whose target is the group after it says of that target
 abbrev pub extension_after : List GroupAt → ℕ → List ℕ → Option Extension
 extension_after nodes = extension_along (path_in nodes) (group_in nodes)
 

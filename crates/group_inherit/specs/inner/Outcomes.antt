@@ -1,36 +1,35 @@
 -- What the private calls answer.
-use Rattle.std.specs.Prelude.{◌≡◌, ◌++◌, ◌∷◌, [], ℕ, List, Option, Some, map as map_list, drop, option_map, slice_index, min}
+use Rattle.std.specs.Prelude.{◌≡◌, ◌++◌, ◌∷◌, [], ℕ, List, Option, Some, length, map as map_list, drop, option_map, slice_index, min}
 use Rattle.std.specs.Borrow.{Bor}
 use Rattle.std.specs.FinMap as map
 use Rattle.std.specs.FinMap.Entries.{put}
 use Rattle.std.specs.declared.alloc.Global.{Global}
 use Rattle.std.specs.declared.vec.Vec.{Vec}
 use Rattle.ring.specs.Graph.{needs_in}
-use Rattle.ring.specs.Routes.{In}
-use Rattle.ring.specs.Values.{Comes}
+use Rattle.ring.specs.Lists.{In}
 use Rattle.tk_io.specs.Order.{names_cmp}
-use Rattle.token_tree.specs.Shown.{extends_view, child_view, member_view, group_view}
-use Rattle.token_tree.specs.Tree.{Extension, Definition, Named, Group as GroupData, children_of}
+use Rattle.token_tree.specs.View.{extends_view, child_view, member_view, group_view}
+use Rattle.token_tree.specs.Tree.{Extension, Definition, Named, Children, Group as GroupData, children_of}
 use Rattle.token_tree.specs.declared.tree.Child.{Child}
 use Rattle.token_tree.specs.declared.tree.Extends.{Extends}
 use Rattle.token_tree.specs.declared.tree.Group.{Group}
 use Rattle.token_tree.specs.declared.tree.Member.{Member}
 use Rattle.group_inherit.specs.Answer.{most_told}
-use Rattle.group_inherit.specs.Extension.{GroupPath, children_in, group_names, groups_from, how_many, height_of}
+use Rattle.group_inherit.specs.Expansion.{Expands, AreExpanded}
+use Rattle.group_inherit.specs.Extension.{GroupPath, at_path, children_in, group_names, names_of_groups, child_paths, paths_below, target_path, groups_from, how_many, height_of}
 use Rattle.group_inherit.specs.Flattening.{Flattened, TokenAt, flattened, tokens_in, tokens_at}
-use Rattle.group_inherit.specs.Merging.{over_members, over_child}
+use Rattle.group_inherit.specs.Merging.{named, over_members, over_child}
 use Rattle.group_inherit.specs.Putting.{put_all}
 use Rattle.group_inherit.specs.View.{Tokens}
-use Rattle.group_inherit.specs.declared.checked.Needs.{Needs}
 use Rattle.group_inherit.specs.declared.checked.ReadyTree.{ReadyTree}
 use Rattle.group_inherit.specs.declared.numbered.Node.{Node}
+use Rattle.group_inherit.specs.declared.targets.Row.{Row}
 use Rattle.group_inherit.specs.declared.walking.Nearest.{Nearest}
 use Rattle.group_inherit.specs.inner.Checking.{IsChecked}
-use Rattle.group_inherit.specs.inner.Expanding.{in_place, left_over, with_groups, behind_groups, expand, numbered, expand_at}
-use Rattle.group_inherit.specs.inner.Numbering.{GroupAt, Places, group_in}
+use Rattle.group_inherit.specs.inner.Numbering.{GroupAt, Places, group_in, path_in}
 use Rattle.group_inherit.specs.inner.Sizes.{IsHeight}
-use Rattle.group_inherit.specs.inner.Tables.{values_in}
-use Rattle.group_inherit.specs.inner.View.{nodes_view, groups_view, nearest_view}
+use Rattle.group_inherit.specs.inner.Tables.{value, HaveExpansions, HasTarget}
+use Rattle.group_inherit.specs.inner.View.{nodes_view, nearest_view}
 
 -- Merging.
 
@@ -77,35 +76,43 @@ capped_height g table needs = min (height_of g (map_list (λ w. slice_index tabl
 
 -- the table has the height of each group of the order
 abbrev pub AreHeights : List Node → List (Vec ℕ Global) → List ℕ → List ℕ → Type 0
-AreHeights nodes rows order table = (v : ℕ) → In v order → IsHeight (nodes_view nodes) (needs_in rows) v (slice_index table v)
-
-abbrev pub AreReady : List Node → Needs → Type 0
-AreReady nodes n = IsChecked (group_in (nodes_view nodes) 0) (groups_view nodes) n.rows.items n.order.items
+AreHeights nodes needs order table = (v : ℕ) → In v order → IsHeight (nodes_view nodes) (needs_in needs) v (slice_index table v)
 
 abbrev pub IsReady : GroupData → ReadyTree → Type 0
-IsReady tree r = IsChecked tree (groups_view r.nodes.items) r.rows.items r.order.items
+IsReady tree r = IsChecked tree (nodes_view r.nodes.items) r.rows.items r.order.items
 
 -- Expansion.
 
--- the table has the expansion of each group of the order
-abbrev pub AreExpansions : List Node → List (Vec ℕ Global) → List ℕ → List Group → Type 0
-AreExpansions nodes rows order table = (v : ℕ) → In v order → Comes (needs_in rows) (expand_at (groups_view nodes)) v (numbered (map_list group_view table) v)
+-- the table has the expansion of a numbered group
+abbrev pub HoldsExpansion : List GroupAt → List Group → ℕ → Type 0
+HoldsExpansion nodes table v = Expands (group_in nodes 0) (path_in nodes v) (value table v)
 
-abbrev pub IsExpansion : Group → List Group → List ℕ → Group → Type 0
-IsExpansion g table row made = group_view made ≡ expand (group_view g) (values_in table row)
+-- .. of each group of the order
+abbrev pub AreExpansions : List Node → List ℕ → List Group → Type 0
+AreExpansions nodes order table = (v : ℕ) → In v order → HoldsExpansion (nodes_view nodes) table v
 
-abbrev pub AreInPlace : Named → List Group → List ℕ → Named → Type 0
-AreInPlace members table row made = made ≡ with_groups (children_of (map.entries members)) (values_in table row)
+-- Wherever the group stands in a tree, and the table has the expansions of what the row names, this is its expansion.
+abbrev pub IsExpansion : Group → List Group → Row → Group → Type 0
+IsExpansion g table row made = (tree : GroupData) (path : GroupPath) → at_path tree path ≡ group_view g
+    → HaveExpansions tree table (child_paths path (group_view g)) row.children.items
+    → HasTarget tree table (target_path (group_view g)) row.target
+    → Expands tree path (group_view made)
 
--- behind the child groups the row goes on here
-abbrev pub AreBehind : Named → List Group → List ℕ → ℕ → Type 0
-AreBehind members table row next = values_in table (drop next row) ≡ behind_groups (children_of (map.entries members)) (values_in table row)
+-- there is a number for each group among the members
+abbrev pub HaveNumbers : Named → List ℕ → Type 0
+HaveNumbers members numbers = length numbers ≡ length (names_of_groups (children_of (map.entries members)))
 
-abbrev pub IsInPlace : Child → List Group → List ℕ → ℕ → Child → Type 0
-IsInPlace c table row next made = child_view made ≡ in_place (child_view c) (values_in table (drop next row))
+-- the members of a group at a path, with the expansion of each child group in its place
+pub record HasMembers (tree : GroupData) (path : GroupPath) (cs : Children) (made : Named) : Type 0 where
+  pub members : Children
+  pub are : AreExpanded tree path cs members
+  pub same : made ≡ named members
 
-abbrev pub IsLeftOver : Child → List Group → List ℕ → ℕ → ℕ → Type 0
-IsLeftOver c table row next behind = values_in table (drop behind row) ≡ left_over (child_view c) (values_in table (drop next row))
+-- Wherever the members stand in a tree, and the table has the expansions of their groups, these are the expanded members.
+abbrev pub AreMembers : Named → List Group → List ℕ → Named → Type 0
+AreMembers members table numbers made = (tree : GroupData) (path : GroupPath)
+    → HaveExpansions tree table (paths_below path (children_of (map.entries members))) numbers
+    → HasMembers tree path (children_of (map.entries members)) made
 
 -- Flat trees.
 

@@ -1,8 +1,7 @@
 -- What numbered groups, and what the nearest groups say, are seen as.
 use Rattle.std.specs.Prelude.{List, map}
 use Rattle.std.specs.Option.{option_copied}
-use Rattle.token_tree.specs.Shown.{group_view}
-use Rattle.token_tree.specs.Tree.{Group}
+use Rattle.token_tree.specs.View.{group_view}
 use Rattle.group_inherit.specs.Flattening.{Nearest as NearestData}
 use Rattle.group_inherit.specs.declared.numbered.Node.{Node}
 use Rattle.group_inherit.specs.declared.walking.Nearest.{Nearest}
@@ -13,10 +12,6 @@ node_view n = (n.path, group_view n.group.now)
 
 abbrev pub nodes_view : List Node → List GroupAt
 nodes_view nodes = map node_view nodes
-
--- the groups alone
-abbrev pub groups_view : List Node → List Group
-groups_view nodes = map (λ n. group_view n.group.now) nodes
 
 abbrev pub nearest_view : Nearest → NearestData
 nearest_view n = record { kind = n.kind; mark = option_copied n.mark }

@@ -1,7 +1,7 @@
 use Rattle.std.proofs.Common.{◌+◌, drop, arith, subst}
 use Rattle.std.proofs.Common.{map as map_list}
 use Rattle.std.specs.FinMap as map
-use Rattle.token_tree.specs.Shown.{extends_view, member_view, members_view, properties_view}
+use Rattle.token_tree.specs.View.{extends_view, member_view, members_view, properties_view}
 use Rattle.group_inherit.proofs.Measures.{Entries, Measuring, no_member, member_more, all_measured}
 use Rattle.group_inherit.proofs.Options.{none_then}
 use Rattle.group_inherit.proofs.Turns.{first_left, none_left, entry_lighter}

@@ -1,7 +1,7 @@
 -- The members that are left, measured with those so far, are all.
 use Rattle.std.proofs.Common.{◌+◌, drop}
 use Rattle.std.proofs.Common.{map as map_list}
-use Rattle.token_tree.specs.Shown.{member_view, child_view, group_view}
+use Rattle.token_tree.specs.View.{member_view, child_view, group_view}
 use Rattle.group_inherit.proofs.Measures.{Measuring}
 use Rattle.group_inherit.proofs.Weights.{child_weight, group_weight}
 use Rattle.group_inherit.proofs.bare.+size.Given as goal

@@ -1,6 +1,6 @@
 use Rattle.std.proofs.Common.{◌≡◌, [], arith, sym, subst}
 use Rattle.token_tree.specs.Tree.{Group}
-use Rattle.token_tree.specs.Shown.{group_view}
+use Rattle.token_tree.specs.View.{group_view}
 use Rattle.group_inherit.specs.inner.Bare.{members_of, levels_of}
 use Rattle.group_inherit.specs.Extension.{Heights}
 use Rattle.group_inherit.proofs.BareTrees.{bare_targets, bare_no_ring, bare_count, bare_height, bare_counted, bare_sound, low_levels}

@@ -1,4 +1,4 @@
-use Rattle.token_tree.specs.Shown.{group_view}
+use Rattle.token_tree.specs.View.{group_view}
 use Rattle.group_inherit.proofs.BareTrees.{bare_expands}
 use Rattle.group_inherit.proofs.flattening.flatten.Goals as goal
 

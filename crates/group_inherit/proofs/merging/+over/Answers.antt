@@ -6,7 +6,7 @@ use Rattle.std.specs.FinMap as map
 use Rattle.std.specs.FinMap.Entries.{is_sorted}
 use Rattle.tk_io.specs.Order.{text_cmp}
 use Rattle.token_tree.specs.Tree.{Properties, group_with, children_of}
-use Rattle.token_tree.specs.Shown.{extends_view, child_view, member_view, members_view, properties_view}
+use Rattle.token_tree.specs.View.{extends_view, child_view, member_view, members_view, properties_view}
 use Rattle.token_tree.specs.declared.tree.Member.{Member}
 use Rattle.group_inherit.specs.Merging.{over_properties, over_members}
 use Rattle.group_inherit.proofs.Options.{copied_or, map_or}

@@ -5,7 +5,7 @@ use Rattle.std.specs.FinMap as map
 use Rattle.std.specs.FinMap.Entries.{find}
 use Rattle.tk_io.specs.Order.{text_cmp}
 use Rattle.token_tree.specs.Tree.{children_of}
-use Rattle.token_tree.specs.Shown.{child_view, member_view, members_view, group_view}
+use Rattle.token_tree.specs.View.{child_view, member_view, members_view, group_view}
 use Rattle.group_inherit.specs.Merging.{stands}
 use Rattle.group_inherit.proofs.Merges.{left_or}
 use Rattle.group_inherit.proofs.Weights.{child_weight, group_weight, children_weight}

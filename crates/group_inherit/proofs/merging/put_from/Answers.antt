@@ -1,5 +1,5 @@
 use Rattle.std.proofs.Common.{sym, ap, ◌∙◌, refl}
-use Rattle.token_tree.specs.Shown.{child_view, member_view, members_view}
+use Rattle.token_tree.specs.View.{child_view, member_view, members_view}
 use Rattle.group_inherit.specs.Putting.{put_all}
 use Rattle.group_inherit.proofs.Turns.{turn, none_left}
 use Rattle.group_inherit.proofs.merging.put_from.Goals as goal

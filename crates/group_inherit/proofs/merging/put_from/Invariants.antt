@@ -1,7 +1,7 @@
 -- What is left, put over the members so far, is all.
 use Rattle.std.proofs.Common.{◌≡◌, drop}
 use Rattle.std.proofs.Common.{map as map_list}
-use Rattle.token_tree.specs.Shown.{member_view, members_view}
+use Rattle.token_tree.specs.View.{member_view, members_view}
 use Rattle.group_inherit.specs.Putting.{put_all}
 use Rattle.group_inherit.proofs.merging.put_from.Given as goal
 

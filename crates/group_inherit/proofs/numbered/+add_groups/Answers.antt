@@ -4,7 +4,7 @@ use Rattle.std.specs.FinMap as map_of
 use Rattle.std.specs.FinMap.Entries.{is_sorted}
 use Rattle.tk_io.specs.Order.{text_cmp}
 use Rattle.token_tree.specs.Tree.{a_group, children_of}
-use Rattle.token_tree.specs.Shown.{member_view, child_view, members_view, group_view}
+use Rattle.token_tree.specs.View.{member_view, child_view, members_view, group_view}
 use Rattle.group_inherit.specs.Extension.{groups_from, groups_among}
 use Rattle.group_inherit.specs.inner.Numbering.{GroupAt}
 use Rattle.group_inherit.specs.inner.View.{node_view, nodes_view}

@@ -1,6 +1,6 @@
 use Rattle.std.proofs.Common.{◌++◌, drop}
 use Rattle.std.specs.FinMap as map_of
-use Rattle.token_tree.specs.Shown.{group_view, members_view}
+use Rattle.token_tree.specs.View.{group_view, members_view}
 use Rattle.token_tree.specs.Tree.{children_of}
 use Rattle.group_inherit.specs.Extension.{groups_among}
 use Rattle.group_inherit.specs.inner.View.{nodes_view}

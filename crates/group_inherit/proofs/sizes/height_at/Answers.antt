@@ -1,7 +1,7 @@
 use Rattle.std.proofs.Common.{◌≡◌, ℕ, ◌+◌, ◌<◌, ◌≤◌, min, max, Bool, List, ◌∷◌, length, get_or, map, drop, if◌then◌else◌, arith, sym, ap, ◌∙◌}
 use Rattle.std.proofs.lemmas.Bool.{lt-ltb, le-ltb}
 use Rattle.std.proofs.lemmas.List.{drop_more}
-use Rattle.token_tree.specs.Shown.{group_view}
+use Rattle.token_tree.specs.View.{group_view}
 use Rattle.group_inherit.specs.Extension.{group_names, greatest_raised}
 use Rattle.group_inherit.proofs.Counting.{raise_step}
 use Rattle.group_inherit.proofs.sizes.height_at.Goals as goal

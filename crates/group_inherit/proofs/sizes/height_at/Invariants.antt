@@ -1,5 +1,5 @@
 use Rattle.std.proofs.Common.{◌≡◌, min, max, map, drop, get_or}
-use Rattle.token_tree.specs.Shown.{group_view}
+use Rattle.token_tree.specs.View.{group_view}
 use Rattle.group_inherit.specs.Extension.{group_names, greatest_raised, height_of}
 use Rattle.group_inherit.proofs.sizes.height_at.Given as goal
 

@@ -1,5 +1,5 @@
 use Rattle.std.proofs.Common.{sym, ◌∙◌}
-use Rattle.token_tree.specs.Shown.{members_view}
+use Rattle.token_tree.specs.View.{members_view}
 use Rattle.group_inherit.specs.inner.View.{node_view, nodes_view}
 use Rattle.group_inherit.proofs.Counting.{own_more, many_of}
 use Rattle.group_inherit.proofs.Turns.{first_left}

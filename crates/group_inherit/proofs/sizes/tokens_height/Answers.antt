@@ -1,6 +1,6 @@
 use Rattle.std.proofs.Common.{arith}
 use Rattle.std.specs.FinMap as map_of
-use Rattle.token_tree.specs.Shown.{members_view}
+use Rattle.token_tree.specs.View.{members_view}
 use Rattle.token_tree.specs.Tree.{children_of}
 use Rattle.group_inherit.proofs.Counting.{tokens_there, many_of}
 use Rattle.group_inherit.proofs.sizes.tokens_height.Goals as goal

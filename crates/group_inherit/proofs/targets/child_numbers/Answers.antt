@@ -1,7 +1,7 @@
 use Rattle.std.proofs.Common.{◌≡◌, ℕ, ◌+◌, List, [], ◌∷◌, ◌++◌, Some, sym, ap, ◌∙◌, subst, map, drop, append-nil}
 use Rattle.std.specs.FinMap as map_of
 use Rattle.token_tree.specs.Tree.{children_of}
-use Rattle.token_tree.specs.Shown.{member_view, child_view, members_view, group_view}
+use Rattle.token_tree.specs.View.{member_view, child_view, members_view, group_view}
 use Rattle.group_inherit.specs.Extension.{names_of_groups}
 use Rattle.group_inherit.proofs.Numbers.{Entries}
 use Rattle.group_inherit.proofs.Placing.{Kids, kid_token, kid_known, kid_group}

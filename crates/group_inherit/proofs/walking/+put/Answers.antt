@@ -3,7 +3,7 @@ use Rattle.std.proofs.Common.{map as map_list}
 use Rattle.std.specs.FinMap as map
 use Rattle.std.specs.Option.{option_copied}
 use Rattle.token_tree.specs.Tree.{children_of}
-use Rattle.token_tree.specs.Shown.{member_view, members_view, properties_view}
+use Rattle.token_tree.specs.View.{member_view, members_view, properties_view}
 use Rattle.group_inherit.specs.inner.View.{nearest_view}
 use Rattle.group_inherit.specs.Flattening.{Nearest, nearest, tokens_among}
 use Rattle.group_inherit.specs.Putting.{put_all}

@@ -2,7 +2,7 @@
 use Rattle.std.proofs.Common.{◌≡◌, ◌+◌, drop}
 use Rattle.std.proofs.Common.{map as map_list}
 use Rattle.token_tree.specs.Tree.{children_of}
-use Rattle.token_tree.specs.Shown.{member_view, child_view, group_view}
+use Rattle.token_tree.specs.View.{member_view, child_view, group_view}
 use Rattle.group_inherit.specs.inner.View.{nearest_view}
 use Rattle.group_inherit.specs.Flattening.{tokens_among}
 use Rattle.group_inherit.specs.Putting.{put_all}

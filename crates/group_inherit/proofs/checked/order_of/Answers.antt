@@ -1,0 +1,25 @@
+use Rattle.std.proofs.Common.{ℕ, ap, ◌∙◌, sym, map, Vec}
+use Rattle.std.proofs.lemmas.List.{length-map}
+use Rattle.std.specs.declared.alloc.Global.{Global}
+use Rattle.group_inherit.specs.inner.Numbering.{AreListed}
+use Rattle.group_inherit.specs.inner.View.{node_view, nodes_view}
+use Rattle.group_inherit.proofs.Trees.{lists_graph, lists_needs, lists_follow}
+use Rattle.group_inherit.proofs.checked.order_of.Goals as goal
+
+pub checked_order-requires-clause-graph : goal.checked_order-requires-clause-graph
+checked_order-requires-clause-graph c =
+    let many = c.requires.long ∙ sym (length-map c.args.nodes.now node_view) in
+    let same : AreListed c.args.rows.now c.as_slice.result.now = ap (map (λ (l : Vec ℕ Global). l.items)) c.as_slice.ensures.value ∙ c.in_ok-lists.ensures in
+    lists_graph (nodes_view c.args.nodes.now) c.args.rows.now c.as_slice.result.now many c.requires.rows same
+
+pub checked_order-requires-clause-needs : goal.checked_order-requires-clause-needs
+checked_order-requires-clause-needs c =
+    let many = c.requires.long ∙ sym (length-map c.args.nodes.now node_view) in
+    let same : AreListed c.args.rows.now c.as_slice.result.now = ap (map (λ (l : Vec ℕ Global). l.items)) c.as_slice.ensures.value ∙ c.in_ok-lists.ensures in
+    lists_needs (nodes_view c.args.nodes.now) c.args.rows.now c.as_slice.result.now many c.requires.rows same
+
+pub returns-clause-follows : goal.returns-clause-follows
+returns-clause-follows c =
+    let many = c.requires.long ∙ sym (length-map c.args.nodes.now node_view) in
+    let same : AreListed c.args.rows.now c.as_slice.result.now = ap (map (λ (l : Vec ℕ Global). l.items)) c.as_slice.ensures.value ∙ c.in_ok-lists.ensures in
+    lists_follow (nodes_view c.args.nodes.now) c.args.rows.now c.as_slice.result.now many c.requires.rows same c.in_ok-order.order.items c.in_ok-order.ensures.order.follows
