@@ -11,7 +11,7 @@ use Rattle.token_tree.specs.Shape.{shape_breaks, shape_of}
 use Rattle.token_tree.specs.Tree.{Group}
 use Rattle.group_inherit.specs.Laws.{MergedAreOrdered, ShapesAreOrdered}
 use Rattle.group_inherit.specs.Ordered.{IsOrdered}
-use Rattle.source_trees.specs.Laws.{EachMerge, MergedIsOrdered}
+use Rattle.source_trees.specs.Laws.{EachFound, MergedIsOrdered}
 use Rattle.source_trees.specs.Sources.{HomeAt, BreakAt, break_at, shape_break, answer_breaks, answer_trees, FoundIn, SourceFound, SourcesFound}
 use Rattle.source_trees.specs.declared.source.SourceFault.TheVariants.{Missing}
 
@@ -62,7 +62,7 @@ module _ (files : FilesData) (home : HomeAt) where
       let (bs, ts, later) = sources_found ss in
       (b ++ bs, t ++ ts, (b, bs, t, ts, here, later, refl, refl))
 
-pub each_merge : EachMerge
+pub each_merge : EachFound
 each_merge files home sources = sources_found files home sources
 
 module _ (shapes : ShapesAreOrdered) (files : FilesData) (home : HomeAt) where

@@ -1,7 +1,7 @@
 -- Sources whose files are in use are known.
 use Rattle.std.proofs.Common.{◌≡◌, ℕ, List, [], ◌∷◌, inl, inr, Option, Some, None, MatchOption, refl, subst}
 use Rattle.std.specs.FinMap as finite
-use Rattle.ring.specs.Routes.{In}
+use Rattle.ring.specs.Lists.{In}
 use Rattle.tk_io.specs.FilesData.{FilesData}
 use Rattle.tk_io.specs.Order.{text_cmp}
 use Rattle.file_plan.specs.InUse.{files_in_use}

@@ -6,7 +6,7 @@ use Rattle.std.specs.List.{slice_get}
 use Rattle.tk_io.specs.FilesData.{FilesData}
 use Rattle.tk_io.specs.Order.{text_cmp}
 use Rattle.token_tree.specs.Shape.{Break as ShapeBreak, shape_breaks, shape_of}
-use Rattle.token_tree.specs.Shown.{group_view}
+use Rattle.token_tree.specs.View.{group_view}
 use Rattle.token_tree.specs.Tree.{Group}
 use Rattle.token_tree.specs.declared.tree.Group.{Group as GroupCode}
 use Rattle.json_span.specs.View.{node_view}
@@ -19,7 +19,8 @@ use Rattle.file_plan.specs.declared.source.PlanSource.{PlanSource}
 use Rattle.file_plan.specs.declared.source.PlanSource.TheVariants.{File, Inline}
 use Rattle.source_trees.specs.declared.source.SourceBreak.{SourceBreak}
 use Rattle.source_trees.specs.declared.source.SourceFault.TheVariants.{Missing}
-use Rattle.source_trees.specs.Merging.{IsKnown, AreKnown, IsLaid, Lays, IsLaidOver}
+use Rattle.source_trees.specs.Merging.{IsKnown, AreKnown, IsLaid, IsLaidOver}
+use Rattle.source_trees.specs.inner.Laying.{Lays}
 use Rattle.source_trees.specs.Sources.{HomeAt, BreakAt, break_at, shape_break, FoundIn, SourceFound, SourcesFound}
 use Rattle.permutations.specs.Permutation as perm
 use Rattle.permutations.specs.Permutation.{TokenSource}

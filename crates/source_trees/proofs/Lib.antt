@@ -1,10 +1,11 @@
-pub mod ShapesAdded
-pub mod NamedTrees
 pub mod EachMerge
-pub mod Laid
-pub mod Known
-pub mod OneMerge
-pub mod MergingKeepsTokens
-pub mod ShapesHoldTokens
-pub mod StringsAreTexts
-pub mod SourcesHoldTokens
+pub mod NamedTrees
+mod ByContent
+mod Known
+mod Laid
+mod MergingKeepsTokens
+mod OneMerge
+mod ShapesAdded
+mod ShapesHoldTokens
+mod SourcesHoldTokens
+mod StringsAreTexts

@@ -10,7 +10,7 @@ use Rattle.std.specs.Ordering.{eq_by_cmp, is_eq}
 use Rattle.std.specs.Prelude.{◌⊎◌, option_and_then, unwrap_or, length}
 use Rattle.std.specs.declared.cmp.Ordering.{Ordering}
 use Rattle.std.specs.declared.cmp.Ordering.TheVariants.{Less, Equal, Greater}
-use Rattle.ring.specs.Routes.{In}
+use Rattle.ring.specs.Lists.{In}
 use Rattle.tk_io.specs.Order.{text_cmp}
 use Rattle.name_path.specs.Names.{IsName, AreNames, IsTokenPath, root_name}
 use Rattle.token_tree.specs.Tree.{Definition, Properties, Child, a_token, a_group, Group, group, Children, no_children, child, Named, children_of, group_with}

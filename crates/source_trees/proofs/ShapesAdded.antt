@@ -7,11 +7,11 @@ use Rattle.std.specs.BTreeMap.{is_at}
 use Rattle.std.specs.FinMap as finite
 use Rattle.std.specs.FinMap.Entries.{find, is_sorted, below_all}
 use Rattle.std.specs.Ordering.{eq_by_cmp, is_eq, is_lt}
-use Rattle.ring.specs.Routes.{In}
+use Rattle.ring.specs.Lists.{In}
 use Rattle.ring.proofs.Ends.{in_cases, in_left, in_last}
 use Rattle.tk_io.specs.FilesData.{FilesData}
 use Rattle.tk_io.specs.Order.{text_cmp}
-use Rattle.tk_io.specs.Shown.{shown_by}
+use Rattle.tk_io.specs.View.{entries_view}
 use Rattle.file_plan.specs.InUse.{AreAmong}
 use Rattle.file_plan.specs.Trees.{IsTreeOf, IsRead, AreTreesIn}
 use Rattle.file_plan.specs.declared.tree.Tree.{Tree}
@@ -204,13 +204,13 @@ no_entry (Some t) path e = absurd (some_none (sym e))
 -- Entries of a map, under owned names.
 
 module _ {K : Type 0} (name : K → List ℕ) where
-  in_shown : (es : List (K × Tree)) (i : ℕ) (d : K × Tree) → i < length es → In (entry (name (get_or es i d).0) (get_or es i d).1) (shown_by name (λ v. v) es)
+  in_shown : (es : List (K × Tree)) (i : ℕ) (d : K × Tree) → i < length es → In (entry (name (get_or es i d).0) (get_or es i d).1) (entries_view name (λ v. v) es)
   in_shown [] i d h = absurd (omega (arith, h))
   in_shown (e ∷ es) zero d h = inl refl
   in_shown (e ∷ es) (suc i) d h = inr (in_shown es i d (omega (arith, h)))
 
   -- an entry's tree is that of its file
-  pub tree_of_entry : (files : FilesData) (trees : Trees) → AreTreesOfSome files trees → (es : List (K × Tree)) → shown_by name (λ v. v) es ≡ finite.entries trees
+  pub tree_of_entry : (files : FilesData) (trees : Trees) → AreTreesOfSome files trees → (es : List (K × Tree)) → entries_view name (λ v. v) es ≡ finite.entries trees
       → (i : ℕ) (d : K × Tree) → i < length es → (path : List ℕ) → path ≡ name (get_or es i d).0 → (text : List ℕ) → finite.get files path ≡ Some text → IsTreeOf text (get_or es i d).1
   tree_of_entry files trees of es shown i d h path is text there =
       tree_of_file files trees of (name (get_or es i d).0) (get_or es i d).1
@@ -219,8 +219,8 @@ module _ {K : Type 0} (name : K → List ℕ) where
 
   -- with the next entry's shape, those up to it
   pub next_shape : (files : FilesData) (es : List (K × Tree)) (i : ℕ) (d : K × Tree) → i < length es → (path : List ℕ) → path ≡ name (get_or es i d).0 → (old new : Shapes)
-      → AreShapesOf files (shown_by name (λ v. v) (take i es)) old → AddsShapeOf path (finite.get files path) old new → AreShapesOf files (shown_by name (λ v. v) (take (i + 1) es)) new
+      → AreShapesOf files (entries_view name (λ v. v) (take i es)) old → AddsShapeOf path (finite.get files path) old new → AreShapesOf files (entries_view name (λ v. v) (take (i + 1) es)) new
   next_shape files es i d h path is old new are adds =
       subst (λ (l : List Entry). AreShapesOf files l new) (sym (map_more (λ (e : K × Tree). entry (name e.0) e.1) es i d h))
-      (shapes_more files (shown_by name (λ v. v) (take i es)) (name (get_or es i d).0) (get_or es i d).1 old new are
+      (shapes_more files (entries_view name (λ v. v) (take i es)) (name (get_or es i d).0) (get_or es i d).1 old new are
       (subst (λ (p : List ℕ). AddsShapeOf p (finite.get files p) old new) is adds))

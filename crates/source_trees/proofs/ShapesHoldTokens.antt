@@ -5,8 +5,8 @@ use Rattle.std.specs.FinMap as finite
 use Rattle.std.specs.Prelude.{if◌then◌else◌, option_and_then}
 use Rattle.std.specs.Str.{bytes_eq}
 use Rattle.name_path.specs.Names.{IsName, root_name}
-use Rattle.json_span.specs.Parts.{inside, in_object, IsMember, this_member, later_member, itself}
-use Rattle.json_span.specs.Tree.{Tree, a_null, a_boolean, a_number, a_string, an_array, an_object, Placed, placed, tree_of, Members, no_members, member, Entry, entries_in, under}
+use Rattle.json_span.specs.Parts.{inside, inside_object, IsInMembers, in_member, in_later_member, itself}
+use Rattle.json_span.specs.Tree.{Tree, a_null, a_boolean, a_number, a_string, an_array, an_object, Placed, placed, tree_of, Members, no_members, a_member, Entry, entries_in, value_of_name}
 use Rattle.token_tree.specs.Laws.{NamesTest}
 use Rattle.token_tree.specs.Promise.{StandsIn}
 use Rattle.token_tree.specs.Shape.{Break, mark_in, properties_of, def_of, is_token, are_token, entries_at, members_in, is_object, is_child, put_children, child_of, group_of, shape_of, shape_breaks, group_breaks, child_breaks, group_member_breaks, root_breaks, reserved_breaks, token_breaks, at_value, at_name}
@@ -41,15 +41,15 @@ same_text x y h = search (rules, bytes_eq-Decides)
 
 -- the members of an object that stands in a text stand there
 abbrev EachMember : List ℕ → Members → Type 0
-EachMember text ms = (n : Placed) → IsMember n ms → StandsIn text n
+EachMember text ms = (n : Placed) → IsInMembers n ms → StandsIn text n
 
 members_stand : (text : List ℕ) (ms : Members) (start end : ℕ) → StandsIn text (placed (an_object ms) start end) → EachMember text ms
-members_stand text ms start end s n i = part_stands text n (placed (an_object ms) start end) (inside (in_object i)) s
+members_stand text ms start end s n i = part_stands text n (placed (an_object ms) start end) (inside (inside_object i)) s
 
 -- the names of members
 abbrev pub NamesHold : (List ℕ → Type 0) → Members → Type 0
 NamesHold string no_members = Unit {0}
-NamesHold string (member name start end n ms) = string name × NamesHold string ms
+NamesHold string (a_member name start end n ms) = string name × NamesHold string ms
 
 -- What holds of a text: of the names and the strings that stand in it, and of the tokens, each of which breaks no rule.
 pub record HoldsOfText (holds : Holding) (file text : List ℕ) : Type 0 where
@@ -79,7 +79,7 @@ module _ (holds : Holding) (tests : NamesTest) (file text : List ℕ) (of_text :
   group_shown ms start end cs stands h =
       let n = placed (an_object ms) start end in
       let es = entries_in ms in
-      let mark = mark_under (under (codes "$deprecated") es)
+      let mark = mark_under (value_of_name (codes "$deprecated") es)
       (λ m u. under_stands text n es (own_members n ms refl) stands (codes "$deprecated") m u) in
       group_formed holds (properties_of file es) cs mark h
 
@@ -110,10 +110,10 @@ module _ (holds : Holding) (tests : NamesTest) (file text : List ℕ) (of_text :
   mutual
     members_shown : (ms : Members) (cs : Named) → EachMember text ms → NamesHold holds.string ms → group_breaks ms ≡ [] → AreFormed holds cs → AreFormed holds (put_children file text ms cs)
     members_shown no_members cs stand names none h = h
-    members_shown (member name start end n ms) cs stand names none h =
+    members_shown (a_member name start end n ms) cs stand names none h =
         let e : Entry = record { name = name; start = start; end = end; value = n } in
-        let here = stand n (this_member itself) in
-        members_shown ms (if is_child name then finite.insert cs name (child_of file text n) else cs) (λ x i. stand x (later_member i)) names.1 (nil_right (group_member_breaks e (child_breaks n)) (group_breaks ms) none)
+        let here = stand n (in_member itself) in
+        members_shown ms (if is_child name then finite.insert cs name (child_of file text n) else cs) (λ x i. stand x (in_later_member i)) names.1 (nil_right (group_member_breaks e (child_breaks n)) (group_breaks ms) none)
         (one_member name n cs e (child_breaks n) (bytes_eq name root_name) (is_reserved name) (is_name name) here names.0 refl refl (nil_left (group_member_breaks e (child_breaks n)) (group_breaks ms) none) h
         (λ below is. child_shown name n here below is names.0))
 

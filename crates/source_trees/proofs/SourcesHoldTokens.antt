@@ -13,7 +13,7 @@ use Rattle.json_span.specs.Parts.{itself}
 use Rattle.json_span.specs.Tree.{a_null, a_boolean, a_number, a_string, an_array, an_object, Placed, placed, Members, tree_of}
 use Rattle.permutations.specs.Permutation as perm
 use Rattle.permutations.specs.Permutation.{TokenSource}
-use Rattle.ring.specs.Routes.{In}
+use Rattle.ring.specs.Lists.{In}
 use Rattle.tk_io.specs.FilesData.{FilesData}
 use Rattle.tk_io.specs.Order.{names_cmp}
 use Rattle.token_tree.specs.Laws.{NamesTest}
@@ -25,7 +25,7 @@ use Rattle.token_tree.proofs.Objects.{object_at}
 use Rattle.group_inherit.specs.Flattening.{Flattened, TokenAt}
 use Rattle.group_inherit.specs.Laws.{FlatAsList}
 use Rattle.group_inherit.specs.Merging.{merged_over, empty_group}
-use Rattle.source_trees.specs.MergedTokens.{IsFlatOf, IsTextOf, StandsInFile, PathsAreOfTokens, TokensAreDefinitions, TokensAreOfTexts, TokensStandInFiles}
+use Rattle.source_trees.specs.MergedTokens.{IsFlatOf, IsTextOfFile, StandsInFile, PathsAreOfTokens, TokensAreDefinitions, TokensAreOfTexts, TokensStandInFiles}
 use Rattle.source_trees.specs.Merging.{InlineStands, AllInlineStand}
 use Rattle.source_trees.specs.Sources.{HomeAt, BreakAt, break_at, shape_break, answer_breaks, answer_trees, FoundIn, SourceFound, SourcesFound}
 use Rattle.source_trees.specs.Texts.{IsText, AreTexts}
@@ -38,7 +38,7 @@ use Rattle.source_trees.proofs.StringsAreTexts.{names_are_texts, string_is_text,
 abbrev InMemory : FilesData → HomeAt → Type 0
 InMemory files home = AreTexts files × IsText home.text
 
-file_in_memory : (files : FilesData) (home : HomeAt) (file text : List ℕ) → IsTextOf files home file text
+file_in_memory : (files : FilesData) (home : HomeAt) (file text : List ℕ) → IsTextOfFile files home file text
     → InMemory files home → IsText text
 file_in_memory files home file text (inl there) texts = texts.0 file text there
 file_in_memory files home file text (inr same) texts = subst IsText (sym same.1) texts.1
@@ -63,7 +63,7 @@ token_object (placed (an_object ms) start end) e = (ms, refl)
 
 -- what stands in one text
 text_holds : (said : SaidFits ℕ) (shown : ShowsSay ℕ) (files : FilesData) (home : HomeAt) (file text : List ℕ)
-    → IsTextOf files home file text → HoldsOfText (holding files home) file text
+    → IsTextOfFile files home file text → HoldsOfText (holding files home) file text
 text_holds said shown files home file text of_file = record {
   names = λ n stands. names_are_texts said shown text n stands (InMemory files home) in_memory;
   strings = λ n s stands is texts. string_is_text said shown text n stands s is (in_memory texts);
@@ -114,19 +114,19 @@ module _ (laws : TextLaws) (files : FilesData) (home : HomeAt) where
   abbrev AllFormed : List Group → Type 0
   AllFormed trees = AllByRecursion IsFormed trees
 
-  of_value : (file text : List ℕ) (n : Placed) → IsTextOf files home file text → StandsIn text n → shape_breaks n ≡ [] → IsFormed (shape_of file text n)
+  of_value : (file text : List ℕ) (n : Placed) → IsTextOfFile files home file text → StandsIn text n → shape_breaks n ≡ [] → IsFormed (shape_of file text n)
   of_value file text n of_file stands none =
       shape_formed (holding files home) laws.names file text
       (text_holds laws.said laws.shown files home file text of_file) n stands none
 
-  of_answer : (file text : List ℕ) (answer : Answer) → IsTextOf files home file text → IsAnswer text answer → [] ≡ answer_breaks file answer → AllFormed (answer_trees file text answer)
+  of_answer : (file text : List ℕ) (answer : Answer) → IsTextOfFile files home file text → IsAnswer text answer → [] ≡ answer_breaks file answer → AllFormed (answer_trees file text answer)
   of_answer file text (shows n) of_file is none =
       (of_value file text n of_file (record { root = n; shown = is.0; flawless = is.1; part = itself }) (none_mapped file (shape_breaks n) none), tt)
   of_answer file text (flawed (equal_names start end)) of_file is none = absurd (no_break _ _ none)
   of_answer file text (flawed (too_deep start end)) of_file is none = absurd (no_break _ _ none)
   of_answer file text (stops at) of_file is none = absurd (no_break _ _ none)
 
-  of_text : (file text : List ℕ) (breaks : List BreakAt) (trees : List Group) → IsTextOf files home file text → FoundIn file text breaks trees → breaks ≡ [] → AllFormed trees
+  of_text : (file text : List ℕ) (breaks : List BreakAt) (trees : List Group) → IsTextOfFile files home file text → FoundIn file text breaks trees → breaks ≡ [] → AllFormed trees
   of_text file text breaks trees of_file (answer, is, found, shown) none = subst AllFormed (sym shown) (of_answer file text answer of_file is (sym none ∙ found))
 
   of_file_at : (name : List ℕ) (start end : ℕ) (o : Option (List ℕ)) (breaks : List BreakAt) (trees : List Group) → finite.get files name ≡ o

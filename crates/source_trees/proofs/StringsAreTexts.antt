@@ -4,9 +4,9 @@ use Rattle.std.proofs.lemmas.Str.{IsUtf8-between}
 use Rattle.std.specs.Str.{IsUtf8}
 use Rattle.json_span.specs.FitsIn.{FitsIn, ItemsFitIn, MembersFitIn, SaidFits}
 use Rattle.json_span.specs.Laws.{ShowsSay}
-use Rattle.json_span.specs.Parts.{IsPart, itself, inside, IsIn, in_array, in_object, IsElement, this_element, later_element, IsMember, this_member, later_member}
+use Rattle.json_span.specs.Parts.{IsPart, itself, inside, IsInside, inside_array, inside_object, IsInElements, in_element, in_later_element, IsInMembers, in_member, in_later_member}
 use Rattle.json_span.specs.Says.{plain_of, plain_tree, plain_elements, plain_fields}
-use Rattle.json_span.specs.Tree.{Tree, a_null, a_boolean, a_number, a_string, an_array, an_object, Placed, placed, Elements, Members, no_members, member, tree_of, start_of, end_of}
+use Rattle.json_span.specs.Tree.{Tree, a_null, a_boolean, a_number, a_string, an_array, an_object, Placed, placed, Elements, Members, no_members, a_member, tree_of, start_of, end_of}
 use Rattle.token_tree.specs.Promise.{StandsIn}
 use Rattle.token_tree.specs.Shape.{members_in, slice_of}
 use Rattle.token_tree.proofs.Objects.{ObjectAt, boundaries}
@@ -20,19 +20,19 @@ module _ (k : ℕ) where
     part_fits itself h = h
     part_fits (inside i) h = part_in i h
 
-    part_in : {n : Placed} {v : Tree} → IsIn n v → FitsIn k (plain_tree length v) → FitsIn k (plain_of length n)
-    part_in (in_array i) h = part_element i h.1
-    part_in (in_object i) h = part_member i h.1
+    part_in : {n : Placed} {v : Tree} → IsInside n v → FitsIn k (plain_tree length v) → FitsIn k (plain_of length n)
+    part_in (inside_array i) h = part_element i h.1
+    part_in (inside_object i) h = part_member i h.1
 
-    part_element : {n : Placed} {ns : Elements} → IsElement n ns → ItemsFitIn k (plain_elements length ns)
+    part_element : {n : Placed} {ns : Elements} → IsInElements n ns → ItemsFitIn k (plain_elements length ns)
         → FitsIn k (plain_of length n)
-    part_element (this_element p) h = part_fits p h.0
-    part_element (later_element i) h = part_element i h.1
+    part_element (in_element p) h = part_fits p h.0
+    part_element (in_later_element i) h = part_element i h.1
 
-    part_member : {n : Placed} {ms : Members} → IsMember n ms → MembersFitIn k (plain_fields length ms)
+    part_member : {n : Placed} {ms : Members} → IsInMembers n ms → MembersFitIn k (plain_fields length ms)
         → FitsIn k (plain_of length n)
-    part_member (this_member p) h = part_fits p h.1
-    part_member (later_member i) h = part_member i h.2
+    part_member (in_member p) h = part_fits p h.1
+    part_member (in_later_member i) h = part_member i h.2
 
   -- names and strings, where something is known
   module _ (known : Type 0) where
@@ -41,7 +41,7 @@ module _ (k : ℕ) where
 
     names_utf8 : (ms : Members) → (known → MembersFitIn k (plain_fields length ms)) → NamesHold Utf8Known ms
     names_utf8 no_members h = tt
-    names_utf8 (member name start end n ms) h = (λ x. (h x).0, names_utf8 ms (λ x. (h x).2))
+    names_utf8 (a_member name start end n ms) h = (λ x. (h x).0, names_utf8 ms (λ x. (h x).2))
 
     members_utf8 : (n : Placed) → (known → FitsIn k (plain_of length n)) → NamesHold Utf8Known (members_in (tree_of n))
     members_utf8 (placed a_null start end) h = tt

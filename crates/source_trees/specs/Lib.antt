@@ -5,6 +5,7 @@ pub mod Trees
 pub mod Reading
 pub mod Merging
 pub mod Merges
+pub mod Contents
 pub mod MergedTokens
 pub mod Laws
 pub mod inner

@@ -5,7 +5,7 @@ use Rattle.std.specs.Str.{IsUtf8}
 use Rattle.tk_io.specs.FilesData.{FilesData}
 use Rattle.tk_io.specs.Order.{names_cmp}
 use Rattle.name_path.specs.Names.{IsTokenPath}
-use Rattle.ring.specs.Routes.{In}
+use Rattle.ring.specs.Lists.{In}
 use Rattle.token_tree.specs.Promise.{IsDefinition}
 use Rattle.token_tree.specs.Tree.{Definition, Group}
 use Rattle.token_tree.specs.declared.mark.Mark.TheVariants.{Because}
@@ -25,13 +25,13 @@ pub record IsFlatOf (files : FilesData) (home : HomeAt) (sources : List TokenSou
   pub is_flat : IsFlat (merged trees) flat
 
 -- the text of a file that is there, or of the one that names the sources
-abbrev pub IsTextOf : FilesData → HomeAt → List ℕ → List ℕ → Type 0
-IsTextOf files home file text = (finite.get files file ≡ Some text) ⊎ ((file ≡ home.file) × (text ≡ home.text))
+abbrev pub IsTextOfFile : FilesData → HomeAt → List ℕ → List ℕ → Type 0
+IsTextOfFile files home file text = (finite.get files file ≡ Some text) ⊎ ((file ≡ home.file) × (text ≡ home.text))
 
 -- A definition stands in its file: its source is the slice of the file's text between its offsets.
 pub record StandsInFile (files : FilesData) (home : HomeAt) (def : Definition) : Type 0 where
   pub text : List ℕ
-  pub of_file : IsTextOf files home def.file text
+  pub of_file : IsTextOfFile files home def.file text
   pub within : def.end ≤ length text
   pub slice : def.source ≡ slice_range text def.start def.end
 

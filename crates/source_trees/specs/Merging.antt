@@ -5,13 +5,13 @@ use Rattle.std.specs.List.{AllByRecursion}
 use Rattle.tk_io.specs.FilesData.{FilesData}
 use Rattle.tk_io.specs.Order.{text_cmp}
 use Rattle.token_tree.specs.Promise.{StandsIn}
-use Rattle.token_tree.specs.Shown.{group_view}
+use Rattle.token_tree.specs.View.{group_view}
 use Rattle.token_tree.specs.Tree.{Group}
 use Rattle.group_inherit.specs.Merging.{merged_over, empty_group}
 use Rattle.source_trees.specs.declared.laying.Merged.{Merged}
 use Rattle.source_trees.specs.declared.laying.Merged.TheVariants.{Tree, Broken}
 use Rattle.source_trees.specs.declared.shape.FileShape.{FileShape}
-use Rattle.source_trees.specs.Sources.{HomeAt, BreakAt, SourceFound, SourcesFound}
+use Rattle.source_trees.specs.Sources.{HomeAt, BreakAt, SourcesFound}
 use Rattle.permutations.specs.Permutation as perm
 use Rattle.permutations.specs.Permutation.{TokenSource}
 use Rattle.source_trees.specs.Trees.{IsShapeFor}
@@ -39,11 +39,7 @@ abbrev pub IsLaid : List BreakAt → List Group → Group → Merged → Type 0
 IsLaid breaks trees before (Tree g) = (breaks ≡ []) × (group_view g ≡ merged_over before trees)
 IsLaid breaks trees before (Broken b) = (rest : List BreakAt) × (breaks ≡ break_view b ∷ rest)
 
--- one source over what is merged before it
-abbrev pub Lays : FilesData → HomeAt → TokenSource → Group → Merged → Type 0
-Lays files home source before m =
-    (breaks : List BreakAt) × (trees : List Group) × SourceFound files home source breaks trees × IsLaid breaks trees before m
-
+-- the sources over what is merged before them
 abbrev pub IsLaidOver : FilesData → HomeAt → List TokenSource → Group → Merged → Type 0
 IsLaidOver files home sources before m =
     (breaks : List BreakAt) × (trees : List Group) × SourcesFound files home sources breaks trees × IsLaid breaks trees before m
@@ -51,3 +47,7 @@ IsLaidOver files home sources before m =
 -- what the sources come to: their trees merged, or the first break
 abbrev pub IsMergedOf : FilesData → HomeAt → List TokenSource → Merged → Type 0
 IsMergedOf files home sources m = IsLaidOver files home sources empty_group m
+
+-- .. in any files of which these are the shapes
+abbrev pub IsMergedBy : finite.FinMap text_cmp FileShape → HomeAt → List TokenSource → Merged → Type 0
+IsMergedBy shapes home sources m = (files : FilesData) → AreKnown files shapes sources → IsMergedOf files home sources m

@@ -1,18 +1,16 @@
 -- The trees and the shapes of files, each under the file's path.
-use Rattle.std.specs.Prelude.{◌≡◌, ℕ, List, [], ◌∷◌, map, Option, Some, None}
+use Rattle.std.specs.Prelude.{◌≡◌, ℕ, List, [], ◌∷◌, Option, Some, None}
 use Rattle.std.specs.FinMap as finite
-use Rattle.json_span.specs.Tree.{Placed}
 use Rattle.tk_io.specs.FilesData.{FilesData}
 use Rattle.tk_io.specs.Order.{text_cmp}
-use Rattle.token_tree.specs.Shape.{shape_breaks, shape_of}
-use Rattle.token_tree.specs.Shown.{group_view}
+use Rattle.token_tree.specs.View.{group_view}
 use Rattle.token_tree.specs.Tree.{Group}
 use Rattle.file_plan.specs.InUse.{AreAmong}
 use Rattle.file_plan.specs.Trees.{AreTreesIn}
 use Rattle.file_plan.specs.declared.tree.Tree.{Tree}
 use Rattle.source_trees.specs.declared.shape.FileShape.{FileShape}
 use Rattle.source_trees.specs.declared.shape.FileShape.TheVariants.{Shows, Breaks}
-use Rattle.source_trees.specs.Sources.{BreakAt, shape_break, FoundIn}
+use Rattle.source_trees.specs.Sources.{BreakAt, FoundIn}
 use Rattle.source_trees.specs.View.{break_view}
 
 -- the tree where there is no break, and else the first break
@@ -20,10 +18,7 @@ abbrev pub IsShapeBy : List BreakAt → List Group → FileShape → Type 0
 IsShapeBy breaks trees (Shows g) = (breaks ≡ []) × (trees ≡ group_view g ∷ [])
 IsShapeBy breaks trees (Breaks b) = (rest : List BreakAt) × (breaks ≡ break_view b ∷ rest)
 
--- of a value of the text, and of the whole text
-abbrev pub IsShapeAt : List ℕ → List ℕ → Placed → FileShape → Type 0
-IsShapeAt file text n shape = IsShapeBy (map (shape_break file) (shape_breaks n)) (shape_of file text n ∷ []) shape
-
+-- of the text of a file
 abbrev pub IsShapeFor : List ℕ → List ℕ → FileShape → Type 0
 IsShapeFor file text shape = (breaks : List BreakAt) × (trees : List Group) × FoundIn file text breaks trees × IsShapeBy breaks trees shape
 

@@ -1,12 +1,15 @@
 // Laws of the definitions, for the layers above.
 
-ghost use Rattle.source_trees.specs.Laws.{EachMerge, MergedIsOrdered, OneMerge, ShapesKnown};
-ghost use Rattle.source_trees.specs.MergedTokens.{PathsAreOfTokens, TokensAreDefinitions, TokensAreOfTexts, TokensStandInFiles};
+ghost use Rattle.source_trees.specs.Laws.{EachFound, MergedIsOrdered, ShapesKnown};
+ghost use Rattle.source_trees.specs.Laws.{OneFound, OneMerge, OneFlatOf};
+ghost use Rattle.source_trees.specs.Laws.{FoundByContent, MergedByContent, FlatByContent};
+ghost use Rattle.source_trees.specs.MergedTokens.{PathsAreOfTokens, TokensAreDefinitions};
+ghost use Rattle.source_trees.specs.MergedTokens.{TokensAreOfTexts, TokensStandInFiles};
 
 use file_plan::in_use_laws;
-use group_inherit::{flat_by_path, ordered_trees};
+use group_inherit::{flat_by_path, one_answer, ordered_trees};
 use json_span::plain_laws;
-use token_tree::text_laws;
+use token_tree::{shape_laws, text_laws};
 
 /// Where the shapes are those of the files in use, the sources of each permutation are known.
 pub fn shapes_known()
@@ -15,14 +18,30 @@ pub fn shapes_known()
     in_use_laws();
 }
 
-/// Sources come to one tree, or to one break.
+/// Sources come to one thing: they have one list of breaks and one of trees, so one merged tree or first break, and
+/// where they have no break one flat tree.
 pub fn one_merge()
-    ensures { OneMerge }
-{}
+    ensures found { OneFound }
+    ensures merged { OneMerge }
+    ensures flat { OneFlatOf }
+{
+    one_answer();
+}
+
+/// What sources come to is decided by the files that they name, each by its name and its text, and by their objects, each
+/// by its slice and where that starts. What else the files hold changes nothing.
+pub fn merged_by_content()
+    ensures found { FoundByContent }
+    ensures merged { MergedByContent }
+    ensures flat { FlatByContent }
+{
+    shape_laws();
+    one_answer();
+}
 
 /// Any sources come to something, and the members of each group ascend in the tree that is merged of them.
 pub fn each_merge()
-    ensures found { EachMerge }
+    ensures found { EachFound }
     ensures ordered { MergedIsOrdered }
 {
     ordered_trees();

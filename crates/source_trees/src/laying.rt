@@ -1,15 +1,12 @@
 // The sources of a permutation, laid over one another.
 
-ghost use Rattle.std.specs.Prelude.{◌≡◌, [], ◌∷◌, List, IfOk};
-ghost use Rattle.token_tree.specs.Shown.{group_view};
-ghost use Rattle.token_tree.specs.Tree.{Group as GroupData};
+ghost use Rattle.std.specs.Prelude.{◌≡◌, IfOk};
+ghost use Rattle.token_tree.specs.View.{group_view};
 ghost use Rattle.group_inherit.specs.Merging.{empty_group};
-ghost use Rattle.tk_io.specs.FilesData.{FilesData};
-ghost use Rattle.source_trees.specs.Sources.{BreakAt};
-ghost use Rattle.source_trees.specs.Trees.{IsShapeBy};
-ghost use Rattle.source_trees.specs.Merging.{InlineStands, AllInlineStand, IsKnown, AreKnown, IsLaid, Lays, IsMergedOf};
-ghost use Rattle.source_trees.specs.View.{home_view};
 ghost use Rattle.file_plan.specs.View.{plan_source_view, plan_sources_view};
+ghost use Rattle.source_trees.specs.Merging.{AllInlineStand, InlineStands, IsMergedBy};
+ghost use Rattle.source_trees.specs.View.{home_view};
+ghost use Rattle.source_trees.specs.inner.Laying.{LaysBy, LaysShape};
 
 use crate::shape::{FileShape, Shapes, shape_at};
 use crate::source::{Home, SourceBreak, SourceFault};
@@ -32,7 +29,7 @@ fn lay_shape<'s>(
     shape: &FileShape<'s>,
     before: &Group<'s>,
 ) -> Result<Merged<'s>, NoMemory>
-    ensures { IfOk result (λ m. (breaks : List BreakAt) (trees : List GroupData) → IsShapeBy breaks trees shape.now → IsLaid breaks trees (group_view before.now) m) }
+    ensures { IfOk result (LaysShape shape.now (group_view before.now)) }
 {
     match shape {
         FileShape::Shows(group) => Ok(Merged::Tree(over(alloc, group, before)?)),
@@ -49,7 +46,8 @@ fn lay<'s>(
     before: &Group<'s>,
 ) -> Result<Merged<'s>, NoMemory>
     requires { InlineStands home.text.now (plan_source_view source.now) }
-    ensures { IfOk result (λ m. (files : FilesData) → IsKnown files shapes.now (plan_source_view source.now) → Lays files (home_view home.entry) (plan_source_view source.now) (group_view before.now) m) }
+    ensures { IfOk result (LaysBy shapes.now (home_view home.entry)
+        (plan_source_view source.now) (group_view before.now)) }
 {
     match source {
         PlanSource::File(name, start, end) => match shapes.get(name.as_str()) {
@@ -91,8 +89,8 @@ pub fn merged_sources<'s>(
 ) -> Result<Merged<'s>, NoMemory>
     // An object is a value of the home's text, which has no flaw.
     requires { AllInlineStand home.text.now (plan_sources_view sources.now) }
-    ensures { IfOk result (λ m. (files : FilesData) → AreKnown files shapes.now (plan_sources_view sources.now)
-        → IsMergedOf files (home_view home.entry) (plan_sources_view sources.now) m) }
+    ensures { IfOk result
+        (IsMergedBy shapes.now (home_view home.entry) (plan_sources_view sources.now)) }
 {
     let mut merged = no_tree(alloc);
     for source in sources {

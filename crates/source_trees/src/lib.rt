@@ -13,7 +13,7 @@ mod source;
 #[cfg(test)]
 mod tests;
 
-pub use laws::{each_merge, merged_tokens, one_merge, shapes_known};
+pub use laws::{each_merge, merged_by_content, merged_tokens, one_merge, shapes_known};
 pub use laying::{Merged, merged_sources};
 pub use merge::{Merge, Merges, merge_of};
 pub use reading::read_named;

@@ -1,7 +1,7 @@
 // What merged trees come to.
 
 ghost use Rattle.std.specs.Prelude.{◌≡◌, ◌+◌, IfOk};
-ghost use Rattle.token_tree.specs.Shown.{group_view};
+ghost use Rattle.token_tree.specs.View.{group_view};
 ghost use Rattle.source_trees.specs.Merges.{IsMergeOf};
 
 use group_inherit::{Flat, TreeFault, flatten};
@@ -14,7 +14,7 @@ use token_tree::Group;
 #[derive(Drop)]
 pub enum Merge<'s> {
     Flat(Flat<'s>),
-    /// The fault is never want of memory.
+    /// The fault is never [`TreeFault::NoMemory`].
     Broken(TreeFault<'s>),
 }
 

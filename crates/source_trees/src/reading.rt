@@ -2,7 +2,7 @@
 
 ghost use Rattle.std.specs.Prelude.{◌≡◌, [], ◌∷◌, None, OnOk};
 ghost use Rattle.std.specs.FinMap as map;
-ghost use Rattle.file_plan.specs.InUse.{source_names, names_in, names_of};
+ghost use Rattle.file_plan.specs.InUse.{source_names, names_in, file_names};
 ghost use Rattle.file_plan.specs.View.{plan_source_view, plan_sources_view, plan_view};
 ghost use Rattle.source_trees.specs.Reading.{AddsTrees, CountsAdded, CountsAtMost};
 
@@ -103,11 +103,11 @@ pub fn read_named<'s, L: Ledger>(
     parses: &mut Steps<L>,
 ) -> Result<(), NoMemory>
     ensures trees { OnOk result
-        (AddsTrees files.now (names_of (plan_view plan.now)) trees.old trees.new) }
+        (AddsTrees files.now (file_names (plan_view plan.now)) trees.old trees.new) }
     ensures steps { OnOk result
-        (CountsAdded files.now (names_of (plan_view plan.now)) trees.old parses.old parses.new) }
+        (CountsAdded files.now (file_names (plan_view plan.now)) trees.old parses.old parses.new) }
     // Where memory runs out, some files are not read.
-    ensures at_most { CountsAtMost files.now (names_of (plan_view plan.now))
+    ensures at_most { CountsAtMost files.now (file_names (plan_view plan.now))
         trees.old parses.old parses.new }
 {
     for perm in plan {

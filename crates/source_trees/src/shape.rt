@@ -1,10 +1,11 @@
 // The shapes of files: groups and tokens.
 
-ghost use Rattle.std.specs.Prelude.{◌≡◌, ℕ, List, IfOk};
+ghost use Rattle.std.specs.Prelude.{◌≡◌, IfOk};
 ghost use Rattle.json_span.specs.View.{node_view};
 ghost use Rattle.token_tree.specs.Promise.{StandsIn};
 ghost use Rattle.file_plan.specs.Trees.{IsTreeOf};
-ghost use Rattle.source_trees.specs.Trees.{IsShapeFor, IsShapeAt};
+ghost use Rattle.source_trees.specs.Trees.{IsShapeFor};
+ghost use Rattle.source_trees.specs.inner.Laying.{IsShapeAt, TellsFault};
 
 use crate::source::{SourceBreak, SourceFault};
 use file_plan::Tree;
@@ -24,7 +25,8 @@ pub enum FileShape<'s> {
 pub type Shapes<'s> = TextMap<FileShape<'s>>;
 
 fn broken<'s>(fault: SourceFault, file: &'s str, start: usize, end: usize) -> FileShape<'s>
-    ensures { result ≡ FileShape.Breaks (record { fault = fault; file = file.entry; start = start; end = end }) }
+    ensures { result ≡ FileShape.Breaks
+        (record { fault = fault; file = file.entry; start = start; end = end }) }
 {
     FileShape::Breaks(SourceBreak {
         fault,
@@ -55,7 +57,7 @@ pub(crate) fn shape_at<'s>(
 
 // The break of a file that is no JSON text, or has a flaw.
 fn flaw_shape<'s>(file: &'s str, fault: &JsonFault) -> Result<FileShape<'s>, NoMemory>
-    ensures { IfOk result (λ shape. (text : List ℕ) → IsTreeOf text (Tree.Flawed fault.now) → IsShapeFor file.entry.now text shape) }
+    ensures { IfOk result (TellsFault file.entry.now fault.now) }
 {
     match fault {
         JsonFault::Syntax(at) => Ok(broken(SourceFault::Syntax, file, *at, *at)),

@@ -1,7 +1,7 @@
 // Where sources are named, and the rules that they break.
 
 /// The file that names the sources, and its text.
-#[derive(Clone, Copy)]
+#[derive(Clone, Copy, Debug)]
 pub struct Home<'s> {
     pub file: &'s str,
     pub text: &'s str,
@@ -23,7 +23,7 @@ pub enum SourceFault {
 }
 
 /// A rule that a source breaks, and the file and the byte offsets of the span where it is broken.
-#[derive(Clone, Copy)]
+#[derive(Clone, Copy, Debug)]
 pub struct SourceBreak<'s> {
     pub fault: SourceFault,
     pub file: &'s str,

@@ -1,12 +1,10 @@
 use Rattle.std.proofs.Common.{ap, refl, ◌∙◌}
 use Rattle.std.proofs.lemmas.Result.{IfOk-weaker}
 use Rattle.std.specs.FinMap as finite
-use Rattle.token_tree.specs.Shown.{group_view}
-use Rattle.source_trees.specs.Merging.{IsKnown, Lays}
-use Rattle.tk_io.specs.FilesData.{FilesData}
+use Rattle.token_tree.specs.View.{group_view}
+use Rattle.source_trees.specs.inner.Laying.{LaysBy}
 use Rattle.source_trees.specs.View.{home_view}
 use Rattle.file_plan.specs.View.{plan_source_view}
-use Rattle.source_trees.specs.declared.laying.Merged.{Merged}
 use Rattle.source_trees.specs.declared.source.SourceFault.TheVariants.{Missing}
 use Rattle.source_trees.proofs.Laid.{lay_none, lay_inline}
 use Rattle.source_trees.proofs.laying.lay.Goals as goal
@@ -20,6 +18,6 @@ returns-in-None c = λ files k.
 pub returns-in_ok-shape-in-Inline : goal.returns-in_ok-shape-in-Inline
 returns-in_ok-shape-in-Inline c =
     IfOk-weaker c.lay_shape-in-Inline.result _
-    (λ (m : Merged). (files : FilesData) → IsKnown files c.args.shapes.now (plan_source_view c.args.source.now) → Lays files (home_view c.args.home) (plan_source_view c.args.source.now) (group_view c.args.before.now) m)
+    (LaysBy c.args.shapes.now (home_view c.args.home) (plan_source_view c.args.source.now) (group_view c.args.before.now))
     (λ m f files k. lay_inline files (home_view c.args.home) c.args.source.now c.in-Inline.node (group_view c.args.before.now) m c.in-Inline.is (f _ _ c.in_ok-shape-in-Inline.ensures))
     c.lay_shape-in-Inline.ensures

@@ -1,6 +1,7 @@
 use Rattle.std.proofs.Common.{◌+◌, drop, refl, sym, subst}
-use Rattle.token_tree.specs.Shown.{group_view}
-use Rattle.source_trees.specs.Merging.{AllInlineStand, AreKnown, Lays, IsLaidOver}
+use Rattle.token_tree.specs.View.{group_view}
+use Rattle.source_trees.specs.Merging.{AllInlineStand, AreKnown, IsLaidOver}
+use Rattle.source_trees.specs.inner.Laying.{Lays}
 use Rattle.source_trees.specs.View.{home_view}
 use Rattle.file_plan.specs.View.{plan_source_view, plan_sources_view}
 use Rattle.source_trees.specs.declared.laying.Merged.TheVariants.{Tree, Broken}

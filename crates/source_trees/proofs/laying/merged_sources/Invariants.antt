@@ -1,6 +1,6 @@
 -- What the sources that are still to come lay over the tree so far, all lay over none.
 use Rattle.std.proofs.Common.{drop}
-use Rattle.token_tree.specs.Shown.{group_view}
+use Rattle.token_tree.specs.View.{group_view}
 use Rattle.source_trees.specs.Merging.{AllInlineStand, AreKnown, IsLaidOver, IsMergedOf}
 use Rattle.tk_io.specs.FilesData.{FilesData}
 use Rattle.source_trees.specs.View.{home_view}

@@ -1,5 +1,5 @@
 use Rattle.std.proofs.Common.{◌+◌, [], drop, sym, subst, ap}
-use Rattle.file_plan.specs.InUse.{names_in, names_of}
+use Rattle.file_plan.specs.InUse.{names_in, file_names}
 use Rattle.file_plan.specs.View.{plan_sources_view, plan_view}
 use Rattle.source_trees.specs.Reading.{AddsTrees, CountsAdded, CountsAtMost}
 use Rattle.source_trees.proofs.NamedTrees.{next_perms, no_perms, adds_none, counts_none, adds_more, counts_more, most_more, most_first, at_most}
@@ -14,8 +14,8 @@ loop-perm-preserved g c =
     let plan = c.args.plan.now in
     let i = c.loop-perm.perm-index in
     let x = names_in (plan_sources_view c.perm-item.result.sources) in
-    let xs = names_of (plan_view (drop (i + 1) plan)) in
-    let next = ap names_of (next_perms plan i c.perm-item.result c.loop-perm-test.true c.perm-item.is) in
+    let xs = file_names (plan_view (drop (i + 1) plan)) in
+    let next = ap file_names (next_perms plan i c.perm-item.result c.loop-perm-test.true c.perm-item.is) in
     let adds = subst (λ l. AddsTrees files (names_in (plan_sources_view l)) c.loop-perm.trees c.read_sources.new.trees) c.as_slice.ensures c.in_ok-read_sources.ensures.trees in
     let counts = subst (λ l. CountsAdded files (names_in (plan_sources_view l)) c.loop-perm.trees c.loop-perm.parses c.read_sources.new.parses) c.as_slice.ensures c.in_ok-read_sources.ensures.steps in
     record {
@@ -33,8 +33,8 @@ returns-in_err-read_sources-clause-at_most g c =
     let plan = c.args.plan.now in
     let i = c.loop-perm.perm-index in
     let x = names_in (plan_sources_view c.perm-item.result.sources) in
-    let xs = names_of (plan_view (drop (i + 1) plan)) in
-    let next = ap names_of (next_perms plan i c.perm-item.result c.loop-perm-test.true c.perm-item.is) in
+    let xs = file_names (plan_view (drop (i + 1) plan)) in
+    let next = ap file_names (next_perms plan i c.perm-item.result c.loop-perm-test.true c.perm-item.is) in
     c.loop-perm.invariant.most c.read_sources.new.parses
     (subst (λ ns. CountsAtMost files ns c.loop-perm.trees c.loop-perm.parses c.read_sources.new.parses) (sym next)
     (most_first files x xs c.loop-perm.trees c.loop-perm.parses c.read_sources.new.parses
@@ -42,19 +42,19 @@ returns-in_err-read_sources-clause-at_most g c =
 
 pub returns-clause-trees : goal.returns-clause-trees
 returns-clause-trees g c =
-    let none = ap names_of (no_perms c.args.plan.now c.loop-perm.perm-index c.loop-perm-test.false) in
+    let none = ap file_names (no_perms c.args.plan.now c.loop-perm.perm-index c.loop-perm-test.false) in
     c.loop-perm.invariant.trees c.loop-perm.trees
     (subst (λ ns. AddsTrees c.args.files.now ns c.loop-perm.trees c.loop-perm.trees) (sym none) (adds_none c.args.files.now c.loop-perm.trees))
 
 pub returns-clause-steps : goal.returns-clause-steps
 returns-clause-steps g c =
-    let none = ap names_of (no_perms c.args.plan.now c.loop-perm.perm-index c.loop-perm-test.false) in
+    let none = ap file_names (no_perms c.args.plan.now c.loop-perm.perm-index c.loop-perm-test.false) in
     c.loop-perm.invariant.steps c.loop-perm.parses
     (subst (λ ns. CountsAdded c.args.files.now ns c.loop-perm.trees c.loop-perm.parses c.loop-perm.parses) (sym none) (counts_none c.args.files.now c.loop-perm.trees c.loop-perm.parses))
 
 pub returns-clause-at_most : goal.returns-clause-at_most
 returns-clause-at_most g c =
-    let none = ap names_of (no_perms c.args.plan.now c.loop-perm.perm-index c.loop-perm-test.false) in
+    let none = ap file_names (no_perms c.args.plan.now c.loop-perm.perm-index c.loop-perm-test.false) in
     c.loop-perm.invariant.most c.loop-perm.parses
     (subst (λ ns. CountsAtMost c.args.files.now ns c.loop-perm.trees c.loop-perm.parses c.loop-perm.parses) (sym none)
     (at_most c.args.files.now [] c.loop-perm.trees c.loop-perm.parses c.loop-perm.parses (counts_none c.args.files.now c.loop-perm.trees c.loop-perm.parses)))

@@ -2,7 +2,7 @@
 use Rattle.std.proofs.Common.{ℕ, drop}
 use Rattle.std.specs.FinMap as finite
 use Rattle.tk_io.specs.Order.{text_cmp}
-use Rattle.file_plan.specs.InUse.{names_of}
+use Rattle.file_plan.specs.InUse.{file_names}
 use Rattle.file_plan.specs.View.{plan_view}
 use Rattle.file_plan.specs.declared.tree.Tree.{Tree}
 use Rattle.source_trees.specs.Reading.{AddsTrees, CountsAdded, CountsAtMost}
@@ -10,7 +10,7 @@ use Rattle.source_trees.proofs.reading.read_named.Given as goal
 
 abbrev pub invariant-loop-perm : goal.invariant-loop-perm
 invariant-loop-perm g l = record {
-  trees : (new : finite.FinMap text_cmp Tree) → AddsTrees l.files (names_of (plan_view (drop l.perm-index l.plan))) l.trees new → AddsTrees l.files (names_of (plan_view l.plan)) l.fn.trees new;
-  steps : (n : ℕ) → CountsAdded l.files (names_of (plan_view (drop l.perm-index l.plan))) l.trees l.parses n → CountsAdded l.files (names_of (plan_view l.plan)) l.fn.trees l.fn.parses n;
-  most : (n : ℕ) → CountsAtMost l.files (names_of (plan_view (drop l.perm-index l.plan))) l.trees l.parses n → CountsAtMost l.files (names_of (plan_view l.plan)) l.fn.trees l.fn.parses n;
+  trees : (new : finite.FinMap text_cmp Tree) → AddsTrees l.files (file_names (plan_view (drop l.perm-index l.plan))) l.trees new → AddsTrees l.files (file_names (plan_view l.plan)) l.fn.trees new;
+  steps : (n : ℕ) → CountsAdded l.files (file_names (plan_view (drop l.perm-index l.plan))) l.trees l.parses n → CountsAdded l.files (file_names (plan_view l.plan)) l.fn.trees l.fn.parses n;
+  most : (n : ℕ) → CountsAtMost l.files (file_names (plan_view (drop l.perm-index l.plan))) l.trees l.parses n → CountsAtMost l.files (file_names (plan_view l.plan)) l.fn.trees l.fn.parses n;
 }

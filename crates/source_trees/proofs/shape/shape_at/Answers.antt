@@ -1,8 +1,8 @@
 use Rattle.std.proofs.Common.{sym, subst}
 use Rattle.json_span.specs.View.{node_view}
-use Rattle.token_tree.specs.Answer.{IsFirst}
+use Rattle.token_tree.specs.Answer.{TellsFirst}
 use Rattle.token_tree.specs.Shape.{shape_breaks}
-use Rattle.source_trees.specs.Trees.{IsShapeAt}
+use Rattle.source_trees.specs.inner.Laying.{IsShapeAt}
 use Rattle.source_trees.proofs.Laid.{first_mapped}
 use Rattle.source_trees.proofs.shape.shape_at.Goals as goal
 
@@ -12,4 +12,4 @@ returns-in-Err-Broken c =
     let file = c.args.file.now in
     subst (IsShapeAt file c.args.text.now n) (sym c.broken.ensures)
     (first_mapped file (shape_breaks n) (record { rule = c.in-Err-Broken.rule; start = c.in-Err-Broken.start; end = c.in-Err-Broken.end })
-    (subst (IsFirst (shape_breaks n)) c.in-Err-Broken.field-0-is c.in-Err-Broken.ensures.broken))
+    (subst (TellsFirst (shape_breaks n)) c.in-Err-Broken.field-0-is c.in-Err-Broken.ensures.broken))

@@ -1,7 +1,7 @@
 use Rattle.std.proofs.Common.{sym, ap, ◌∙◌, subst}
 use Rattle.std.proofs.lemmas.List.{take_all}
 use Rattle.std.specs.String.{string_bytes}
-use Rattle.tk_io.specs.Shown.{shown_by}
+use Rattle.tk_io.specs.View.{entries_view}
 use Rattle.file_plan.specs.Trees.{IsTreeOf}
 use Rattle.source_trees.specs.inner.Shapes.{AreShapesOf}
 use Rattle.source_trees.proofs.ShapesAdded.{shapes_none, tree_of_entry, next_shape, shapes_all}
@@ -27,5 +27,5 @@ pub returns : goal.returns
 returns c =
     shapes_all c.args.files.now c.args.trees.now c.loop-path.shapes
     (subst (λ l. AreShapesOf c.args.files.now l c.loop-path.shapes)
-    (ap (shown_by string_bytes (λ v. v)) (take_all c.loop-path.path-index c.entries-path-items.result.now c.loop-path-test.false) ∙ c.entries-path-items.ensures)
+    (ap (entries_view string_bytes (λ v. v)) (take_all c.loop-path.path-index c.entries-path-items.result.now c.loop-path-test.false) ∙ c.entries-path-items.ensures)
     c.loop-path.invariant)
