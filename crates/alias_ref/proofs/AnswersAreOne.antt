@@ -4,7 +4,7 @@ use Rattle.name_path.specs.declared.kind.Kind.{Kind}
 use Rattle.json_span.specs.PlainView.{plain_view}
 use Rattle.alias_ref.specs.Written.{Step, whole, written_in}
 use Rattle.name_path.specs.declared.place.Place.{Place}
-use Rattle.alias_ref.specs.Visits.{Break, breaks, first_break, walked, walk_break}
+use Rattle.alias_ref.specs.Visits.{RefBreak, ref_break, first_break, walked, walk_break}
 use Rattle.alias_ref.specs.Kinds.{KindOf, own_in, group_in}
 use Rattle.alias_ref.specs.Answer.{IsResolved, IsFirstBreak, in_walk, kind_missing, IsRefBreak, HasRealRing}
 use Rattle.alias_ref.specs.Laws.{Flat}
@@ -24,16 +24,16 @@ module _ (flat : Flat) (token : List Step) where
       let same : Some r.kind ≡ Some s.kind = kind_once (written_in flat) (own_in flat) (group_in flat) k.kind l.kind in
       (cc, means_once (written_in flat) k.meaning l.meaning, links_once (written_in flat) (own_in flat) (group_in flat) k.links l.links)
 
-  some_same : {b c : Break} → Some b ≡ Some c → b ≡ c
+  some_same : {b c : RefBreak} → Some b ≡ Some c → b ≡ c
   some_same {b} {c} e = ap (got b) e
 
-  pub one_break : (b c : Break) → IsFirstBreak flat token b → IsFirstBreak flat token c → b ≡ c
+  pub one_break : (b c : RefBreak) → IsFirstBreak flat token b → IsFirstBreak flat token c → b ≡ c
   one_break b c (in_walk e) (in_walk f) = some_same (sym e ∙ f)
   one_break b c (in_walk e) (kind_missing f k is) = let h = sym e ∙ f in absurd (cc)
   one_break b c (kind_missing e k is) (in_walk f) = let h = sym f ∙ e in absurd (cc)
   one_break b c (kind_missing e k is) (kind_missing f l is') = is ∙ sym is'
 
-  pub never_both : (r : Resolved) (b : Break) → IsResolved flat token r → IsFirstBreak flat token b → ⊥
+  pub never_both : (r : Resolved) (b : RefBreak) → IsResolved flat token r → IsFirstBreak flat token b → ⊥
   never_both r b k (in_walk e) = let h = sym e ∙ k.unbroken in cc
   never_both r b k (kind_missing e l is) = let h = kind_once (written_in flat) (own_in flat) (group_in flat) k.kind l in cc
 
@@ -49,7 +49,7 @@ module _ (flat : Flat) (token : List Step) where
   )
   fault_ring faults.NoMemory h = tt
 
-  pub missing_broken : (f : RefFault) → IsFault f (Some (breaks rule.NoType (whole token))) → walk_break (written_in flat) token ≡ None → KindOf (written_in flat) (own_in flat) (group_in flat) token None → IsRefBreak flat token f
+  pub missing_broken : (f : RefFault) → IsFault f (Some (ref_break rule.NoType (whole token))) → walk_break (written_in flat) token ≡ None → KindOf (written_in flat) (own_in flat) (group_in flat) token None → IsRefBreak flat token f
   missing_broken (faults.Broken r p ring) h u k = kind_missing u k (some_same (sym h))
   missing_broken faults.NoMemory h u k = tt
 

@@ -5,7 +5,7 @@ use Rattle.name_path.specs.declared.place.Place.{Place}
 use Rattle.alias_ref.specs.Written.{Step, Container, Written, leaf, parts, refers, misspelled, Tokens, whole, part, is_reference, is_written}
 use Rattle.alias_ref.specs.Meaning.{Goes, arrived, onward, Settles}
 use Rattle.alias_ref.specs.Visits.{Visit, visit, lost, Way, goes_on, since, same_place, go_if, steps_from, way_of, settled, settle_by, pass_written, unless_stands, pass_visits, visits_each, at_end, walk_written, walk_visits}
-use Rattle.alias_ref.specs.Asking.{walked as walking, passed as passing, for_part, for_step, for_target, Asks, Chain, starts, links_last, links, Lacks, lacks_none, lacks, Differ, differ_none, differ, IsRing, ring}
+use Rattle.alias_ref.specs.Asking.{by_walking as walking, by_passing as passing, for_part, for_step, for_target, Asks, Chain, starts, links_last, links, Lacks, lacks_none, lacks, Differ, differ_none, differ_more, IsRingOfPlaces, ring}
 use Rattle.alias_ref.proofs.WaysSettle.{DoSettle, way_of-leads, settle_by-settles, pass_visits-settles}
 use Rattle.alias_ref.proofs.SamePlaces.{same_place-is, place_same}
 
@@ -39,8 +39,8 @@ Lacks-end lacks_none h = lacks h lacks_none
 Lacks-end (lacks k ks) h = lacks k (Lacks-end ks h)
 
 Differ-end : {q : Place} {b : List Place} → Differ b → Lacks q b → Differ (b ++ q ∷ [])
-Differ-end differ_none h = differ lacks_none differ_none
-Differ-end (differ {p} k ks) (lacks h hs) = differ (Lacks-end k (λ e. h (sym e))) (Differ-end ks hs)
+Differ-end differ_none h = differ_more lacks_none differ_none
+Differ-end (differ_more {p} k ks) (lacks h hs) = differ_more (Lacks-end k (λ e. h (sym e))) (Differ-end ks hs)
 
 cond_first : (c : Bool) (p : Place) (b : List Place) (q : Place) → c ≡ same_place q p → is_some (cond c (Some (q ∷ b)) (since p b)) ≡ false → (c ≡ false) × (is_some (since p b) ≡ false)
 cond_first true p b q e h = cc
@@ -63,17 +63,17 @@ module _ (T : Tokens) where
   Chain-rest (links k ks) = ks
 
   Differ-rest : {q : Place} {b : List Place} → Differ (q ∷ b) → Differ b
-  Differ-rest (differ k ks) = ks
+  Differ-rest (differ_more k ks) = ks
 
   ring_here : (c : Bool) (p q : Place) (b r : List Place) → c ≡ same_place q p → cond c (Some (q ∷ b)) (since p b) ≡ Some r → ((same_place q p ≡ true) × (q ∷ b ≡ r)) ⊎ (since p b ≡ Some r)
   ring_here true p q b r e h = inl (sym e, cc)
   ring_here false p q b r e h = inr h
 
   -- what closes on a good branch is a ring
-  pub since-ring : (p : Place) (b r : List Place) → Chain T b p → Differ b → since p b ≡ Some r → IsRing T r
+  pub since-ring : (p : Place) (b r : List Place) → Chain T b p → Differ b → since p b ≡ Some r → IsRingOfPlaces T r
   since-ring p [] r ch df h = cc
-  since-ring p (q ∷ b) r ch df h = elim (ring_here (same_place q p) p q b r refl h) as (λ _. IsRing T r) [
-    | inl (s, e) ↦ let same : p ≡ q = sym (same_place-is q p s) in subst (λ x. IsRing T x) e (ring df (subst (λ x. Chain T (q ∷ b) x) same ch))
+  since-ring p (q ∷ b) r ch df h = elim (ring_here (same_place q p) p q b r refl h) as (λ _. IsRingOfPlaces T r) [
+    | inl (s, e) ↦ let same : p ≡ q = sym (same_place-is q p s) in subst (λ x. IsRingOfPlaces T x) e (ring df (subst (λ x. Chain T (q ∷ b) x) same ch))
     | inr e ↦ since-ring p b r (Chain-rest ch) (Differ-rest df) e
   ]
 

@@ -1,5 +1,5 @@
 -- The test of two raw entries decides whether they are the same.
-use Rattle.std.proofs.Common.{◌≡◌, ℕ, List, Bool, true, false, ◌&&◌, not, Option, Some, None, refl, sym, ap, ◌∙◌}
+use Rattle.std.proofs.Common.{◌≡◌, Bool, true, false, ◌&&◌, not, Option, Some, None, refl, sym, ap, ◌∙◌}
 use Rattle.std.specs.Bool.{Decides}
 use Rattle.std.specs.Option.{option_eq}
 use Rattle.std.specs.Str.{bytes_eq}
@@ -10,7 +10,7 @@ use Rattle.token_tree.specs.Texts.{kind_named}
 use Rattle.token_tree.specs.declared.mark.Mark.{Mark}
 use Rattle.token_tree.specs.declared.mark.Mark.TheVariants.{No, Yes, Because}
 use Rattle.token_tree.proofs.Names.{and_left, and_right, and_both, kind_found}
-use Rattle.alias_ref.specs.Unchanged.{Raw, same_kind, same_mark, same_raw, differ, DifferDecides}
+use Rattle.alias_ref.specs.Unchanged.{Raw, same_kind, same_mark, same_raw, DifferDecides}
 
 option_decides : {A : Type 0} {E : A → A → Bool} → ((x y : A) → Decides (E x y) (x ≡ y)) → (o p : Option A) → Decides (option_eq E o p) (o ≡ p)
 option_decides d None None = (λ _. refl, λ _. refl)

@@ -3,17 +3,17 @@ use Rattle.std.proofs.Common.{◌≡◌, ℕ, zero, suc, ◌+◌, ◌-◌, ◌<�
 use Rattle.std.specs.Prelude.{is_some, nat_le}
 use Rattle.name_path.specs.declared.place.Place.{Place}
 use Rattle.alias_ref.specs.Written.{Written, Tokens, is_misspelled}
-use Rattle.alias_ref.specs.Visits.{Visit, visit, joined, since, settle_by, pass_written, unless_stands, pass_visits, walk_written, walk_visits, Break, breaks, most_places, most_visits, break_if, own_break, or_else, first_break, walked, passed}
+use Rattle.alias_ref.specs.Visits.{Visit, visit, after_visits, since, settle_by, pass_written, unless_stands, pass_visits, walk_written, walk_visits, RefBreak, ref_break, most_places, most_visits, break_if, own_break, or_else, first_break, walked, passed}
 use Rattle.alias_ref.specs.declared.fault.RefRule.TheVariants as rule
 use Rattle.alias_ref.specs.inner.Seen.{Clean, IsFault}
 use Rattle.alias_ref.specs.declared.fault.RefFault.{RefFault}
 use Rattle.alias_ref.specs.declared.fault.RefFault.TheVariants as faults
 
-or_assoc : (a b c : Option Break) → or_else (or_else a b) c ≡ or_else a (or_else b c)
+or_assoc : (a b c : Option RefBreak) → or_else (or_else a b) c ≡ or_else a (or_else b c)
 or_assoc (Some x) b c = refl
 or_assoc None b c = refl
 
-pub or_none : (a b : Option Break) → or_else a b ≡ None → (a ≡ None) × (b ≡ None)
+pub or_none : (a b : Option RefBreak) → or_else a b ≡ None → (a ≡ None) × (b ≡ None)
 or_none (Some x) b h = cc
 or_none None b h = (refl, h)
 
@@ -39,13 +39,13 @@ module _ (T : Tokens) where
     counted = omega (arith, c.counted, d.counted, length-append xs ys);
   }
 
-  breaks_later : {n m : ℕ} (xs ys : List Visit) (b : Break) → Clean T n m xs → first_break T m ys ≡ Some b → first_break T n (xs ++ ys) ≡ Some b
+  breaks_later : {n m : ℕ} (xs ys : List Visit) (b : RefBreak) → Clean T n m xs → first_break T m ys ≡ Some b → first_break T n (xs ++ ys) ≡ Some b
   breaks_later {n} {m} xs ys b c h = first-append n xs ys ∙ ap₂ or_else c.unbroken (ap (λ j. first_break T j ys) (sym c.counted) ∙ h)
 
-  breaks_first : (n : ℕ) (xs ys : List Visit) (b : Break) → first_break T n xs ≡ Some b → first_break T n (xs ++ ys) ≡ Some b
+  breaks_first : (n : ℕ) (xs ys : List Visit) (b : RefBreak) → first_break T n xs ≡ Some b → first_break T n (xs ++ ys) ≡ Some b
   breaks_first n xs ys b h = first-append n xs ys ∙ ap (λ o. or_else o (first_break T (n + length xs) ys)) h
 
-  pub fault_by : (f : RefFault) (a b : Option Break) → ((x : Break) → a ≡ Some x → b ≡ Some x) → IsFault f a → IsFault f b
+  pub fault_by : (f : RefFault) (a b : Option RefBreak) → ((x : RefBreak) → a ≡ Some x → b ≡ Some x) → IsFault f a → IsFault f b
   fault_by (faults.Broken r p ring) a b go h = go (record { rule = r; place = p; ring = ring }) h
   fault_by faults.NoMemory a b go h = tt
 
@@ -67,7 +67,7 @@ module _ (T : Tokens) where
     pub spelled : is_misspelled (T p) ≡ false
 
   enters_if : (b : List Place) (p : Place) (x y z : Bool) → nat_le most_places (length b) ≡ x → is_misspelled (T p) ≡ z → since p b ≡ None
-      → cond x (Some (breaks rule.Deep p)) (cond y (Some (breaks rule.Big p)) (cond z (Some (breaks rule.RefSyntax p)) None)) ≡ None → Enters b p
+      → cond x (Some (ref_break rule.Deep p)) (cond y (Some (ref_break rule.Big p)) (cond z (Some (ref_break rule.RefSyntax p)) None)) ≡ None → Enters b p
   enters_if b p true y z e f g h = cc
   enters_if b p false true z e f g h = cc
   enters_if b p false false true e f g h = cc
@@ -93,12 +93,12 @@ module _ (T : Tokens) where
       ∙ ap (λ x. visit b p ∷ walk_written T (settle_by T (passed T (b ++ p ∷ []))) (walked T (b ++ p ∷ [])) p x) e
 
   pub passed-enters : (b : List Place) (p : Place) (o : Option Written) → Enters b p → T p ≡ o
-      → passed T b p ≡ joined (visit b p ∷ []) (pass_written T (settle_by T (passed T (b ++ p ∷ []))) p o)
+      → passed T b p ≡ after_visits (visit b p ∷ []) (pass_written T (settle_by T (passed T (b ++ p ∷ []))) p o)
   unfolding passed pass_visits
   passed-enters b p o k e =
       ap (λ n. pass_visits T n b p) (less_room b p k.room)
-      ∙ ap (λ x. joined (visit b p ∷ []) (unless_stands (is_some x) (pass_written T (settle_by T (passed T (b ++ p ∷ []))) p (T p)))) k.is_new
-      ∙ ap (λ x. joined (visit b p ∷ []) (pass_written T (settle_by T (passed T (b ++ p ∷ []))) p x)) e
+      ∙ ap (λ x. after_visits (visit b p ∷ []) (unless_stands (is_some x) (pass_written T (settle_by T (passed T (b ++ p ∷ []))) p (T p)))) k.is_new
+      ∙ ap (λ x. after_visits (visit b p ∷ []) (pass_written T (settle_by T (passed T (b ++ p ∷ []))) p x)) e
 
   pub walk_visits-begins : (n : ℕ) (b : List Place) (p : Place) → (es : List Visit) × (walk_visits T n b p ≡ visit b p ∷ es)
   unfolding walk_visits

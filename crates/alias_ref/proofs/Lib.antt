@@ -1,36 +1,36 @@
-pub mod ReferencesNamed
-pub mod IndexSteps
-pub mod WrittenParts
-pub mod MovedValues
-pub mod RefsAreWritten
-pub mod OneMeaning
-pub mod SamePlaces
-pub mod WaysSettle
-pub mod FirstBreaks
-pub mod BranchesAreChains
-pub mod RingsAreReal
-pub mod LinksOfParts
-pub mod UnbrokenMeans
-pub mod LinkDepths
-pub mod UnbrokenHasLinks
-pub mod SameWalks
-pub mod SameLinks
-pub mod UnchangedTrees
-pub mod DifferencesDecided
-pub mod WalksInTurns
-pub mod PartsMean
-pub mod LinksAreReal
-pub mod BreaksAreReal
-pub mod VisitsAreSound
-pub mod ContentsOfValues
-pub mod IndexedItems
-pub mod SoundValues
-pub mod MeaningsFit
-pub mod SpotsStand
-pub mod PartsInTurn
-pub mod TracesGrow
-pub mod Weights
-pub mod RefsInTurn
-pub mod SpansInTurn
-pub mod AnswersAreOne
-pub mod PlainViews
+mod ReferencesNamed
+mod IndexSteps
+mod WrittenParts
+mod MovedValues
+mod RefsAreWritten
+mod OneMeaning
+mod SamePlaces
+mod WaysSettle
+mod FirstBreaks
+mod BranchesAreChains
+mod RingsAreReal
+mod LinksOfParts
+mod UnbrokenMeans
+mod LinkDepths
+mod UnbrokenHasLinks
+mod SameWalks
+mod SameLinks
+mod UnchangedTrees
+mod DifferencesDecided
+mod WalksInTurns
+mod PartsMean
+mod LinksAreReal
+mod BreaksAreReal
+mod VisitsAreSound
+mod ContentsOfValues
+mod IndexedItems
+mod SoundValues
+mod MeaningsFit
+mod SpotsStand
+mod PartsInTurn
+mod TracesGrow
+mod Weights
+mod RefsInTurn
+mod SpansInTurn
+mod AnswersAreOne
+mod PlainViews

@@ -1,4 +1,4 @@
--- A walk without a break has at most 256 links one behind the other.
+-- A walk without a break has at most 256 links that follow one another.
 use Rattle.std.proofs.Common.{◌≡◌, ℕ, zero, suc, ◌+◌, ◌-◌, List, [], ◌∷◌, ◌++◌, true, false, cond, Option, Some, None, length, refl, subst, arith}
 use Rattle.std.specs.Prelude.{is_some}
 use Rattle.name_path.specs.declared.place.Place.{Place}

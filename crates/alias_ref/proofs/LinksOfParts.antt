@@ -1,16 +1,12 @@
 -- Kinds and links at a place, from those at its parts and targets.
-use Rattle.std.proofs.Common.{◌≡◌, ℕ, List, [], ◌∷◌, ◌++◌, Option, Some, None, refl, sym, ap, ap₂, ◌∙◌, subst, append_assoc, append-nil}
-use Rattle.std.specs.Prelude.{Result, Ok, Err, IsErr}
+use Rattle.std.proofs.Common.{◌≡◌, List, [], ◌∷◌, ◌++◌, Option, Some, None, refl, sym, ap, ap₂, ◌∙◌, subst, append_assoc, append-nil}
 use Rattle.name_path.specs.declared.place.Place.{Place}
-use Rattle.alias_ref.specs.Written.{Step, Container, Written, parts, refers, Tokens, whole, part, is_written}
-use Rattle.alias_ref.specs.Visits.{Visit, Way, steps_from, way_of, Break}
-use Rattle.alias_ref.specs.inner.Seen.{Clean, Sees, IsFault}
+use Rattle.alias_ref.specs.Written.{Step, Written, refers, Tokens, whole, part, is_written}
+use Rattle.alias_ref.specs.Visits.{Way, steps_from, way_of}
 use Rattle.alias_ref.specs.Kinds.{Kinds, link_token, KindOf, kind_alone, kind_linked, LinksAt, links_leaf, links_steps, links_one, links_parts, LinksEach, each_done, each_more}
 use Rattle.group_inherit.specs.Merging.{either}
 use Rattle.name_path.specs.declared.kind.Kind.{Kind}
 use Rattle.name_path.specs.declared.link.Link.{Link}
-use Rattle.alias_ref.specs.declared.fault.RefFault.{RefFault}
-use Rattle.alias_ref.specs.declared.fault.RefFault.TheVariants as faults
 use Rattle.alias_ref.specs.inner.Linking.{lent, link_here}
 use Rattle.alias_ref.proofs.WaysSettle.{go_if_ends}
 
@@ -21,13 +17,6 @@ module _ (T : Tokens) where
   pub way_end : (settle : Place → Way) (p q : Place) (u : List Step) → (way_of T settle p u []).ends ≡ Some q → q ≡ whole u
   unfolding steps_from
   way_end settle p q u h = let k = go_if_ends (is_written (T (whole u))) p (steps_from T settle p (whole u) []) h in let e = k.1 in cc
-
-  no_memory : (n : ℕ) (es : List Visit) (f : RefFault) (o : Option Break) → f ≡ faults.NoMemory → IsFault f o
-  no_memory n es f o e = subst (λ x. IsFault x o) (sym e) tt
-
-  pub sees_end : {X : Type 0} {n m : ℕ} (es : List Visit) (r : Result X RefFault) → Clean T n m es → (IsErr r → r ≡ Err faults.NoMemory) → Sees T es n m r
-  sees_end es (Ok x) c h = c
-  sees_end {n = n} es (Err f) c h = let e = h refl in let same : f ≡ faults.NoMemory = cc in no_memory n es f _ same
 
   module _ (own group : Kinds) where
     pub alone : (p : Place) (s : Written) (o : Option Kind) → T p ≡ Some s → link_token (Some s) ≡ None → p.trail ≡ [] → o ≡ either (own p.token) (group p.token) → KindOf T own group p.token o
@@ -56,9 +45,6 @@ module _ (T : Tokens) where
     pub one_more_part : (p : Place) (steps : List Step) (s : Step) (start now after more : List Link) → ((ls : List Link) × LinksEach T own group p steps ls × (now ≡ start ++ ls)) → LinksAt T own group (part p s) more → after ≡ now ++ more
         → (ls : List Link) × LinksEach T own group p (steps ++ s ∷ []) ls × (after ≡ start ++ ls)
     one_more_part p steps s start now after more (ls, k, e) l h = (ls ++ more, each_end k s more l, h ∙ ap (λ z. z ++ more) e ∙ append_assoc start ls more)
-
-    pub parts_links : {c : Container} (p : Place) (steps : List Step) (start now : List Link) → T p ≡ Some (parts c steps) → start ≡ [] → ((ls : List Link) × LinksEach T own group p steps ls × (now ≡ start ++ ls)) → LinksAt T own group p now
-    parts_links p steps start now is none (ls, k, e) = links_parts is (subst (λ x. LinksEach T own group p steps x) (sym (e ∙ ap (λ z. z ++ ls) none)) k)
 
     pub kind_once : {t : List Step} {a b : Option Kind} → KindOf T own group t a → KindOf T own group t b → a ≡ b
     kind_once (kind_alone n e) (kind_alone m f) = e ∙ sym f

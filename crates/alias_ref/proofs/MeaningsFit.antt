@@ -1,28 +1,28 @@
 -- What a place means has strings and names of UTF-8, and no list in it has more parts than a source has bytes.
-use Rattle.std.proofs.Common.{◌≡◌, ℕ, suc, ◌+◌, ◌≤◌, Bool, true, false, cond, List, [], ◌∷◌, length, map, Option, Some, None, refl, sym, ap, ◌∙◌, subst, arith, codes}
+use Rattle.std.proofs.Common.{◌≡◌, ℕ, suc, ◌+◌, ◌≤◌, Bool, true, false, cond, List, [], ◌∷◌, length, map, Option, Some, None, refl, sym, ap, ◌∙◌, subst, codes}
 use Rattle.std.specs.Prelude.{option_and_then}
 use Rattle.std.specs.Str.{IsUtf8}
 use Rattle.name_path.specs.declared.place.Place.{Place}
 use Rattle.json_span.specs.FitsIn.{FitsIn, ItemsFitIn, MembersFitIn}
 use Rattle.json_span.specs.Plain.{plain_string, plains_of, plain_members_of, plains_in, plain_entries_in}
-use Rattle.json_span.specs.PlainView.{Value, Entry}
+use Rattle.json_span.specs.PlainView.{Value, ValueEntry}
 use Rattle.json_span.specs.Says.{plain_of, plain_tree, plain_elements, plain_fields}
-use Rattle.json_span.specs.Tree.{Tree, a_null, a_boolean, a_number, a_string, an_array, an_object, Placed, placed, Elements, no_elements, element, Members, no_members, member, tree_of, elements_in, entries_in}
+use Rattle.json_span.specs.Tree.{Tree, a_null, a_boolean, a_number, a_string, an_array, an_object, Placed, placed, Elements, no_elements, an_element, Members, no_members, a_member, tree_of, elements_in, entries_in}
 use Rattle.json_span.specs.Tree.{Entry as Member}
-use Rattle.json_span.specs.Parts.{IsPart, itself, inside, IsIn, in_array, in_object, IsElement, this_element, later_element, IsMember, this_member, later_member}
+use Rattle.json_span.specs.Parts.{IsPart, itself, inside, IsInside, inside_array, inside_object, IsInElements, in_element, in_later_element, IsInMembers, in_member, in_later_member}
 use Rattle.json_span.proofs.SaidFits.{said_fits}
 use Rattle.json_span.proofs.Saying.{shows_says}
 use Rattle.json_span.proofs.SliceSaid.{moved_same}
 use Rattle.token_tree.specs.Tree.{Definition}
 use Rattle.token_tree.specs.Promise.{IsDefinition}
-use Rattle.token_tree.specs.Shape.{has, value_of}
+use Rattle.token_tree.specs.Shape.{has, token_value}
 use Rattle.group_inherit.specs.Flattening.{Flattened}
-use Rattle.alias_ref.specs.References.{is_curly, alias_named, place_named}
-use Rattle.alias_ref.specs.Written.{Step, Container, array, object, leaf, parts, numbered, named, steps_of, part_at, value_at, Role, of_value, of_ref, of_token, spelled, text_written, object_pointed, written_as, role_at, written_in}
+use Rattle.alias_ref.specs.References.{is_curly, place_named}
+use Rattle.alias_ref.specs.Written.{Step, Container, array, object, leaf, parts, parts_by_index, parts_by_name, steps_of, part_behind, value_at, Role, of_value, of_ref, of_token, reference_written, text_written, object_pointed, written_as, role_at, written_in}
 use Rattle.alias_ref.specs.Meaning.{put_together, Means, means_leaf, means_parts, means_target, EachMeans, none_left, one_more}
 use Rattle.alias_ref.specs.Laws.{Flat, SourcesFit}
 use Rattle.alias_ref.specs.Unchanged.{AreDefinitions}
-use Rattle.alias_ref.specs.inner.Spots.{Stands}
+use Rattle.alias_ref.specs.inner.Spots.{IsValueAt}
 use Rattle.alias_ref.proofs.PartsMean.{plains_again, entries_again}
 use Rattle.alias_ref.proofs.SoundValues.{value_is_part, step_is_part}
 use Rattle.alias_ref.proofs.WrittenParts.{written_is, spelled_no_parts, text_no_parts}
@@ -45,42 +45,42 @@ module _ (n : ℕ) where
     part_fits itself h = h
     part_fits (inside i) h = in_fits i h
 
-    in_fits : {m : Placed} {v : Tree} → IsIn m v → TreeFits v → Fits m
-    in_fits (in_array i) h = element_fits i h.1
-    in_fits (in_object i) h = member_fits i h.1
+    in_fits : {m : Placed} {v : Tree} → IsInside m v → TreeFits v → Fits m
+    in_fits (inside_array i) h = element_fits i h.1
+    in_fits (inside_object i) h = member_fits i h.1
 
-    element_fits : {m : Placed} {ns : Elements} → IsElement m ns → ItemsFitIn n (plain_elements kept ns) → Fits m
-    element_fits (this_element i) h = part_fits i h.0
-    element_fits (later_element i) h = element_fits i h.1
+    element_fits : {m : Placed} {ns : Elements} → IsInElements m ns → ItemsFitIn n (plain_elements kept ns) → Fits m
+    element_fits (in_element i) h = part_fits i h.0
+    element_fits (in_later_element i) h = element_fits i h.1
 
-    member_fits : {m : Placed} {ms : Members} → IsMember m ms → MembersFitIn n (plain_fields kept ms) → Fits m
-    member_fits (this_member i) h = part_fits i h.1
-    member_fits (later_member i) h = member_fits i h.2
+    member_fits : {m : Placed} {ms : Members} → IsInMembers m ms → MembersFitIn n (plain_fields kept ms) → Fits m
+    member_fits (in_member i) h = part_fits i h.1
+    member_fits (in_later_member i) h = member_fits i h.2
 
   -- the value of a definition, and the value at the end of steps
 
   pub definition_fits : (d : Definition) → IsDefinition d → IsUtf8 d.source → length d.source ≤ n → Fits d.value
   definition_fits d k utf h =
       let whole_fits : Fits k.object = said_fits kept d.source (plain_of kept k.object) n utf h (shows_says kept d.source k.object k.shown) in
-      let same : plain_of kept d.value ≡ plain_of kept (value_of k.object) = ap (λ x. plain_of kept x.value) k.same ∙ moved_same kept d.start (value_of k.object) in
+      let same : plain_of kept d.value ≡ plain_of kept (token_value k.object) = ap (λ x. plain_of kept x.value) k.same ∙ moved_same kept d.start (token_value k.object) in
       subst (FitsIn n) (sym same) (part_fits (value_is_part k.object) whole_fits)
 
   value_at_fits : (trail : List Step) (x m : Placed) → value_at x trail ≡ Some m → Fits x → Fits m
   unfolding value_at
   value_at_fits [] x m e h = let same : x ≡ m = cc in subst Fits same h
-  value_at_fits (s ∷ trail) x m e h = go (λ y f k. value_at_fits trail y m f k) (part_at x s) refl e
+  value_at_fits (s ∷ trail) x m e h = go (λ y f k. value_at_fits trail y m f k) (part_behind x s) refl e
     where
-      go : ((y : Placed) → value_at y trail ≡ Some m → Fits y → Fits m) → (o : Option Placed) → part_at x s ≡ o → option_and_then (λ y. value_at y trail) o ≡ Some m → Fits m
+      go : ((y : Placed) → value_at y trail ≡ Some m → Fits y → Fits m) → (o : Option Placed) → part_behind x s ≡ o → option_and_then (λ y. value_at y trail) o ≡ Some m → Fits m
       go rec None p f = absurd (cc)
       go rec (Some y) p f = rec y f (part_fits (step_is_part x s y p) h)
 
   -- what is written as a value
 
-  spelled_no_leaf : (o : Option Place) (v : Value) → spelled o ≡ leaf v → ⊥
+  spelled_no_leaf : (o : Option Place) (v : Value) → reference_written o ≡ leaf v → ⊥
   spelled_no_leaf (Some p) v e = cc
   spelled_no_leaf None v e = cc
 
-  curly_fits : (b : Bool) (o : Option Place) (text : List ℕ) (v : Value) → cond b (spelled o) (leaf (plain_string text)) ≡ leaf v → IsUtf8 text → FitsIn n v
+  curly_fits : (b : Bool) (o : Option Place) (text : List ℕ) (v : Value) → cond b (reference_written o) (leaf (plain_string text)) ≡ leaf v → IsUtf8 text → FitsIn n v
   curly_fits true o text v e h = absurd (spelled_no_leaf o v e)
   curly_fits false o text v e h = let same : plain_string text ≡ v = cc in subst (FitsIn n) same h
 
@@ -89,7 +89,7 @@ module _ (n : ℕ) where
   text_fits of_ref text v e h = curly_fits false None text v e h
   text_fits of_token text v e h = absurd (spelled_no_leaf (place_named text) v e)
 
-  object_no_leaf : (b : Bool) (es : List Member) (v : Value) → cond b (spelled (object_pointed es)) (parts object (steps_of (named es))) ≡ leaf v → ⊥
+  object_no_leaf : (b : Bool) (es : List Member) (v : Value) → cond b (reference_written (object_pointed es)) (parts object (steps_of (parts_by_name es))) ≡ leaf v → ⊥
   object_no_leaf true es v e = spelled_no_leaf (object_pointed es) v e
   object_no_leaf false es v e = cc
 
@@ -116,19 +116,19 @@ module _ (n : ℕ) where
   steps_carried : (c d : Container) (ss us : List Step) → parts c ss ≡ parts d us → StepsFit c ss → StepsFit d us
   steps_carried c d ss us e h = let same : c ≡ d = cc in let also : ss ≡ us = cc in subst (λ x. StepsFit x us) same (subst (StepsFit c) also h)
 
-  numbered_long : (i : ℕ) (ns : Elements) → length (steps_of (numbered i (elements_in ns))) ≡ length (plains_in (plain_elements kept ns))
+  numbered_long : (i : ℕ) (ns : Elements) → length (steps_of (parts_by_index i (elements_in ns))) ≡ length (plains_in (plain_elements kept ns))
   numbered_long i no_elements = refl
-  numbered_long i (element x ns) = ap suc (numbered_long (i + 1) ns)
+  numbered_long i (an_element x ns) = ap suc (numbered_long (i + 1) ns)
 
-  named_long : (ms : Members) → length (steps_of (named (entries_in ms))) ≡ length (plain_entries_in (plain_fields kept ms))
+  named_long : (ms : Members) → length (steps_of (parts_by_name (entries_in ms))) ≡ length (plain_entries_in (plain_fields kept ms))
   named_long no_members = refl
-  named_long (member s start end x ms) = ap suc (named_long ms)
+  named_long (a_member s start end x ms) = ap suc (named_long ms)
 
-  named_utf8 : (ms : Members) → MembersFitIn n (plain_fields kept ms) → AreUtf8 (steps_of (named (entries_in ms)))
+  named_utf8 : (ms : Members) → MembersFitIn n (plain_fields kept ms) → AreUtf8 (steps_of (parts_by_name (entries_in ms)))
   named_utf8 no_members h = tt
-  named_utf8 (member s start end x ms) h = (h.0, named_utf8 ms h.2)
+  named_utf8 (a_member s start end x ms) h = (h.0, named_utf8 ms h.2)
 
-  object_fits : (b : Bool) (ms : Members) (c : Container) (steps : List Step) → cond b (spelled (object_pointed (entries_in ms))) (parts object (steps_of (named (entries_in ms)))) ≡ parts c steps → TreeFits (an_object ms) → StepsFit c steps
+  object_fits : (b : Bool) (ms : Members) (c : Container) (steps : List Step) → cond b (reference_written (object_pointed (entries_in ms))) (parts object (steps_of (parts_by_name (entries_in ms)))) ≡ parts c steps → TreeFits (an_object ms) → StepsFit c steps
   object_fits true ms c steps e h = absurd (spelled_no_parts (object_pointed (entries_in ms)) c steps e)
   object_fits false ms c steps e h = steps_carried object c _ steps e (subst (λ k. k ≤ n) (sym (named_long ms)) h.0, named_utf8 ms h.1)
 
@@ -142,33 +142,33 @@ module _ (n : ℕ) where
 
   -- values put together
 
-  abbrev EachFits : List Entry → Type 0
+  abbrev EachFits : List ValueEntry → Type 0
   EachFits [] = Unit {0}
   EachFits (e ∷ es) = FitsIn n e.value × EachFits es
 
-  values_fit : (es : List Entry) → EachFits es → ItemsFitIn n (plains_of (map (λ e. e.value) es))
+  values_fit : (es : List ValueEntry) → EachFits es → ItemsFitIn n (plains_of (map (λ e. e.value) es))
   values_fit [] h = tt
   values_fit (e ∷ es) h = (h.0, values_fit es h.1)
 
-  entries_fit : (es : List Entry) → AreUtf8 (map (λ e. e.name) es) → EachFits es → MembersFitIn n (plain_members_of es)
+  entries_fit : (es : List ValueEntry) → AreUtf8 (map (λ e. e.name) es) → EachFits es → MembersFitIn n (plain_members_of es)
   entries_fit [] b h = tt
   entries_fit (e ∷ es) b h = (b.0, h.0, entries_fit es b.1 h.1)
 
-  as_many : {A : Type 0} (f : Entry → A) (es : List Entry) → length (map f es) ≡ length es
+  as_many : {A : Type 0} (f : ValueEntry → A) (es : List ValueEntry) → length (map f es) ≡ length es
   as_many f [] = refl
   as_many f (e ∷ es) = ap suc (as_many f es)
 
-  put_fits : (c : Container) (es : List Entry) → StepsFit c (map (λ e. e.name) es) → EachFits es → FitsIn n (put_together c es)
+  put_fits : (c : Container) (es : List ValueEntry) → StepsFit c (map (λ e. e.name) es) → EachFits es → FitsIn n (put_together c es)
   put_fits array es s h =
-      let long : length (plains_in (plains_of (map (λ (e : Entry). e.value) es))) ≡ length (map (λ (e : Entry). e.name) es) =
+      let long : length (plains_in (plains_of (map (λ (e : ValueEntry). e.value) es))) ≡ length (map (λ (e : ValueEntry). e.name) es) =
       ap length (plains_again (map (λ e. e.value) es)) ∙ (as_many (λ e. e.value) es ∙ sym (as_many (λ e. e.name) es)) in
       (subst (λ k. k ≤ n) (sym long) s.0, values_fit es h)
   put_fits object es s h =
-      let long : length (plain_entries_in (plain_members_of es)) ≡ length (map (λ (e : Entry). e.name) es) = ap length (entries_again es) ∙ sym (as_many (λ e. e.name) es) in
+      let long : length (plain_entries_in (plain_members_of es)) ≡ length (map (λ (e : ValueEntry). e.name) es) = ap length (entries_again es) ∙ sym (as_many (λ e. e.name) es) in
       (subst (λ k. k ≤ n) (sym long) s.0, entries_fit es s.1 h)
 
   module _ (flat : Flat) (all : AreDefinitions flat) (few : SourcesFit n flat) where
-    place_fits : (p : Place) (f : Flattened) (m : Placed) → Stands flat p f m → TreeFits (tree_of m)
+    place_fits : (p : Place) (f : Flattened) (m : Placed) → IsValueAt flat p f m → TreeFits (tree_of m)
     place_fits p f (placed v start end) s = value_at_fits p.trail f.def.value (placed v start end) s.value (let k = few p.token f s.token in definition_fits f.def (all p.token f s.token) k.0 k.1)
 
     mutual
@@ -182,10 +182,10 @@ module _ (n : ℕ) where
           put_fits c es (subst (StepsFit c) (sym (each_named ms)) fit) (each_fit ms)
       means_fit (means_target l m) = means_fit m
 
-      each_fit : {p : Place} {steps : List Step} {es : List Entry} → EachMeans (written_in flat) p steps es → EachFits es
+      each_fit : {p : Place} {steps : List Step} {es : List ValueEntry} → EachMeans (written_in flat) p steps es → EachFits es
       each_fit none_left = tt
       each_fit (one_more m ms) = (means_fit m, each_fit ms)
 
-      each_named : {p : Place} {steps : List Step} {es : List Entry} → EachMeans (written_in flat) p steps es → map (λ e. e.name) es ≡ steps
+      each_named : {p : Place} {steps : List Step} {es : List ValueEntry} → EachMeans (written_in flat) p steps es → map (λ e. e.name) es ≡ steps
       each_named none_left = refl
       each_named (one_more {s = s} m ms) = ap (λ z. s ∷ z) (each_named ms)

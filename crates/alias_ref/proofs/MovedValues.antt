@@ -4,27 +4,27 @@ use Rattle.std.specs.Prelude.{option_and_then}
 use Rattle.std.specs.Fmt.{decimal}
 use Rattle.std.specs.Str.{bytes_eq}
 use Rattle.name_path.specs.declared.place.Place.{Place}
-use Rattle.json_span.specs.Tree.{Tree, a_null, a_boolean, a_number, a_string, an_array, an_object, Placed, placed, Elements, no_elements, element, Members, no_members, member, Entry, tree_of, elements_in, entries_in}
+use Rattle.json_span.specs.Tree.{Tree, a_null, a_boolean, a_number, a_string, an_array, an_object, Placed, placed, Elements, no_elements, an_element, Members, no_members, a_member, Entry, tree_of, elements_in, entries_in}
 use Rattle.json_span.specs.Parts.{moved, moved_tree, moved_elements, moved_members}
 use Rattle.json_span.proofs.Unique.{shows_one}
 use Rattle.json_span.specs.Reading.{Shows}
 use Rattle.token_tree.specs.Tree.{Definition}
-use Rattle.token_tree.specs.Shape.{entries_at, has, kind_of, value_of}
+use Rattle.token_tree.specs.Shape.{entries_at, has, said_kind, token_value}
 use Rattle.token_tree.specs.Promise.{IsDefinition}
 use Rattle.token_tree.proofs.Moved.{moved_entry, moved_tree_of, entries_at_moved, has_moved}
-use Rattle.alias_ref.specs.Written.{Step, array, object, Written, parts, Parts, numbered, named, parts_of, steps_of, part_under, part_at, value_at, Role, of_value, spelled, pointed, object_pointed, object_written, written_as, role_behind, role_at, written_at}
+use Rattle.alias_ref.specs.Written.{Step, array, object, Written, parts, Parts, parts_by_index, parts_by_name, parts_of, steps_of, part_under, part_behind, value_at, Role, of_value, reference_written, pointed, object_pointed, object_written, written_as, role_behind, role_at, written_at}
 use Rattle.alias_ref.specs.Refs.{named_by, refs_in, refs_at, refs_in_items, refs_in_members, refs_of}
 
 abbrev pub moved_part : ℕ → Step × Placed → Step × Placed
 moved_part d p = (p.0, moved d p.1)
 
-numbered_moved : (d i : ℕ) (ns : Elements) → numbered i (elements_in (moved_elements d ns)) ≡ map (moved_part d) (numbered i (elements_in ns))
+numbered_moved : (d i : ℕ) (ns : Elements) → parts_by_index i (elements_in (moved_elements d ns)) ≡ map (moved_part d) (parts_by_index i (elements_in ns))
 numbered_moved d i no_elements = refl
-numbered_moved d i (element n ns) = ap (λ (ps : Parts). (decimal i, moved d n) ∷ ps) (numbered_moved d (i + 1) ns)
+numbered_moved d i (an_element n ns) = ap (λ (ps : Parts). (decimal i, moved d n) ∷ ps) (numbered_moved d (i + 1) ns)
 
-named_moved : (d : ℕ) (ms : Members) → named (entries_in (moved_members d ms)) ≡ map (moved_part d) (named (entries_in ms))
+named_moved : (d : ℕ) (ms : Members) → parts_by_name (entries_in (moved_members d ms)) ≡ map (moved_part d) (parts_by_name (entries_in ms))
 named_moved d no_members = refl
-named_moved d (member s start end n ms) = ap (λ (ps : Parts). (s, moved d n) ∷ ps) (named_moved d ms)
+named_moved d (a_member s start end n ms) = ap (λ (ps : Parts). (s, moved d n) ∷ ps) (named_moved d ms)
 
 parts_moved : (d : ℕ) (v : Tree) → parts_of (moved_tree d v) ≡ map (moved_part d) (parts_of v)
 parts_moved d a_null = refl
@@ -42,13 +42,13 @@ under_moved : (d : ℕ) (s : Step) (ps : Parts) → part_under s (map (moved_par
 under_moved d s [] = refl
 under_moved d s (p ∷ ps) = ap (cond (bytes_eq p.0 s) (Some (moved d p.1))) (under_moved d s ps) ∙ chosen (moved d) (bytes_eq p.0 s) (Some p.1) (part_under s ps)
 
-part_moved : (d : ℕ) (n : Placed) (s : Step) → part_at (moved d n) s ≡ option_map (moved d) (part_at n s)
+part_moved : (d : ℕ) (n : Placed) (s : Step) → part_behind (moved d n) s ≡ option_map (moved d) (part_behind n s)
 part_moved d n s = ap (λ v. part_under s (parts_of v)) (moved_tree_of d n) ∙ ap (part_under s) (parts_moved d (tree_of n)) ∙ under_moved d s (parts_of (tree_of n))
 
 pub value_moved : (d : ℕ) (n : Placed) (trail : List Step) → value_at (moved d n) trail ≡ option_map (moved d) (value_at n trail)
 unfolding value_at
 value_moved d n [] = refl
-value_moved d n (s ∷ trail) = ap (option_and_then (λ m. value_at m trail)) (part_moved d n s) ∙ through (λ m. value_moved d m trail) (part_at n s)
+value_moved d n (s ∷ trail) = ap (option_and_then (λ m. value_at m trail)) (part_moved d n s) ∙ through (λ m. value_moved d m trail) (part_behind n s)
   where
     through : ((m : Placed) → value_at (moved d m) trail ≡ option_map (moved d) (value_at m trail)) → (o : Option Placed) → option_and_then (λ m. value_at m trail) (option_map (moved d) o) ≡ option_map (moved d) (option_and_then (λ m. value_at m trail) o)
     through rec None = refl
@@ -71,14 +71,14 @@ object_pointed_moved d [] = refl
 object_pointed_moved d (e ∷ []) = ap pointed (moved_tree_of d e.value) ∙ pointed_moved d (tree_of e.value)
 object_pointed_moved d (e ∷ f ∷ es) = refl
 
-names_moved : (d : ℕ) (es : List Entry) → steps_of (named (map (moved_entry d) es)) ≡ steps_of (named es)
+names_moved : (d : ℕ) (es : List Entry) → steps_of (parts_by_name (map (moved_entry d) es)) ≡ steps_of (parts_by_name es)
 names_moved d [] = refl
 names_moved d (e ∷ es) = ap (λ ss. e.name ∷ ss) (names_moved d es)
 
 object_moved : (d : ℕ) (ms : Members) → object_written (entries_in (moved_members d ms)) ≡ object_written (entries_in ms)
 object_moved d ms =
     let es = entries_in ms in
-    let make : Bool → Option Place → List Step → Written = λ b o ss. cond b (spelled o) (parts object ss) in
+    let make : Bool → Option Place → List Step → Written = λ b o ss. cond b (reference_written o) (parts object ss) in
     ap object_written (entries_at_moved d (placed (an_object ms) 0 0))
     ∙ (λ i. make (has_moved d (codes "$ref") es i) (object_pointed_moved d es i) (names_moved d es i))
 
@@ -87,7 +87,7 @@ written_moved d role a_null = refl
 written_moved d role (a_boolean b) = refl
 written_moved d role (a_number k) = refl
 written_moved d role (a_string s) = refl
-written_moved d role (an_array ns) = ap (parts array) (ap steps_of (numbered_moved d 0 ns) ∙ steps_moved d (numbered 0 (elements_in ns)))
+written_moved d role (an_array ns) = ap (parts array) (ap steps_of (numbered_moved d 0 ns) ∙ steps_moved d (parts_by_index 0 (elements_in ns)))
 written_moved d role (an_object ms) = object_moved d ms
 
 mutual
@@ -104,25 +104,25 @@ mutual
 
   refs_items_moved : (d : ℕ) (ns : Elements) → refs_in_items (moved_elements d ns) ≡ refs_in_items ns
   refs_items_moved d no_elements = refl
-  refs_items_moved d (element n ns) = ap₂ (λ xs ys. xs ++ ys) (refs_moved d of_value n) (refs_items_moved d ns)
+  refs_items_moved d (an_element n ns) = ap₂ (λ xs ys. xs ++ ys) (refs_moved d of_value n) (refs_items_moved d ns)
 
   refs_members_moved : (d : ℕ) (ms : Members) → refs_in_members (moved_members d ms) ≡ refs_in_members ms
   refs_members_moved d no_members = refl
-  refs_members_moved d (member s start end n ms) = ap₂ (λ xs ys. xs ++ ys) (refs_moved d (role_behind s) n) (refs_members_moved d ms)
+  refs_members_moved d (a_member s start end n ms) = ap₂ (λ xs ys. xs ++ ys) (refs_moved d (role_behind s) n) (refs_members_moved d ms)
 
 -- what is written in the token of an object, and what it names
 abbrev read_written : Placed → List Step → Option Written
-read_written n trail = option_map (λ m. written_as (role_at (has (codes "$ref") (entries_at n)) trail) (tree_of m)) (value_at (value_of n) trail)
+read_written n trail = option_map (λ m. written_as (role_at (has (codes "$ref") (entries_at n)) trail) (tree_of m)) (value_at (token_value n) trail)
 
 abbrev read_refs : Placed → List (List Step)
-read_refs n = refs_in (role_at (has (codes "$ref") (entries_at n)) []) (value_of n)
+read_refs n = refs_in (role_at (has (codes "$ref") (entries_at n)) []) (token_value n)
 
 module _ (d : Definition) (k : IsDefinition d) where
   written_read : (trail : List Step) → written_at d trail ≡ read_written k.object trail
   unfolding written_at
   written_read trail =
       let role = role_at (has (codes "$ref") (entries_at k.object)) trail in
-      let value = value_of k.object in
+      let value = token_value k.object in
       ap (λ x. written_at x trail) k.same
       ∙ ap (option_map (λ n. written_as role (tree_of n))) (value_moved d.start value trail)
       ∙ through role (value_at value trail)
@@ -133,9 +133,9 @@ module _ (d : Definition) (k : IsDefinition d) where
 
   refs_read : refs_of d ≡ read_refs k.object
   unfolding refs_of
-  refs_read = ap refs_of k.same ∙ refs_moved d.start (role_at (has (codes "$ref") (entries_at k.object)) []) (value_of k.object)
+  refs_read = ap refs_of k.same ∙ refs_moved d.start (role_at (has (codes "$ref") (entries_at k.object)) []) (token_value k.object)
 
-  kind_read : d.kind ≡ kind_of (entries_at k.object)
+  kind_read : d.kind ≡ said_kind (entries_at k.object)
   kind_read = ap (λ x. x.kind) k.same
 
 module _ (d e : Definition) (k : IsDefinition d) (l : IsDefinition e) (source : d.source ≡ e.source) where
@@ -149,4 +149,4 @@ module _ (d e : Definition) (k : IsDefinition d) (l : IsDefinition e) (source : 
   refs_of_source = refs_read d k ∙ ap read_refs one_object ∙ sym (refs_read e l)
 
   pub kind_of_source : d.kind ≡ e.kind
-  kind_of_source = kind_read d k ∙ ap (λ o. kind_of (entries_at o)) one_object ∙ sym (kind_read e l)
+  kind_of_source = kind_read d k ∙ ap (λ o. said_kind (entries_at o)) one_object ∙ sym (kind_read e l)

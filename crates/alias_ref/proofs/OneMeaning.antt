@@ -1,7 +1,7 @@
 -- A place has at most one lead, one end and one meaning.
 use Rattle.std.proofs.Common.{◌≡◌, List, ◌∷◌, true, false, Some, refl, sym, ap, ap₂, ◌∙◌, subst}
 use Rattle.name_path.specs.declared.place.Place.{Place}
-use Rattle.json_span.specs.PlainView.{Value, Entry}
+use Rattle.json_span.specs.PlainView.{Value, ValueEntry}
 use Rattle.alias_ref.specs.Written.{Step, Container, leaf, parts, refers, Tokens, whole, part, is_reference}
 use Rattle.alias_ref.specs.Meaning.{Leads, leads, Goes, arrived, onward, Settles, stays, follows, put_together, Means, means_leaf, means_parts, means_target, EachMeans, none_left, one_more}
 
@@ -51,8 +51,8 @@ module _ (T : Tokens) where
     means_once (means_target l m) (means_parts f ns) = absurd (parts_or_lead f l)
     means_once (means_target l m) (means_target {v = w} k n) = means_once m (subst (λ y. Means T y w) (sym (lead_once l k)) n)
 
-    pub each_means_once : {p : Place} {steps : List Step} {es gs : List Entry} → EachMeans T p steps es → EachMeans T p steps gs → es ≡ gs
+    pub each_means_once : {p : Place} {steps : List Step} {es gs : List ValueEntry} → EachMeans T p steps es → EachMeans T p steps gs → es ≡ gs
     each_means_once none_left none_left = refl
     each_means_once (one_more {s = s} m ms) (one_more n ns) =
-        let make : Value → Entry = λ v. record { name = s; value = v } in
+        let make : Value → ValueEntry = λ v. record { name = s; value = v } in
         ap₂ (λ v es. make v ∷ es) (means_once m n) (each_means_once ms ns)

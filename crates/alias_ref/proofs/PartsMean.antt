@@ -3,15 +3,15 @@ use Rattle.std.proofs.Common.{◌≡◌, ℕ, ◌+◌, List, [], ◌∷◌, Bool
 use Rattle.std.specs.Prelude.{option_and_then, ◌⊎◌}
 use Rattle.std.specs.Fmt.{decimal}
 use Rattle.std.specs.Str.{bytes_eq}
-use Rattle.ring.specs.Routes.{In}
+use Rattle.ring.specs.Lists.{In}
 use Rattle.name_path.specs.declared.place.Place.{Place}
 use Rattle.json_span.specs.Tree.{Tree, a_null, a_boolean, a_number, a_string, an_array, an_object, Placed, tree_of, elements_in, entries_in}
 use Rattle.json_span.specs.Tree.{Entry as Member}
 use Rattle.json_span.specs.Plain.{plains_of, plain_members_of, plains_in, plain_entries_in}
-use Rattle.json_span.specs.PlainView.{Value, Entry}
+use Rattle.json_span.specs.PlainView.{Value, ValueEntry}
 use Rattle.token_tree.proofs.Names.{same_text, text_same}
 use Rattle.token_tree.specs.Shape.{has}
-use Rattle.alias_ref.specs.Written.{Step, Container, array, object, parts, Tokens, part, numbered, named, steps_of, Role, spelled, object_pointed, written_as, role_at, written_in}
+use Rattle.alias_ref.specs.Written.{Step, Container, array, object, parts, Tokens, part, parts_by_index, parts_by_name, steps_of, Role, reference_written, object_pointed, written_as, role_at, written_in}
 use Rattle.alias_ref.specs.Meaning.{put_together, Means, means_leaf, means_parts, means_target, EachMeans, none_left, one_more}
 use Rattle.alias_ref.specs.PlainParts.{plain_numbered, plain_parts, plain_under, plain_at, Below, below_here, below_part}
 use Rattle.alias_ref.specs.Laws.{Flat}
@@ -22,15 +22,15 @@ pub plains_again : (vs : List Value) → plains_in (plains_of vs) ≡ vs
 plains_again [] = refl
 plains_again (v ∷ vs) = ap (λ (z : List Value). v ∷ z) (plains_again vs)
 
-pub entries_again : (es : List Entry) → plain_entries_in (plain_members_of es) ≡ es
+pub entries_again : (es : List ValueEntry) → plain_entries_in (plain_members_of es) ≡ es
 entries_again [] = refl
-entries_again (e ∷ es) = ap (λ (z : List Entry). e ∷ z) (entries_again es)
+entries_again (e ∷ es) = ap (λ (z : List ValueEntry). e ∷ z) (entries_again es)
 
 -- the steps of an array are the indices of its items
 abbrev Indices : List Step → Type 0
-Indices steps = (ns : List Placed) × (steps ≡ steps_of (numbered 0 ns))
+Indices steps = (ns : List Placed) × (steps ≡ steps_of (parts_by_index 0 ns))
 
-object_array : (b : Bool) (es : List Member) (steps : List Step) → cond b (spelled (object_pointed es)) (parts object (steps_of (named es))) ≡ parts array steps → ⊥
+object_array : (b : Bool) (es : List Member) (steps : List Step) → cond b (reference_written (object_pointed es)) (parts object (steps_of (parts_by_name es))) ≡ parts array steps → ⊥
 object_array true es steps e = spelled_no_parts (object_pointed es) array steps e
 object_array false es steps e = cc
 
@@ -43,13 +43,13 @@ array_steps role (an_array ns) steps e = (elements_in ns, cc)
 array_steps role (an_object ms) steps e = absurd (object_array (has (codes "$ref") (entries_in ms)) (entries_in ms) steps e)
 
 module _ (T : Tokens) where
-  each_numbered : (p : Place) (i : ℕ) (ns : List Placed) (es : List Entry) → EachMeans T p (steps_of (numbered i ns)) es → plain_numbered i (map (λ e. e.value) es) ≡ es
+  each_numbered : (p : Place) (i : ℕ) (ns : List Placed) (es : List ValueEntry) → EachMeans T p (steps_of (parts_by_index i ns)) es → plain_numbered i (map (λ e. e.value) es) ≡ es
   each_numbered p i [] es none_left = refl
   each_numbered p i (n ∷ ns) es (one_more {v = v} {es = gs} m ms) =
-      let here : Entry = record { name = decimal i; value = v } in
-      ap (λ (z : List Entry). here ∷ z) (each_numbered p (i + 1) ns gs ms)
+      let here : ValueEntry = record { name = decimal i; value = v } in
+      ap (λ (z : List ValueEntry). here ∷ z) (each_numbered p (i + 1) ns gs ms)
 
-  under_means : {p : Place} {steps : List Step} {es : List Entry} → EachMeans T p steps es → (s : Step) → In s steps → (w : Value) × (plain_under s es ≡ Some w) × Means T (part p s) w
+  under_means : {p : Place} {steps : List Step} {es : List ValueEntry} → EachMeans T p steps es → (s : Step) → In s steps → (w : Value) × (plain_under s es ≡ Some w) × Means T (part p s) w
   under_means none_left s h = elim h [ ]
   under_means {p} (one_more {s = r} {steps = steps} {v = v} {es = es} m ms) s h = go (bytes_eq r s) refl h (under_means ms s)
     where
@@ -59,7 +59,7 @@ module _ (T : Tokens) where
       go false e (inr i) rec = rec i
 
 module _ (flat : Flat) where
-  put_parts : (p : Place) (c : Container) (steps : List Step) (es : List Entry) → written_in flat p ≡ Some (parts c steps) → EachMeans (written_in flat) p steps es → plain_parts (put_together c es) ≡ es
+  put_parts : (p : Place) (c : Container) (steps : List Step) (es : List ValueEntry) → written_in flat p ≡ Some (parts c steps) → EachMeans (written_in flat) p steps es → plain_parts (put_together c es) ≡ es
   put_parts p array steps es e ms =
       let at = written_is flat p (parts array steps) e in
       let i = array_steps (role_at at.0.def.by_ref p.trail) (tree_of at.1) steps at.3 in

@@ -4,7 +4,7 @@ use Rattle.std.specs.List.{slice_split}
 use Rattle.std.specs.Str.{bytes_eq}
 use Rattle.std.proofs.lemmas.List.Elements.{All-nil, All-cons, All-head, All-tail}
 use Rattle.name_path.specs.Names.{IsName, AreNames, IsTokenPath, root_name}
-use Rattle.name_path.specs.inner.Pieces.{ArePlain, IsCut}
+use Rattle.name_path.specs.inner.Pieces.{ArePlain, IsValueCut}
 use Rattle.name_path.specs.Reference.{pointer_text, path_text, curly_text, value_step, SpellsPath, SpellsPlace}
 use Rattle.name_path.specs.declared.place.Place.{Place}
 use Rattle.name_path.proofs.Joins.{pieces_of}
@@ -81,11 +81,11 @@ alias_spelled text path e = go (is_token_path (curly_names text) && bytes_eq tex
     go false t f = absurd (cc)
 
 -- the steps before `$value` and behind it are a cut
-cut_value : (steps : List (List ℕ)) → IsCut steps (before_value steps) (behind_value steps)
+cut_value : (steps : List (List ℕ)) → IsValueCut steps (before_value steps) (behind_value steps)
 cut_value [] = (All-nil (λ t. t ≢ value_step), inr (refl, refl))
 cut_value (s ∷ steps) = go (bytes_eq s value_step) refl (cut_value steps)
   where
-    go : (b : Bool) → bytes_eq s value_step ≡ b → IsCut steps (before_value steps) (behind_value steps) → IsCut (s ∷ steps) (cond b [] (s ∷ before_value steps)) (cond b steps (behind_value steps))
+    go : (b : Bool) → bytes_eq s value_step ≡ b → IsValueCut steps (before_value steps) (behind_value steps) → IsValueCut (s ∷ steps) (cond b [] (s ∷ before_value steps)) (cond b steps (behind_value steps))
     go true e c = (All-nil (λ t. t ≢ value_step), inl (ap (λ (z : List ℕ). z ∷ steps) (same_text s value_step e)))
     go false e c = (
       All-cons (λ t. t ≢ value_step) s (before_value steps) (λ h. let k : true ≡ false = sym (text_same s value_step h) ∙ e in cc) c.0,

@@ -5,14 +5,14 @@ use Rattle.std.specs.FinMap as flat_map
 use Rattle.std.specs.Fmt.{decimal}
 use Rattle.std.specs.Str.{bytes_eq}
 use Rattle.tk_io.specs.Order.{names_cmp}
-use Rattle.ring.specs.Routes.{In}
+use Rattle.ring.specs.Lists.{In}
 use Rattle.name_path.specs.declared.place.Place.{Place}
-use Rattle.json_span.specs.Tree.{Tree, a_null, a_boolean, a_number, a_string, an_array, an_object, Placed, placed, Elements, no_elements, element, Members, no_members, member, tree_of, elements_in, entries_in}
-use Rattle.json_span.specs.Parts.{IsPart, itself, inside, in_array, in_object, IsElement, this_element, later_element, IsMember, this_member, later_member}
+use Rattle.json_span.specs.Tree.{Tree, a_null, a_boolean, a_number, a_string, an_array, an_object, Placed, placed, Elements, no_elements, an_element, Members, no_members, a_member, tree_of, elements_in, entries_in}
+use Rattle.json_span.specs.Parts.{IsPart, itself, inside, inside_array, inside_object, IsInElements, in_element, in_later_element, IsInMembers, in_member, in_later_member}
 use Rattle.token_tree.specs.Tree.{Definition}
 use Rattle.token_tree.proofs.Names.{same_text}
 use Rattle.group_inherit.specs.Flattening.{Flattened}
-use Rattle.alias_ref.specs.Written.{Step, Written, leaf, parts, refers, misspelled, numbered, named, parts_of, part_under, part_at, value_at, Role, of_value, text_written, object_written, written_as, role_behind, role_at_end, role_at, written_at, written_in}
+use Rattle.alias_ref.specs.Written.{Step, Written, leaf, parts, refers, misspelled, parts_by_index, parts_by_name, parts_of, part_under, part_behind, value_at, Role, of_value, text_written, object_written, written_as, role_behind, role_at_end, role_at, written_at, written_in}
 use Rattle.alias_ref.specs.Refs.{named_by, refs_in, refs_at, refs_in_items, refs_in_members, refs_of}
 use Rattle.alias_ref.proofs.IndexSteps.{index_role}
 
@@ -61,22 +61,22 @@ here role (a_string text) u ss e = named_here (text_written role text) u ss e
 here role (an_array ns) u ss e = absurd (cc)
 here role (an_object ms) u ss e = In-left u (named_by (object_written (entries_in ms))) (refs_in_members ms) (named_here (object_written (entries_in ms)) u ss e)
 
-in_items : (u : List Step) (s : Step) (c : Placed) (i : ℕ) (ns : Elements) → part_under s (numbered i (elements_in ns)) ≡ Some c → In u (refs_in (role_behind s) c) → In u (refs_in_items ns)
+in_items : (u : List Step) (s : Step) (c : Placed) (i : ℕ) (ns : Elements) → part_under s (parts_by_index i (elements_in ns)) ≡ Some c → In u (refs_in (role_behind s) c) → In u (refs_in_items ns)
 in_items u s c i no_elements e h = absurd (cc)
-in_items u s c i (element n ns) e h = go (bytes_eq (decimal i) s) refl e (λ f. in_items u s c (i + 1) ns f h)
+in_items u s c i (an_element n ns) e h = go (bytes_eq (decimal i) s) refl e (λ f. in_items u s c (i + 1) ns f h)
   where
-    go : (b : Bool) → bytes_eq (decimal i) s ≡ b → cond b (Some n) (part_under s (numbered (i + 1) (elements_in ns))) ≡ Some c → (part_under s (numbered (i + 1) (elements_in ns)) ≡ Some c → In u (refs_in_items ns)) → In u (refs_in of_value n ++ refs_in_items ns)
+    go : (b : Bool) → bytes_eq (decimal i) s ≡ b → cond b (Some n) (part_under s (parts_by_index (i + 1) (elements_in ns))) ≡ Some c → (part_under s (parts_by_index (i + 1) (elements_in ns)) ≡ Some c → In u (refs_in_items ns)) → In u (refs_in of_value n ++ refs_in_items ns)
     go true k f rec =
         let same : c ≡ n = cc in
         let role : role_behind s ≡ of_value = ap role_behind (sym (same_text (decimal i) s k)) ∙ index_role i in
         In-left u (refs_in of_value n) (refs_in_items ns) (subst (λ x. In u (refs_in of_value x)) same (subst (λ r. In u (refs_in r c)) role h))
     go false k f rec = In-right u (refs_in of_value n) (refs_in_items ns) (rec f)
 
-in_members : (u : List Step) (s : Step) (c : Placed) (ms : Members) → part_under s (named (entries_in ms)) ≡ Some c → In u (refs_in (role_behind s) c) → In u (refs_in_members ms)
+in_members : (u : List Step) (s : Step) (c : Placed) (ms : Members) → part_under s (parts_by_name (entries_in ms)) ≡ Some c → In u (refs_in (role_behind s) c) → In u (refs_in_members ms)
 in_members u s c no_members e h = absurd (cc)
-in_members u s c (member name start end n ms) e h = go (bytes_eq name s) refl e (λ f. in_members u s c ms f h)
+in_members u s c (a_member name start end n ms) e h = go (bytes_eq name s) refl e (λ f. in_members u s c ms f h)
   where
-    go : (b : Bool) → bytes_eq name s ≡ b → cond b (Some n) (part_under s (named (entries_in ms))) ≡ Some c → (part_under s (named (entries_in ms)) ≡ Some c → In u (refs_in_members ms)) → In u (refs_in (role_behind name) n ++ refs_in_members ms)
+    go : (b : Bool) → bytes_eq name s ≡ b → cond b (Some n) (part_under s (parts_by_name (entries_in ms))) ≡ Some c → (part_under s (parts_by_name (entries_in ms)) ≡ Some c → In u (refs_in_members ms)) → In u (refs_in (role_behind name) n ++ refs_in_members ms)
     go true k f rec =
         let same : c ≡ n = cc in
         let role : role_behind s ≡ role_behind name = ap role_behind (sym (same_text name s k)) in
@@ -99,9 +99,9 @@ unfolding value_at role_from
 in_value role n [] m u ss h e =
     let same : m ≡ n = cc in
     subst (In u) (sym (refs_of_tree role n)) (here role (tree_of n) u ss (subst (λ x. written_as role (tree_of x) ≡ refers u ss) same e))
-in_value role n (s ∷ trail) m u ss h e = subst (In u) (sym (refs_of_tree role n)) (go (part_at n s) refl h (λ c k. in_value (role_behind s) c trail m u ss k (ap (λ r. written_as r (tree_of m)) (role_on s trail) ∙ e)))
+in_value role n (s ∷ trail) m u ss h e = subst (In u) (sym (refs_of_tree role n)) (go (part_behind n s) refl h (λ c k. in_value (role_behind s) c trail m u ss k (ap (λ r. written_as r (tree_of m)) (role_on s trail) ∙ e)))
   where
-    go : (o : Option Placed) → part_at n s ≡ o → option_and_then (λ c. value_at c trail) o ≡ Some m → ((c : Placed) → value_at c trail ≡ Some m → In u (refs_in (role_behind s) c)) → In u (refs_at role (tree_of n))
+    go : (o : Option Placed) → part_behind n s ≡ o → option_and_then (λ c. value_at c trail) o ≡ Some m → ((c : Placed) → value_at c trail ≡ Some m → In u (refs_in (role_behind s) c)) → In u (refs_at role (tree_of n))
     go None k f rec = absurd (cc)
     go (Some c) k f rec = in_part role (tree_of n) u s c k (rec c f)
 
@@ -148,24 +148,24 @@ mutual
   listed_at role (a_boolean b) start end u h = elim h [ ]
   listed_at role (a_number k) start end u h = elim h [ ]
   listed_at role (a_string text) start end u h = let k = named_is (text_written role text) u h in (role, placed (a_string text) start end, k.0, itself, k.1)
-  listed_at role (an_array ns) start end u h = among_on (λ m. IsElement m ns) (λ m. IsPart m (placed (an_array ns) start end)) u (λ m i. inside (in_array i)) (listed_in_items ns u h)
+  listed_at role (an_array ns) start end u h = among_on (λ m. IsInElements m ns) (λ m. IsPart m (placed (an_array ns) start end)) u (λ m i. inside (inside_array i)) (listed_in_items ns u h)
   listed_at role (an_object ms) start end u h = elim (In-either u (named_by (object_written (entries_in ms))) (refs_in_members ms) h) [
     | inl k ↦ let w = named_is (object_written (entries_in ms)) u k in (role, placed (an_object ms) start end, w.0, itself, w.1)
-    | inr k ↦ among_on (λ m. IsMember m ms) (λ m. IsPart m (placed (an_object ms) start end)) u (λ m i. inside (in_object i)) (listed_in_members ms u k)
+    | inr k ↦ among_on (λ m. IsInMembers m ms) (λ m. IsPart m (placed (an_object ms) start end)) u (λ m i. inside (inside_object i)) (listed_in_members ms u k)
   ]
 
-  listed_in_items : (ns : Elements) (u : List Step) → In u (refs_in_items ns) → Among (λ m. IsElement m ns) u
+  listed_in_items : (ns : Elements) (u : List Step) → In u (refs_in_items ns) → Among (λ m. IsInElements m ns) u
   listed_in_items no_elements u h = elim h [ ]
-  listed_in_items (element n ns) u h = elim (In-either u (refs_in of_value n) (refs_in_items ns) h) [
-    | inl k ↦ among_on (λ m. IsPart m n) (λ m. IsElement m (element n ns)) u (λ m i. this_element i) (listed_in of_value n u k)
-    | inr k ↦ among_on (λ m. IsElement m ns) (λ m. IsElement m (element n ns)) u (λ m i. later_element i) (listed_in_items ns u k)
+  listed_in_items (an_element n ns) u h = elim (In-either u (refs_in of_value n) (refs_in_items ns) h) [
+    | inl k ↦ among_on (λ m. IsPart m n) (λ m. IsInElements m (an_element n ns)) u (λ m i. in_element i) (listed_in of_value n u k)
+    | inr k ↦ among_on (λ m. IsInElements m ns) (λ m. IsInElements m (an_element n ns)) u (λ m i. in_later_element i) (listed_in_items ns u k)
   ]
 
-  listed_in_members : (ms : Members) (u : List Step) → In u (refs_in_members ms) → Among (λ m. IsMember m ms) u
+  listed_in_members : (ms : Members) (u : List Step) → In u (refs_in_members ms) → Among (λ m. IsInMembers m ms) u
   listed_in_members no_members u h = elim h [ ]
-  listed_in_members (member s start end n ms) u h = elim (In-either u (refs_in (role_behind s) n) (refs_in_members ms) h) [
-    | inl k ↦ among_on (λ m. IsPart m n) (λ m. IsMember m (member s start end n ms)) u (λ m i. this_member i) (listed_in (role_behind s) n u k)
-    | inr k ↦ among_on (λ m. IsMember m ms) (λ m. IsMember m (member s start end n ms)) u (λ m i. later_member i) (listed_in_members ms u k)
+  listed_in_members (a_member s start end n ms) u h = elim (In-either u (refs_in (role_behind s) n) (refs_in_members ms) h) [
+    | inl k ↦ among_on (λ m. IsPart m n) (λ m. IsInMembers m (a_member s start end n ms)) u (λ m i. in_member i) (listed_in (role_behind s) n u k)
+    | inr k ↦ among_on (λ m. IsInMembers m ms) (λ m. IsInMembers m (a_member s start end n ms)) u (λ m i. in_later_member i) (listed_in_members ms u k)
   ]
 
 pub listed_written : (d : Definition) (u : List Step) → In u (refs_of d) → Among (λ m. IsPart m d.value) u

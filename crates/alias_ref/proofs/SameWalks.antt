@@ -2,10 +2,10 @@
 use Rattle.std.proofs.Common.{◌≡◌, ℕ, zero, suc, ◌+◌, ◌-◌, List, [], ◌∷◌, ◌++◌, Bool, true, false, cond, Option, Some, None, length, refl, sym, ap, ap₂, ◌∙◌, subst}
 use Rattle.std.specs.Prelude.{is_some, nat_le}
 use Rattle.name_path.specs.declared.place.Place.{Place}
-use Rattle.json_span.specs.PlainView.{Value, Entry}
+use Rattle.json_span.specs.PlainView.{Value, ValueEntry}
 use Rattle.alias_ref.specs.Written.{Step, Written, leaf, parts, refers, misspelled, Tokens, whole, part, is_reference, is_misspelled, is_written}
 use Rattle.alias_ref.specs.Meaning.{Leads, leads, Goes, arrived, onward, Settles, stays, follows, Means, means_leaf, means_parts, means_target, EachMeans, none_left, one_more}
-use Rattle.alias_ref.specs.Visits.{Visit, visit, lost, Way, ends_at, no_end, joined, goes_on, then_go, since, go_if, steps_from, way_of, settled, settle_by, pass_written, unless_stands, pass_visits, visits_each, at_end, walk_written, walk_visits, breaks, most_places, most_visits, break_if, own_break, or_else, first_break, walked, walk_break}
+use Rattle.alias_ref.specs.Visits.{Visit, visit, lost, Way, ends_at, no_end, after_visits, goes_on, then_go, since, go_if, steps_from, way_of, settled, settle_by, pass_written, unless_stands, pass_visits, visits_each, at_end, walk_written, walk_visits, ref_break, most_places, most_visits, break_if, own_break, or_else, first_break, walked, walk_break}
 use Rattle.alias_ref.specs.declared.fault.RefRule.TheVariants as rule
 use Rattle.alias_ref.proofs.BranchesAreChains.{Each, Each-append}
 
@@ -36,7 +36,7 @@ module _ (T T' : Tokens) (In : List Step → Type 0) (agree : (p : Place) → In
       means_same (means_parts {p} e ms) h = means_parts (sym (agree p h) ∙ e) (means_each_same ms h)
       means_same (means_target l m) h = let k = leads_same l h in means_target k.0 (means_same m k.1)
 
-      means_each_same : {p : Place} {steps : List Step} {es : List Entry} → EachMeans T p steps es → In p.token → EachMeans T' p steps es
+      means_each_same : {p : Place} {steps : List Step} {es : List ValueEntry} → EachMeans T p steps es → In p.token → EachMeans T' p steps es
       means_each_same none_left h = none_left
       means_each_same (one_more m ms) h = one_more (means_same m h) (means_each_same ms h)
 
@@ -58,7 +58,7 @@ module _ (T T' : Tokens) (In : List Step → Type 0) (agree : (p : Place) → In
   goes_on_alike xs None f g a h k = record { same = refl; ends = λ q e. cc; all = a }
   goes_on_alike xs (Some q) f g a h k =
       let r = k q (h q refl) in
-      record { same = ap (joined xs) r.same; ends = r.ends; all = Each-append Agrees xs (f q).seen a r.all }
+      record { same = ap (after_visits xs) r.same; ends = r.ends; all = Each-append Agrees xs (f q).seen a r.all }
 
   then_go_alike : (w w' : Way) (f g : Place → Way) → Alike w w' → AlikeFrom f g → Alike (then_go w f) (then_go w' g)
   then_go_alike w w' f g a k = subst (λ x. Alike (then_go w f) (then_go x g)) a.same (goes_on_alike w.seen w.ends f g a.all a.ends k)
@@ -109,8 +109,8 @@ module _ (T T' : Tokens) (In : List Step → Type 0) (agree : (p : Place) → In
   unless_alike true w w' a = nothing_alike
   unless_alike false w w' a = a
 
-  behind_visit : (b : List Place) (p : Place) (w w' : Way) → In p.token → Alike w w' → Alike (joined (visit b p ∷ []) w) (joined (visit b p ∷ []) w')
-  behind_visit b p w w' h a = record { same = ap (joined (visit b p ∷ [])) a.same; ends = a.ends; all = (agree p h, a.all) }
+  behind_visit : (b : List Place) (p : Place) (w w' : Way) → In p.token → Alike w w' → Alike (after_visits (visit b p ∷ []) w) (after_visits (visit b p ∷ []) w')
+  behind_visit b p w w' h a = record { same = ap (after_visits (visit b p ∷ [])) a.same; ends = a.ends; all = (agree p h, a.all) }
 
   pass_visits_alike : (n : ℕ) (b : List Place) → AlikeFrom (pass_visits T n b) (pass_visits T' n b)
   unfolding pass_visits
@@ -170,7 +170,7 @@ module _ (T T' : Tokens) (In : List Step → Type 0) (agree : (p : Place) → In
 
   break_if_same : (n : ℕ) (b : List Place) (p : Place) (o : Option (List Place)) → T p ≡ T' p → break_if T n b p o ≡ break_if T' n b p o
   break_if_same n b p (Some r) h = refl
-  break_if_same n b p None h = ap (λ x. cond (nat_le most_places (length b)) (Some (breaks rule.Deep p)) (cond (nat_le most_visits n) (Some (breaks rule.Big p)) (cond (is_misspelled x) (Some (breaks rule.RefSyntax p)) None))) h
+  break_if_same n b p None h = ap (λ x. cond (nat_le most_places (length b)) (Some (ref_break rule.Deep p)) (cond (nat_le most_visits n) (Some (ref_break rule.Big p)) (cond (is_misspelled x) (Some (ref_break rule.RefSyntax p)) None))) h
 
   own_same : (n : ℕ) (e : Visit) → Agrees e → own_break T n e ≡ own_break T' n e
   own_same n (visit b p) h = break_if_same n b p (since p b) h

@@ -1,18 +1,20 @@
 -- What stands at the spots of a walk.
-use Rattle.std.proofs.Common.{◌≡◌, ℕ, ◌+◌, ◌<◌, ◌^◌, Bool, true, false, cond, List, [], ◌∷◌, ◌++◌, length, Option, Some, None, option_map, refl, sym, ap, ◌∙◌, subst, codes, arith}
+use Rattle.std.proofs.Common.{◌≡◌, ℕ, ◌+◌, ◌<◌, ◌^◌, Bool, true, false, cond, List, [], ◌∷◌, ◌++◌, length, Option, Some, None, option_map, refl, sym, ap, ap₂, ◌∙◌, subst, codes, arith}
 use Rattle.std.specs.Prelude.{option_and_then, unwrap_or, is_some}
 use Rattle.std.specs.Fmt.{decimal}
 use Rattle.std.specs.Str.{bytes_eq}
+use Rattle.name_path.specs.declared.kind.Kind.{Kind}
 use Rattle.name_path.specs.declared.place.Place.{Place}
-use Rattle.json_span.specs.Tree.{Tree, a_null, a_boolean, a_number, a_string, an_array, an_object, Placed, Entry, tree_of, start_of, elements_in, entries_in, under}
+use Rattle.json_span.specs.Tree.{Tree, a_null, a_boolean, a_number, a_string, an_array, an_object, Placed, Entry, tree_of, start_of, elements_in, entries_in, value_of_name}
 use Rattle.token_tree.proofs.Names.{same_text}
 use Rattle.group_inherit.specs.Flattening.{Flattened}
-use Rattle.alias_ref.specs.Written.{Step, object, parts, Tokens, whole, part, is_reference, is_misspelled, is_written, Parts, numbered, named, parts_of, steps_of, part_under, part_at, value_at, Role, of_value, of_ref, spelled, object_pointed, object_written, written_as, role_behind, role_at, written_in}
+use Rattle.group_inherit.specs.Merging.{either}
+use Rattle.alias_ref.specs.Written.{Step, object, parts, Tokens, whole, part, is_reference, is_misspelled, is_written, Parts, parts_by_index, parts_by_name, parts_of, steps_of, part_under, part_behind, value_at, Role, of_value, of_ref, reference_written, object_pointed, object_written, written_as, role_behind, role_at, written_in}
 use Rattle.alias_ref.specs.Kinds.{own_in, group_in}
 use Rattle.alias_ref.specs.Visits.{Way, ends_at, settle_by, passed, pass_written}
 use Rattle.alias_ref.specs.Laws.{Flat}
 use Rattle.alias_ref.specs.inner.Contents.{content_view, content_parts, content_items, role_of, IsContent}
-use Rattle.alias_ref.specs.inner.Spots.{Stands, IsSound, IsSpot, IsPartAt, IsHolder, start_in}
+use Rattle.alias_ref.specs.inner.Spots.{IsValueAt, IsFlawless, IsSpot, IsPartAt, IsHolder, start_in}
 use Rattle.json_span.specs.View.{items_view}
 use Rattle.alias_ref.specs.declared.content.Content.{Content}
 use Rattle.alias_ref.specs.declared.content.Content.TheVariants as content
@@ -26,7 +28,7 @@ use Rattle.alias_ref.proofs.WrittenParts.{role_at-end, written_stands, part_stan
 pub spot_written : (flat : Flat) (s : Spot) → IsSpot flat s → written_in flat s.place ≡ Some (content_view s.content)
 spot_written flat s k = written_stands flat s.place s.token.now k.value k.stands ∙ ap Some (sym k.content.written)
 
-pub start_is : (flat : Flat) (p : Place) (f : Flattened) (n : Placed) → Stands flat p f n → start_of n ≡ start_in flat p
+pub start_is : (flat : Flat) (p : Place) (f : Flattened) (n : Placed) → IsValueAt flat p f n → start_of n ≡ start_in flat p
 start_is flat p f n k =
     sym (ap (λ o. unwrap_or (option_map start_of (option_and_then (λ g. value_at g.def.value p.trail) o)) 0) k.token ∙ ap (λ o. unwrap_or (option_map start_of o) 0) k.value)
 
@@ -46,26 +48,26 @@ fails false h = refl
 behind_is : (s : Step) → bytes_eq s (codes "$ref") ≡ false → role_behind s ≡ of_value
 behind_is s e = ap (λ b. cond b of_ref of_value) e
 
-item_role : (s : Step) (i : ℕ) (ns : List Placed) (m : Placed) → part_under s (numbered i ns) ≡ Some m → role_behind s ≡ of_value
+item_role : (s : Step) (i : ℕ) (ns : List Placed) (m : Placed) → part_under s (parts_by_index i ns) ≡ Some m → role_behind s ≡ of_value
 item_role s i [] m e = absurd (cc)
 item_role s i (n ∷ ns) m e = go (bytes_eq (decimal i) s) refl e (item_role s (i + 1) ns m)
   where
-    go : (b : Bool) → bytes_eq (decimal i) s ≡ b → cond b (Some n) (part_under s (numbered (i + 1) ns)) ≡ Some m → (part_under s (numbered (i + 1) ns) ≡ Some m → role_behind s ≡ of_value) → role_behind s ≡ of_value
+    go : (b : Bool) → bytes_eq (decimal i) s ≡ b → cond b (Some n) (part_under s (parts_by_index (i + 1) ns)) ≡ Some m → (part_under s (parts_by_index (i + 1) ns) ≡ Some m → role_behind s ≡ of_value) → role_behind s ≡ of_value
     go true k f rec = ap role_behind (sym (same_text (decimal i) s k)) ∙ index_role i
     go false k f rec = rec f
 
-spelled_refers : (o : Option Place) → is_reference (Some (spelled o)) ≡ true
+spelled_refers : (o : Option Place) → is_reference (Some (reference_written o)) ≡ true
 spelled_refers (Some p) = refl
 spelled_refers None = refl
 
-ref_refers : (es : List Entry) (m : Placed) → under (codes "$ref") es ≡ Some m → is_reference (Some (object_written es)) ≡ true
-ref_refers es m e = ap (λ o. is_reference (Some (cond (is_some o) (spelled (object_pointed es)) (parts object (steps_of (named es)))))) e ∙ spelled_refers (object_pointed es)
+ref_refers : (es : List Entry) (m : Placed) → value_of_name (codes "$ref") es ≡ Some m → is_reference (Some (object_written es)) ≡ true
+ref_refers es m e = ap (λ o. is_reference (Some (cond (is_some o) (reference_written (object_pointed es)) (parts object (steps_of (parts_by_name es)))))) e ∙ spelled_refers (object_pointed es)
 
-member_role : (s : Step) (es : List Entry) (m : Placed) → is_reference (Some (object_written es)) ≡ false → part_under s (named es) ≡ Some m → role_behind s ≡ of_value
+member_role : (s : Step) (es : List Entry) (m : Placed) → is_reference (Some (object_written es)) ≡ false → part_under s (parts_by_name es) ≡ Some m → role_behind s ≡ of_value
 member_role s es m h e =
     behind_is s (fails (bytes_eq s (codes "$ref")) (λ k.
     let same = same_text s (codes "$ref") k in
-    let there : under (codes "$ref") es ≡ Some m = ap (λ x. under x es) (sym same) ∙ sym (under_named s es) ∙ e in
+    let there : value_of_name (codes "$ref") es ≡ Some m = ap (λ x. value_of_name x es) (sym same) ∙ sym (under_named s es) ∙ e in
     let bad : true ≡ false = sym (ref_refers es m there) ∙ h in cc))
 
 pub part_role : (role : Role) (v : Tree) (s : Step) (m : Placed) → is_reference (Some (written_as role v)) ≡ false → part_under s (parts_of v) ≡ Some m → role_behind s ≡ of_value
@@ -80,7 +82,7 @@ part_role role (an_object ms) s m h e = member_role s (entries_in ms) m h e
 pub spot_part : (flat : Flat) (s : Spot) (step : Step) (m : Placed) → IsSpot flat s → is_reference (Some (content_view s.content)) ≡ false → part_under step (content_parts s.content) ≡ Some m → IsPartAt flat s.place s.token.now step m
 spot_part flat s step m k h e =
     let role = role_at s.token.now.def.by_ref s.place.trail in
-    let there : part_at k.value step ≡ Some m = ap (part_under step) (sym (k.content.parts h)) ∙ e in
+    let there : part_behind k.value step ≡ Some m = ap (part_under step) (sym (k.content.parts h)) ∙ e in
     let settled : is_reference (Some (written_as role (tree_of k.value))) ≡ false = ap (λ w. is_reference (Some w)) (sym k.content.written) ∙ h in
     record {
       value = k.value;
@@ -99,22 +101,12 @@ part_content flat p f s m c k is =
     let role : of_value ≡ role_at f.def.by_ref (p.trail ++ s ∷ []) = sym (role_at-end f.def.by_ref p.trail s ∙ k.role) in
     subst (λ r. IsContent c r (tree_of m)) role is
 
-pub part_stands_at : (flat : Flat) (p : Place) (f : Flattened) (s : Step) (m : Placed) → IsPartAt flat p f s m → Stands flat (part p s) f m
+pub part_stands_at : (flat : Flat) (p : Place) (f : Flattened) (s : Step) (m : Placed) → IsPartAt flat p f s m → IsValueAt flat (part p s) f m
 part_stands_at flat p f s m k = part_stands flat p f k.value m s k.stands k.part
-
--- the holder of parts that are gone over
-pub spot_holds : (flat : Flat) (s : Spot) (ps : Parts) → IsSpot flat s → is_reference (Some (content_view s.content)) ≡ false → content_parts s.content ≡ ps → IsHolder flat s.place s.token.now ps
-spot_holds flat s ps k h e = record {
-  value = k.value;
-  stands = k.stands;
-  parts = sym e ∙ k.content.parts h;
-  plain = ap (λ w. is_reference (Some w)) (sym k.content.written) ∙ h;
-  sound = k.sound;
-}
 
 pub holder_part : (flat : Flat) (p : Place) (f : Flattened) (ps front : Parts) (s : Step) (m : Placed) (rest : Parts) → IsHolder flat p f ps → ps ≡ front ++ (s, m) ∷ rest → IsPartAt flat p f s m
 holder_part flat p f ps front s m rest k e =
-    let there : part_at k.value s ≡ Some m = found_under (parts_of (tree_of k.value)) front s m rest (distinct_parts k.value k.sound) (sym k.parts ∙ e) in
+    let there : part_behind k.value s ≡ Some m = found_under (parts_of (tree_of k.value)) front s m rest (distinct_parts k.value k.sound) (sym k.parts ∙ e) in
     record {
       value = k.value;
       stands = k.stands;
@@ -124,7 +116,7 @@ holder_part flat p f ps front s m rest k e =
     }
 
 -- the items of an array are not too many
-content_few : (c : Content) (n : Placed) → (is_reference (Some (content_view c)) ≡ false → content_parts c ≡ parts_of (tree_of n)) → IsSound n → length (content_items c) < 2 ^ 64
+content_few : (c : Content) (n : Placed) → (is_reference (Some (content_view c)) ≡ false → content_parts c ≡ parts_of (tree_of n)) → IsFlawless n → length (content_items c) < 2 ^ 64
 content_few (content.Leaf x) n e k = omega arith
 content_few (content.Array items) n e k = items_few n (items_view items) k (e refl)
 content_few (content.Object fields) n e k = omega arith
@@ -134,18 +126,25 @@ content_few content.Misspelled n e k = omega arith
 pub items_fit : (flat : Flat) (s : Spot) → IsSpot flat s → length (content_items s.content) < 2 ^ 64
 items_fit flat s k = content_few s.content k.value k.content.parts k.sound
 
-pub holder_few : (flat : Flat) (p : Place) (f : Flattened) (ns : List Placed) → IsHolder flat p f (numbered 0 ns) → length ns < 2 ^ 64
+pub holder_few : (flat : Flat) (p : Place) (f : Flattened) (ns : List Placed) → IsHolder flat p f (parts_by_index 0 ns) → length ns < 2 ^ 64
 holder_few flat p f ns k = items_few k.value ns k.sound k.parts
 
 pub spot_whole : (flat : Flat) (s : Spot) (token : List Step) → IsSpot flat s → s.place ≡ whole token → is_written (written_in flat (whole token)) ≡ true
 spot_whole flat s token k e = ap is_written (subst (λ p. written_in flat p ≡ Some (content_view s.content)) e (spot_written flat s k))
 
+-- a spot of this content
+pub spot_shows : (flat : Flat) (s : Spot) (c : Content) → IsSpot flat s → s.content ≡ c → written_in flat s.place ≡ Some (content_view c)
+spot_shows flat s c k e = spot_written flat s k ∙ ap (λ x. Some (content_view x)) e
+
 -- the kinds at a spot
-pub own_is : (flat : Flat) (p : Place) (f : Flattened) (n : Placed) → Stands flat p f n → own_in flat p.token ≡ f.def.kind
+pub own_is : (flat : Flat) (p : Place) (f : Flattened) (n : Placed) → IsValueAt flat p f n → own_in flat p.token ≡ f.def.kind
 own_is flat p f n k = ap (option_and_then (λ g. g.def.kind)) k.token
 
-pub group_is : (flat : Flat) (p : Place) (f : Flattened) (n : Placed) → Stands flat p f n → group_in flat p.token ≡ f.group_kind
+pub group_is : (flat : Flat) (p : Place) (f : Flattened) (n : Placed) → IsValueAt flat p f n → group_in flat p.token ≡ f.group_kind
 group_is flat p f n k = ap (option_and_then (λ g. g.group_kind)) k.token
+
+pub kinds_at : (flat : Flat) (s : Spot) (k : Option Kind) → IsSpot flat s → k ≡ either s.token.now.def.kind s.token.now.group_kind → k ≡ either (own_in flat s.place.token) (group_in flat s.place.token)
+kinds_at flat s k at e = e ∙ ap₂ either (sym (own_is flat s.place s.token.now at.value at.stands)) (sym (group_is flat s.place s.token.now at.value at.stands))
 
 -- a spot where a way settles
 pub settled_spot : (flat : Flat) (b : List Place) (p : Place) (e : Spot) → IsSpot flat e → (settle_by (written_in flat) (passed (written_in flat) b) p).ends ≡ Some e.place → is_reference (Some (content_view e.content)) ≡ false

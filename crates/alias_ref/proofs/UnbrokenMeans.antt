@@ -2,10 +2,10 @@
 use Rattle.std.proofs.Common.{◌≡◌, ℕ, zero, suc, ◌+◌, ◌-◌, ◌<◌, List, [], ◌∷◌, ◌++◌, Bool, true, false, cond, Option, Some, None, length, refl, sym, ap, ◌∙◌, subst, arith, length-append}
 use Rattle.std.specs.Prelude.{is_some}
 use Rattle.name_path.specs.declared.place.Place.{Place}
-use Rattle.json_span.specs.PlainView.{Value, Entry}
+use Rattle.json_span.specs.PlainView.{Value, ValueEntry}
 use Rattle.alias_ref.specs.Written.{Step, Written, leaf, parts, refers, misspelled, Tokens, whole, part, is_reference, is_misspelled, is_written}
 use Rattle.alias_ref.specs.Meaning.{put_together, Means, means_leaf, means_parts, means_target, EachMeans, none_left, one_more}
-use Rattle.alias_ref.specs.Visits.{Visit, visit, lost, Way, goes_on, then_go, since, go_if, steps_from, way_of, settled, settle_by, pass_written, unless_stands, pass_visits, visits_each, at_end, walk_written, walk_visits, breaks, own_break, first_break, walked, walk_break}
+use Rattle.alias_ref.specs.Visits.{Visit, visit, lost, Way, goes_on, then_go, since, go_if, steps_from, way_of, settled, settle_by, pass_written, unless_stands, pass_visits, visits_each, at_end, walk_written, walk_visits, ref_break, own_break, first_break, walked, walk_break}
 use Rattle.alias_ref.specs.declared.fault.RefRule.TheVariants as rule
 use Rattle.alias_ref.specs.inner.Seen.{Clean, HasParts, AllWritten}
 use Rattle.alias_ref.proofs.FirstBreaks.{first-append, or_none, enters}
@@ -49,7 +49,7 @@ module _ (T : Tokens) where
   settle_end pass h p n k w c = settled_end pass h (is_reference (T p)) p n k w c
 
   lost_is_no_end : (n k : ℕ) (home : Place) → Clean T n k (lost home ∷ []) → ⊥
-  lost_is_no_end n k home c = let h : Some (breaks rule.RefTarget home) ≡ None = (clean_first (lost home) [] c).0 in cc
+  lost_is_no_end n k home c = let h : Some (ref_break rule.RefTarget home) ≡ None = (clean_first (lost home) [] c).0 in cc
 
   go_if_end : (b : Bool) (home : Place) (w : Way) (n k : ℕ) → Clean T n k (go_if b home w).seen → (b ≡ true → Clean T n k w.seen → HasEnd w) → HasEnd (go_if b home w)
   go_if_end true home w n k c h = h refl c
@@ -99,7 +99,7 @@ module _ (T : Tokens) where
   abbrev pub Meaning : (Place → List Visit) → Type 0
   Meaning walk = (p : Place) (n k : ℕ) → is_written (T p) ≡ true → Clean T n k (walk p) → (v : Value) × Means T p v
 
-  each_means : (walk : Place → List Visit) → Meaning walk → (p : Place) (steps : List Step) (n k : ℕ) → AllWritten T p steps → Clean T n k (visits_each walk p steps) → (es : List Entry) × EachMeans T p steps es
+  each_means : (walk : Place → List Visit) → Meaning walk → (p : Place) (steps : List Step) (n k : ℕ) → AllWritten T p steps → Clean T n k (visits_each walk p steps) → (es : List ValueEntry) × EachMeans T p steps es
   unfolding visits_each
   each_means walk h p [] n k w c = ([], none_left)
   each_means walk h p (s ∷ steps) n k w c =

@@ -5,7 +5,7 @@ use Rattle.name_path.specs.declared.place.Place.{Place}
 use Rattle.alias_ref.specs.Written.{Step, Written, leaf, parts, refers, misspelled, Tokens, whole, part, is_reference, is_misspelled, is_written}
 use Rattle.alias_ref.specs.Meaning.{Leads, leads, Goes, arrived, onward, Settles}
 use Rattle.alias_ref.specs.Visits.{Visit, visit, Way, goes_on, then_go, since, go_if, steps_from, way_of, settle_by, pass_written, visits_each, at_end, walk_written, most_places, walked, passed, walk_break}
-use Rattle.alias_ref.specs.Asking.{Manner, walked as walking, passed as passing, AsksFor, for_part, for_step, for_target, for_next, Lacks, IsVisited, begins, asked}
+use Rattle.alias_ref.specs.Asking.{Manner, by_walking as walking, by_passing as passing, AsksFor, for_part, for_step, for_target, for_next, Lacks, IsVisited, begins, asked}
 use Rattle.alias_ref.specs.inner.Seen.{Clean, AllWritten, HasParts}
 use Rattle.alias_ref.proofs.BranchesAreChains.{since-lacks}
 use Rattle.alias_ref.proofs.FirstBreaks.{Enters, enters, walked-enters, passed-enters, walk_visits-begins, pass_visits-begins}

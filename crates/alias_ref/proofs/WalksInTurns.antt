@@ -2,7 +2,7 @@
 use Rattle.std.proofs.Common.{◌≡◌, ℕ, ◌+◌, List, [], ◌∷◌, ◌++◌, Bool, true, false, Option, Some, None, refl, sym, ap, ◌∙◌, subst, append_assoc, append-nil}
 use Rattle.name_path.specs.declared.place.Place.{Place}
 use Rattle.alias_ref.specs.Written.{Step, Written, refers, Tokens, whole, part, is_reference, is_written}
-use Rattle.alias_ref.specs.Visits.{Visit, visit, lost, Way, ends_at, joined, goes_on, go_if, steps_from, way_of, settled, settle_by, pass_written, at_end, walk_written, breaks, own_break, first_break, walked, passed}
+use Rattle.alias_ref.specs.Visits.{Visit, visit, lost, Way, ends_at, after_visits, goes_on, go_if, steps_from, way_of, settled, settle_by, pass_written, at_end, walk_written, ref_break, own_break, first_break, walked, passed}
 use Rattle.alias_ref.specs.declared.fault.RefRule.TheVariants as rule
 use Rattle.std.specs.Prelude.{Result, Ok, Err}
 use Rattle.alias_ref.specs.inner.Seen.{Clean, IsFault, Sees}
@@ -18,30 +18,30 @@ at_end-front : (xs : List Visit) (o : Option Place) (walk : Place → List Visit
 at_end-front xs None walk = ([], sym (append-nil xs))
 at_end-front xs (Some q) walk = (walk q, refl)
 
-joined-joined : (xs ys : List Visit) (w : Way) → joined xs (joined ys w) ≡ joined (xs ++ ys) w
+joined-joined : (xs ys : List Visit) (w : Way) → after_visits xs (after_visits ys w) ≡ after_visits (xs ++ ys) w
 joined-joined xs ys w = let make : List Visit → Way = λ es. record { seen = es; ends = w.ends } in ap make (sym (append_assoc xs ys w.seen))
 
 module _ (T : Tokens) where
-  lost_breaks : (n : ℕ) (p : Place) → first_break T n (lost p ∷ []) ≡ Some (breaks rule.RefTarget p)
+  lost_breaks : (n : ℕ) (p : Place) → first_break T n (lost p ∷ []) ≡ Some (ref_break rule.RefTarget p)
   unfolding first_break
   lost_breaks n p = refl
 
-  breaks_behind : {n m : ℕ} (xs : List Visit) (p : Place) → Clean T n m xs → first_break T n (xs ++ lost p ∷ []) ≡ Some (breaks rule.RefTarget p)
+  breaks_behind : {n m : ℕ} (xs : List Visit) (p : Place) → Clean T n m xs → first_break T n (xs ++ lost p ∷ []) ≡ Some (ref_break rule.RefTarget p)
   breaks_behind {n} {m} xs p c = fault_later T (faults.Broken rule.RefTarget p []) xs (lost p ∷ []) c (lost_breaks m p)
 
   -- the names of the ways of a reference
-  pub way_lost : (settle : Place → Way) (home : Place) (t : List Step) (steps : List Step) (n : ℕ) → is_written (T (whole t)) ≡ false → first_break T n (way_of T settle home t steps).seen ≡ Some (breaks rule.RefTarget home)
+  pub way_lost : (settle : Place → Way) (home : Place) (t : List Step) (steps : List Step) (n : ℕ) → is_written (T (whole t)) ≡ false → first_break T n (way_of T settle home t steps).seen ≡ Some (ref_break rule.RefTarget home)
   way_lost settle home t steps n h = ap (λ b. first_break T n (go_if b home (steps_from T settle home (whole t) steps)).seen) h ∙ lost_breaks n home
 
   pub way_found : (settle : Place → Way) (home : Place) (t : List Step) (steps : List Step) → is_written (T (whole t)) ≡ true → way_of T settle home t steps ≡ steps_from T settle home (whole t) steps
   way_found settle home t steps h = ap (λ b. go_if b home (steps_from T settle home (whole t) steps)) h
 
   module _ (settle : Place → Way) (home : Place) where
-    steps_on : (p q : Place) (s : Step) (steps : List Step) (b : Bool) → (settle p).ends ≡ Some q → is_written (T (part q s)) ≡ b → steps_from T settle home p (s ∷ steps) ≡ joined (settle p).seen (go_if b home (steps_from T settle home (part q s) steps))
+    steps_on : (p q : Place) (s : Step) (steps : List Step) (b : Bool) → (settle p).ends ≡ Some q → is_written (T (part q s)) ≡ b → steps_from T settle home p (s ∷ steps) ≡ after_visits (settle p).seen (go_if b home (steps_from T settle home (part q s) steps))
     unfolding steps_from
     steps_on p q s steps b e w =
         let next : Place → Way = λ x. go_if (is_written (T (part x s))) home (steps_from T settle home (part x s) steps) in
-        ap (λ o. goes_on (settle p).seen o next) e ∙ ap (λ x. joined (settle p).seen (go_if x home (steps_from T settle home (part q s) steps))) w
+        ap (λ o. goes_on (settle p).seen o next) e ∙ ap (λ x. after_visits (settle p).seen (go_if x home (steps_from T settle home (part q s) steps))) w
 
     steps_front : (p : Place) (s : Step) (steps : List Step) → (es : List Visit) × ((steps_from T settle home p (s ∷ steps)).seen ≡ (settle p).seen ++ es)
     unfolding steps_from
@@ -52,7 +52,7 @@ module _ (T : Tokens) where
     steps_none p = refl
 
     -- a turn of the loop over the steps
-    module _ (w : Way) (p : Place) (s : Step) (rest : List Step) {n m : ℕ} (es : List Visit) (clean : Clean T n m es) (so_far : joined es (steps_from T settle home p (s ∷ rest)) ≡ w) where
+    module _ (w : Way) (p : Place) (s : Step) (rest : List Step) {n m : ℕ} (es : List Visit) (clean : Clean T n m es) (so_far : after_visits es (steps_from T settle home p (s ∷ rest)) ≡ w) where
       pub turn_fault : (f : RefFault) → IsFault f (first_break T m (settle p).seen) → IsFault f (first_break T n w.seen)
       turn_fault f b =
           let front = steps_front p s rest in
@@ -60,27 +60,27 @@ module _ (T : Tokens) where
           (subst (λ xs. IsFault f (first_break T m xs)) (sym front.1) (fault_first T f m (settle p).seen front.0 b)) in
           subst (λ x. IsFault f (first_break T n x.seen)) so_far k
 
-      pub turn_lost : (q : Place) {k : ℕ} → Clean T m k (settle p).seen → (settle p).ends ≡ Some q → is_written (T (part q s)) ≡ false → first_break T n w.seen ≡ Some (breaks rule.RefTarget home)
+      pub turn_lost : (q : Place) {k : ℕ} → Clean T m k (settle p).seen → (settle p).ends ≡ Some q → is_written (T (part q s)) ≡ false → first_break T n w.seen ≡ Some (ref_break rule.RefTarget home)
       turn_lost q c e u =
-          let on = ap (joined es) (sym (steps_on p q s rest false e u)) ∙ so_far in
+          let on = ap (after_visits es) (sym (steps_on p q s rest false e u)) ∙ so_far in
           let all = joined-joined es (settle p).seen (record { seen = lost home ∷ []; ends = None }) in
           ap (λ x. first_break T n x.seen) (sym on ∙ all) ∙ breaks_behind (es ++ (settle p).seen) home (clean_append T es (settle p).seen clean c)
 
-      pub turn_on : (q : Place) → (settle p).ends ≡ Some q → is_written (T (part q s)) ≡ true → joined (es ++ (settle p).seen) (steps_from T settle home (part q s) rest) ≡ w
-      turn_on q e u = sym (joined-joined es (settle p).seen (steps_from T settle home (part q s) rest)) ∙ ap (joined es) (sym (steps_on p q s rest true e u)) ∙ so_far
+      pub turn_on : (q : Place) → (settle p).ends ≡ Some q → is_written (T (part q s)) ≡ true → after_visits (es ++ (settle p).seen) (steps_from T settle home (part q s) rest) ≡ w
+      turn_on q e u = sym (joined-joined es (settle p).seen (steps_from T settle home (part q s) rest)) ∙ ap (after_visits es) (sym (steps_on p q s rest true e u)) ∙ so_far
 
-    pub turns_done : (w : Way) (p : Place) (es : List Visit) → joined es (steps_from T settle home p []) ≡ w → w ≡ record { seen = es; ends = Some p }
+    pub turns_done : (w : Way) (p : Place) (es : List Visit) → after_visits es (steps_from T settle home p []) ≡ w → w ≡ record { seen = es; ends = Some p }
     turns_done w p es so_far =
         let make : List Visit → Way = λ xs. record { seen = xs; ends = Some p } in
-        sym so_far ∙ ap (joined es) (steps_none p) ∙ ap make (append-nil es)
+        sym so_far ∙ ap (after_visits es) (steps_none p) ∙ ap make (append-nil es)
 
   -- a visit that doesn't break, and what it asks for
   module _ (n : ℕ) (b b' : List Place) (p : Place) (s : Written) {m : ℕ} (is : T p ≡ Some s) (own : own_break T n (visit b p) ≡ None) (more : b' ≡ b ++ p ∷ []) (one : m ≡ n + 1) where
     entered : Clean T n m (visit b p ∷ [])
     entered = subst (λ k. Clean T n k (visit b p ∷ [])) (sym one) (clean_entry T n (visit b p) own)
 
-    pass_is : passed T b p ≡ joined (visit b p ∷ []) (pass_written T (settle_by T (passed T b')) p (Some s))
-    pass_is = passed-enters T b p (Some s) (enters T n b p own) is ∙ ap (λ x. joined (visit b p ∷ []) (pass_written T (settle_by T (passed T x)) p (Some s))) (sym more)
+    pass_is : passed T b p ≡ after_visits (visit b p ∷ []) (pass_written T (settle_by T (passed T b')) p (Some s))
+    pass_is = passed-enters T b p (Some s) (enters T n b p own) is ∙ ap (λ x. after_visits (visit b p ∷ []) (pass_written T (settle_by T (passed T x)) p (Some s))) (sym more)
 
     walk_is : walked T b p ≡ visit b p ∷ walk_written T (settle_by T (passed T b')) (walked T b') p (Some s)
     walk_is = walked-enters T b p (Some s) (enters T n b p own) is ∙ ap (λ x. visit b p ∷ walk_written T (settle_by T (passed T x)) (walked T x) p (Some s)) (sym more)
@@ -107,7 +107,7 @@ module _ (T : Tokens) where
       let k = goes_on-front w.seen w.ends settle in
       subst (λ xs. IsFault f (first_break T n xs)) (sym k.1) (fault_first T f n w.seen k.0 h)
 
-  pub refers_on : (settle : Place → Way) (p q : Place) (t : List Step) (steps : List Step) → (way_of T settle p t steps).ends ≡ Some q → pass_written T settle p (Some (refers t steps)) ≡ joined (way_of T settle p t steps).seen (settle q)
+  pub refers_on : (settle : Place → Way) (p q : Place) (t : List Step) (steps : List Step) → (way_of T settle p t steps).ends ≡ Some q → pass_written T settle p (Some (refers t steps)) ≡ after_visits (way_of T settle p t steps).seen (settle q)
   refers_on settle p q t steps h = ap (λ o. goes_on (way_of T settle p t steps).seen o settle) h
 
   pub refers_then_fault : (f : RefFault) {n m : ℕ} (settle : Place → Way) (p q : Place) (t : List Step) (steps : List Step) → (way_of T settle p t steps).ends ≡ Some q → Clean T n m (way_of T settle p t steps).seen → IsFault f (first_break T m (settle q).seen) → IsFault f (first_break T n (pass_written T settle p (Some (refers t steps))).seen)

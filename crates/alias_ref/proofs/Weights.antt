@@ -1,6 +1,6 @@
 -- How much a value holds: more than each of its parts.
 use Rattle.std.proofs.Common.{◌≡◌, ℕ, ◌+◌, ◌<◌, List, [], ◌∷◌, Some, refl, ap, arith}
-use Rattle.json_span.specs.Tree.{Tree, a_null, a_boolean, a_number, a_string, an_array, an_object, Placed, placed, Elements, no_elements, element, Members, no_members, member, Entry, tree_of, elements_in, entries_in, array_in, object_in}
+use Rattle.json_span.specs.Tree.{Tree, a_null, a_boolean, a_number, a_string, an_array, an_object, Placed, placed, Elements, no_elements, an_element, Members, no_members, a_member, Entry, tree_of, elements_in, entries_in, array_in, object_in}
 
 abbrev mutual
   pub weight : Placed → ℕ
@@ -16,11 +16,11 @@ abbrev mutual
 
   pub elements_weight : Elements → ℕ
   elements_weight no_elements = 0
-  elements_weight (element n ns) = weight n + 1 + elements_weight ns
+  elements_weight (an_element n ns) = weight n + 1 + elements_weight ns
 
   pub members_weight : Members → ℕ
   members_weight no_members = 0
-  members_weight (member name start end n ms) = weight n + 1 + members_weight ms
+  members_weight (a_member name start end n ms) = weight n + 1 + members_weight ms
 
 -- of lists of them
 abbrev pub weights : List Placed → ℕ
@@ -33,11 +33,11 @@ entry_weights (e ∷ es) = weight e.value + 1 + entry_weights es
 
 elements_weigh : (ns : Elements) → elements_weight ns ≡ weights (elements_in ns)
 elements_weigh no_elements = refl
-elements_weigh (element n ns) = ap (λ k. weight n + 1 + k) (elements_weigh ns)
+elements_weigh (an_element n ns) = ap (λ k. weight n + 1 + k) (elements_weigh ns)
 
 members_weigh : (ms : Members) → members_weight ms ≡ entry_weights (entries_in ms)
 members_weigh no_members = refl
-members_weigh (member s start end n ms) = ap (λ k. weight n + 1 + k) (members_weigh ms)
+members_weigh (a_member s start end n ms) = ap (λ k. weight n + 1 + k) (members_weigh ms)
 
 pub array_lighter : (n : Placed) (ns : List Placed) → array_in (tree_of n) ≡ Some ns → weights ns + 2 < weight n
 array_lighter (placed a_null start end) ns e = absurd (cc)

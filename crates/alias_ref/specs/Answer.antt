@@ -3,8 +3,8 @@ use Rattle.std.specs.Prelude.{◌≡◌, ◌≢◌, List, [], Some, None}
 use Rattle.json_span.specs.PlainView.{plain_view}
 use Rattle.alias_ref.specs.Written.{Step, Tokens, whole, written_in}
 use Rattle.alias_ref.specs.Meaning.{Means}
-use Rattle.alias_ref.specs.Visits.{Break, breaks, walk_break}
-use Rattle.alias_ref.specs.Asking.{IsRing}
+use Rattle.alias_ref.specs.Visits.{RefBreak, ref_break, walk_break}
+use Rattle.alias_ref.specs.Asking.{IsRingOfPlaces}
 use Rattle.alias_ref.specs.Kinds.{KindOf, LinksAt, own_in, group_in}
 use Rattle.alias_ref.specs.Laws.{Flat}
 use Rattle.alias_ref.specs.declared.fault.RefFault.{RefFault}
@@ -20,9 +20,9 @@ pub record IsResolved (flat : Flat) (token : List Step) (r : Resolved) : Type 0 
   pub links : LinksAt (written_in flat) (own_in flat) (group_in flat) (whole token) r.links
 
 -- The first rule that the token breaks: that of its walk, and then that a kind is missing.
-pub data IsFirstBreak (flat : Flat) (token : List Step) : Break → Type 0 where
-  in_walk : {b : Break} → walk_break (written_in flat) token ≡ Some b → IsFirstBreak flat token b
-  kind_missing : {b : Break} → walk_break (written_in flat) token ≡ None → KindOf (written_in flat) (own_in flat) (group_in flat) token None → b ≡ breaks rule.NoType (whole token) → IsFirstBreak flat token b
+pub data IsFirstBreak (flat : Flat) (token : List Step) : RefBreak → Type 0 where
+  in_walk : {b : RefBreak} → walk_break (written_in flat) token ≡ Some b → IsFirstBreak flat token b
+  kind_missing : {b : RefBreak} → walk_break (written_in flat) token ≡ None → KindOf (written_in flat) (own_in flat) (group_in flat) token None → b ≡ ref_break rule.NoType (whole token) → IsFirstBreak flat token b
 
 -- The fault is the first rule that the token breaks, unless memory ran out.
 abbrev pub IsRefBreak : Flat → List Step → RefFault → Type 0
@@ -31,7 +31,7 @@ IsRefBreak flat token faults.NoMemory = Unit {0}
 
 -- a ring that is told of is one, and other rules tell of none
 abbrev pub HasRealRing : Tokens → RefFault → Type 0
-HasRealRing T (faults.Broken r p ring) = (r ≡ rule.Cycle → IsRing T ring) × (r ≢ rule.Cycle → ring ≡ [])
+HasRealRing T (faults.Broken r p ring) = (r ≡ rule.Cycle → IsRingOfPlaces T ring) × (r ≢ rule.Cycle → ring ≡ [])
 HasRealRing T faults.NoMemory = Unit {0}
 
 -- The answer is decided by the flat tree and the path: a token comes to one thing, or breaks one rule first, and never both.
@@ -39,7 +39,7 @@ abbrev pub OneResolved : Type 0
 OneResolved = (flat : Flat) (token : List Step) (r s : Resolved) → IsResolved flat token r → IsResolved flat token s → (r.kind ≡ s.kind) × (plain_view r.plain ≡ plain_view s.plain) × (r.links ≡ s.links)
 
 abbrev pub OneFirstBreak : Type 0
-OneFirstBreak = (flat : Flat) (token : List Step) (b c : Break) → IsFirstBreak flat token b → IsFirstBreak flat token c → b ≡ c
+OneFirstBreak = (flat : Flat) (token : List Step) (b c : RefBreak) → IsFirstBreak flat token b → IsFirstBreak flat token c → b ≡ c
 
 abbrev pub NeverBoth : Type 0
-NeverBoth = (flat : Flat) (token : List Step) (r : Resolved) (b : Break) → IsResolved flat token r → IsFirstBreak flat token b → ⊥
+NeverBoth = (flat : Flat) (token : List Step) (r : Resolved) (b : RefBreak) → IsResolved flat token r → IsFirstBreak flat token b → ⊥

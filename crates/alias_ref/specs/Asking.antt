@@ -6,18 +6,18 @@ use Rattle.alias_ref.specs.Meaning.{Leads, Goes}
 
 -- how a place is visited
 pub data Manner : Type 0 where
-  walked : Manner
-  passed : Manner
+  by_walking : Manner
+  by_passing : Manner
 
 -- Visiting p so asks for visiting q so.
 pub data AsksFor (T : Tokens) : Manner → Place → Manner → Place → Type 0 where
   -- an array or an object, for its parts
-  for_part : {p : Place} {c : Container} {steps : List Step} (before after : List Step) (s : Step) → T p ≡ Some (parts c steps) → steps ≡ before ++ s ∷ after → AsksFor T walked p walked (part p s)
+  for_part : {p : Place} {c : Container} {steps : List Step} (before after : List Step) (s : Step) → T p ≡ Some (parts c steps) → steps ≡ before ++ s ∷ after → AsksFor T by_walking p by_walking (part p s)
   -- a reference, for passing the place reached before a step, where this is a reference
-  for_step : {m : Manner} {p q : Place} {token steps : List Step} (before after : List Step) (s : Step) → T p ≡ Some (refers token steps) → is_written (T (whole token)) ≡ true → steps ≡ before ++ s ∷ after → Goes T (whole token) before q → is_reference (T q) ≡ true → AsksFor T m p passed q
+  for_step : {m : Manner} {p q : Place} {token steps : List Step} (before after : List Step) (s : Step) → T p ≡ Some (refers token steps) → is_written (T (whole token)) ≡ true → steps ≡ before ++ s ∷ after → Goes T (whole token) before q → is_reference (T q) ≡ true → AsksFor T m p by_passing q
   -- a reference, for its target
-  for_target : {p q : Place} → Leads T p q → AsksFor T walked p walked q
-  for_next : {p q : Place} → Leads T p q → is_reference (T q) ≡ true → AsksFor T passed p passed q
+  for_target : {p q : Place} → Leads T p q → AsksFor T by_walking p by_walking q
+  for_next : {p q : Place} → Leads T p q → is_reference (T q) ≡ true → AsksFor T by_passing p by_passing q
 
 -- in some manner
 abbrev pub Asks : Tokens → Place → Place → Type 0
@@ -36,13 +36,13 @@ pub data Lacks (p : Place) : List Place → Type 0 where
 
 pub data Differ : List Place → Type 0 where
   differ_none : Differ []
-  differ : {p : Place} {b : List Place} → Lacks p b → Differ b → Differ (p ∷ b)
+  differ_more : {p : Place} {b : List Place} → Lacks p b → Differ b → Differ (p ∷ b)
 
 -- the places differ, each asks for the next, and the last asks for the first
-pub data IsRing (T : Tokens) : List Place → Type 0 where
-  ring : {p : Place} {b : List Place} → Differ (p ∷ b) → Chain T (p ∷ b) p → IsRing T (p ∷ b)
+pub data IsRingOfPlaces (T : Tokens) : List Place → Type 0 where
+  ring : {p : Place} {b : List Place} → Differ (p ∷ b) → Chain T (p ∷ b) p → IsRingOfPlaces T (p ∷ b)
 
 -- The walk of the token visits the place so, below this branch.
 pub data IsVisited (T : Tokens) (token : List Step) : List Place → Manner → Place → Type 0 where
-  begins : IsVisited T token [] walked (whole token)
+  begins : IsVisited T token [] by_walking (whole token)
   asked : {b : List Place} {m n : Manner} {p q : Place} → IsVisited T token b m p → AsksFor T m p n q → IsVisited T token (b ++ p ∷ []) n q

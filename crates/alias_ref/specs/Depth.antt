@@ -1,11 +1,11 @@
--- How many links stand one behind the other.
+-- How many links follow one another.
 use Rattle.std.specs.Prelude.{◌≡◌, ℕ, suc, List, [], ◌∷◌, Some}
 use Rattle.name_path.specs.declared.place.Place.{Place}
 use Rattle.json_span.specs.PlainView.{Value}
 use Rattle.alias_ref.specs.Written.{Step, Container, leaf, parts, refers, Tokens, whole, part}
 
 mutual
-  -- from this place at most n references without steps stand one behind the other
+  -- from this place at most n references without steps follow one another
   pub data LinkDepth (T : Tokens) : ℕ → Place → Type 0 where
     depth_leaf : {n : ℕ} {p : Place} {v : Value} → T p ≡ Some (leaf v) → LinkDepth T n p
     depth_steps : {n : ℕ} {p : Place} {token : List Step} {s : Step} {steps : List Step} → T p ≡ Some (refers token (s ∷ steps)) → LinkDepth T n p

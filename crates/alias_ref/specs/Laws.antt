@@ -3,7 +3,7 @@ use Rattle.std.specs.Prelude.{◌≡◌, ◌≢◌, ◌↔◌, ◌<◌, ◌≤�
 use Rattle.std.specs.FinMap as flat_map
 use Rattle.std.specs.Str.{IsUtf8}
 use Rattle.tk_io.specs.Order.{names_cmp}
-use Rattle.ring.specs.Routes.{In}
+use Rattle.ring.specs.Lists.{In}
 use Rattle.name_path.specs.Reference.{SpellsPath, SpellsPlace}
 use Rattle.name_path.specs.declared.kind.Kind.{Kind}
 use Rattle.name_path.specs.declared.link.Link.{Link}
@@ -18,8 +18,8 @@ use Rattle.group_inherit.specs.Flattening.{Flattened}
 use Rattle.alias_ref.specs.References.{alias_named, place_named}
 use Rattle.alias_ref.specs.Written.{Step, refers, misspelled, Tokens, whole, is_reference, is_misspelled, is_written, Role, written_as, written_at, written_in}
 use Rattle.alias_ref.specs.Meaning.{Leads, Settles, Means}
-use Rattle.alias_ref.specs.Visits.{Break, most_places, walk_break}
-use Rattle.alias_ref.specs.Asking.{Manner, Lacks, IsRing, IsVisited}
+use Rattle.alias_ref.specs.Visits.{RefBreak, most_places, walk_break}
+use Rattle.alias_ref.specs.Asking.{Manner, Lacks, IsRingOfPlaces, IsVisited}
 use Rattle.alias_ref.specs.Kinds.{Kinds, KindOf, LinksAt, IsLink, own_in, group_in}
 use Rattle.alias_ref.specs.PlainParts.{plain_at, Below}
 use Rattle.alias_ref.specs.Depth.{LinkDepth}
@@ -55,22 +55,22 @@ OneLinks = (T : Tokens) (own group : Kinds) (p : Place) (ls ms : List Link) → 
 
 -- a ring that is told of is one, from its first place on
 abbrev pub RingsAreReal : Type 0
-RingsAreReal = (T : Tokens) (token : List Step) (p : Place) (ring : List Place) → walk_break T token ≡ Some (record { rule = rule.Cycle; place = p; ring = ring }) → IsRing T ring
+RingsAreReal = (T : Tokens) (token : List Step) (p : Place) (ring : List Place) → walk_break T token ≡ Some (record { rule = rule.Cycle; place = p; ring = ring }) → IsRingOfPlaces T ring
 
 -- what is told of a wrong spelling or of a lost target holds at the place that is told
-pub record IsTold (T : Tokens) (b : Break) : Type 0 where
+pub record IsTold (T : Tokens) (b : RefBreak) : Type 0 where
   pub syntax : b.rule ≡ rule.RefSyntax → T b.place ≡ Some misspelled
   pub target : b.rule ≡ rule.RefTarget → (is_reference (T b.place) ≡ true) × ((q : Place) → Leads T b.place q → ⊥)
   pub ring : b.rule ≢ rule.Cycle → b.ring ≡ []
 
 abbrev pub BreaksAreReal : Type 0
-BreaksAreReal = (T : Tokens) (token : List Step) (b : Break) → walk_break T token ≡ Some b → IsTold T b
+BreaksAreReal = (T : Tokens) (token : List Step) (b : RefBreak) → walk_break T token ≡ Some b → IsTold T b
 
 -- a token without a break means something
 abbrev pub UnbrokenMeans : Type 0
 UnbrokenMeans = (flat : Flat) (token : List Step) → is_written (written_in flat (whole token)) ≡ true → walk_break (written_in flat) token ≡ None → (v : Value) × Means (written_in flat) (whole token) v
 
--- .. and whatever its walk visits is new on its branch, stands behind few places, is spelled well, and leads somewhere where it is a reference: a token
+-- .. and whatever its walk visits is new on its branch, stands after few places, is spelled well, and leads somewhere where it is a reference: a token
 -- whose walk comes to a wrong spelling, to a lost target or back to a place on its branch has a break
 pub record IsSoundVisit (T : Tokens) (b : List Place) (p : Place) : Type 0 where
   pub is_new : Lacks p b
@@ -82,7 +82,7 @@ abbrev pub UnbrokenIsSound : Type 0
 UnbrokenIsSound = (flat : Flat) (token : List Step) → is_written (written_in flat (whole token)) ≡ true → walk_break (written_in flat) token ≡ None
     → (b : List Place) (m : Manner) (p : Place) → IsVisited (written_in flat) token b m p → IsSoundVisit (written_in flat) b p
 
--- .. and has at most so many links one behind the other
+-- .. and has at most so many links that follow one another
 abbrev pub UnbrokenDepth : Type 0
 UnbrokenDepth = (flat : Flat) (token : List Step) → is_written (written_in flat (whole token)) ≡ true → walk_break (written_in flat) token ≡ None → LinkDepth (written_in flat) most_places (whole token)
 

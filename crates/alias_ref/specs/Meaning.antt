@@ -2,7 +2,7 @@
 use Rattle.std.specs.Prelude.{◌≡◌, List, [], ◌∷◌, true, false, Some, map}
 use Rattle.name_path.specs.declared.place.Place.{Place}
 use Rattle.json_span.specs.Plain.{plain_array, plain_object, plains_of, plain_members_of}
-use Rattle.json_span.specs.PlainView.{Value, Entry}
+use Rattle.json_span.specs.PlainView.{Value, ValueEntry}
 use Rattle.alias_ref.specs.Written.{Step, Container, array, object, leaf, parts, refers, Tokens, whole, part, is_reference, is_written}
 
 mutual
@@ -21,7 +21,7 @@ mutual
     follows : {p q r : Place} → Leads T p q → Settles T q r → Settles T p r
 
 -- parts with their steps, put together
-abbrev pub put_together : Container → List Entry → Value
+abbrev pub put_together : Container → List ValueEntry → Value
 put_together array es = plain_array (plains_of (map (λ e. e.value) es))
 put_together object es = plain_object (plain_members_of es)
 
@@ -29,10 +29,10 @@ mutual
   -- the place means the value
   pub data Means (T : Tokens) : Place → Value → Type 0 where
     means_leaf : {p : Place} {v : Value} → T p ≡ Some (leaf v) → Means T p v
-    means_parts : {p : Place} {c : Container} {steps : List Step} {es : List Entry} → T p ≡ Some (parts c steps) → EachMeans T p steps es → Means T p (put_together c es)
+    means_parts : {p : Place} {c : Container} {steps : List Step} {es : List ValueEntry} → T p ≡ Some (parts c steps) → EachMeans T p steps es → Means T p (put_together c es)
     means_target : {p q : Place} {v : Value} → Leads T p q → Means T q v → Means T p v
 
   -- the parts of p behind these steps mean these values, in order
-  pub data EachMeans (T : Tokens) : Place → List Step → List Entry → Type 0 where
+  pub data EachMeans (T : Tokens) : Place → List Step → List ValueEntry → Type 0 where
     none_left : {p : Place} → EachMeans T p [] []
-    one_more : {p : Place} {s : Step} {steps : List Step} {v : Value} {es : List Entry} → Means T (part p s) v → EachMeans T p steps es → EachMeans T p (s ∷ steps) (record { name = s; value = v } ∷ es)
+    one_more : {p : Place} {s : Step} {steps : List Step} {v : Value} {es : List ValueEntry} → Means T (part p s) v → EachMeans T p steps es → EachMeans T p (s ∷ steps) (record { name = s; value = v } ∷ es)

@@ -1,6 +1,7 @@
 -- The references that texts spell, as readings that compute: curly aliases, and pointers by RFC 6901 behind a '#'.
 use Rattle.std.specs.Prelude.{ℕ, ◌-◌, Bool, false, ◌&&◌, ◌||◌, ◌==◌, nat_le, if◌then◌else◌, List, [], ◌∷◌, length, Option, Some, None, slice_index}
 use Rattle.std.specs.Str.{bytes_eq}
+use Rattle.tk_io.specs.Characters.{left_brace, right_brace}
 use Rattle.name_path.specs.Names.{root_name}
 use Rattle.name_path.specs.Reference.{pointer_text, curly_text, value_step}
 use Rattle.name_path.specs.declared.place.Place.{Place}
@@ -8,7 +9,7 @@ use Rattle.token_tree.specs.Texts.{is_name, pointer_steps, curly_names}
 
 -- a text that begins with '{' and ends with '}', and has two bytes or more
 abbrev pub is_curly : List ℕ → Bool
-is_curly text = nat_le 2 (length text) && ((slice_index text 0 == 123) && (slice_index text (length text - 1) == 125))
+is_curly text = nat_le 2 (length text) && ((slice_index text 0 == left_brace) && (slice_index text (length text - 1) == right_brace))
 
 -- one or more names, of which the last may be `$root`
 abbrev pub is_token_path : List (List ℕ) → Bool

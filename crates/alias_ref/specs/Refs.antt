@@ -1,6 +1,6 @@
 -- The tokens that the references of a value name, in written order.
 use Rattle.std.specs.Prelude.{List, [], ◌∷◌, ◌++◌}
-use Rattle.json_span.specs.Tree.{Tree, a_null, a_boolean, a_number, a_string, an_array, an_object, Placed, placed, Elements, no_elements, element, Members, no_members, member, entries_in}
+use Rattle.json_span.specs.Tree.{Tree, a_null, a_boolean, a_number, a_string, an_array, an_object, Placed, placed, Elements, no_elements, an_element, Members, no_members, a_member, entries_in}
 use Rattle.token_tree.specs.Tree.{Definition}
 use Rattle.alias_ref.specs.Written.{Step, Written, leaf, parts, refers, misspelled, Role, of_value, text_written, object_written, role_behind, role_at}
 
@@ -26,11 +26,11 @@ abbrev mutual
 
   pub refs_in_items : Elements → List (List Step)
   refs_in_items no_elements = []
-  refs_in_items (element n ns) = refs_in of_value n ++ refs_in_items ns
+  refs_in_items (an_element n ns) = refs_in of_value n ++ refs_in_items ns
 
   pub refs_in_members : Members → List (List Step)
   refs_in_members no_members = []
-  refs_in_members (member s start end n ms) = refs_in (role_behind s) n ++ refs_in_members ms
+  refs_in_members (a_member s start end n ms) = refs_in (role_behind s) n ++ refs_in_members ms
 
 -- those of a token's value
 unfoldable pub refs_of : Definition → List (List Step)

@@ -5,7 +5,7 @@ use Rattle.tk_io.specs.Order.{names_cmp}
 use Rattle.name_path.specs.declared.place.Place.{Place}
 use Rattle.json_span.specs.Tree.{Placed, tree_of, start_of, end_of}
 use Rattle.group_inherit.specs.Flattening.{Flattened}
-use Rattle.alias_ref.specs.Written.{Step, Role, written_as, role_behind, role_at, is_reference, part_at}
+use Rattle.alias_ref.specs.Written.{Step, Role, written_as, role_behind, role_at, is_reference, part_behind}
 
 abbrev pub span_of_value : Placed → ℕ × ℕ
 span_of_value n = (start_of n, end_of n)
@@ -15,7 +15,7 @@ unfoldable pub span_below : Role → Placed → List Step → ℕ × ℕ
 span_below role n [] = span_of_value n
 span_below role n (s ∷ trail) =
     if is_reference (Some (written_as role (tree_of n))) then span_of_value n
-    else unwrap_or (option_map (λ m. span_below (role_behind s) m trail) (part_at n s)) (span_of_value n)
+    else unwrap_or (option_map (λ m. span_below (role_behind s) m trail) (part_behind n s)) (span_of_value n)
 
 -- that of a place, where its token is there
 abbrev pub span_in : flat_map.FinMap names_cmp Flattened → Place → Option (ℕ × ℕ)

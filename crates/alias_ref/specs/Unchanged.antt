@@ -4,7 +4,7 @@ use Rattle.std.specs.FinMap as flat_map
 use Rattle.std.specs.Option.{option_eq}
 use Rattle.std.specs.Str.{bytes_eq}
 use Rattle.tk_io.specs.Order.{names_cmp}
-use Rattle.ring.specs.Routes.{In}
+use Rattle.ring.specs.Lists.{In}
 use Rattle.name_path.specs.Kinds.{kind_name}
 use Rattle.name_path.specs.declared.kind.Kind.{Kind}
 use Rattle.token_tree.specs.declared.mark.Mark.{Mark}

@@ -24,13 +24,13 @@ ends_at p = record { seen = []; ends = Some p }
 abbrev pub no_end : Way
 no_end = record { seen = []; ends = None }
 
-abbrev pub joined : List Visit → Way → Way
-joined xs w = record { seen = xs ++ w.seen; ends = w.ends }
+abbrev pub after_visits : List Visit → Way → Way
+after_visits xs w = record { seen = xs ++ w.seen; ends = w.ends }
 
 -- goes on from the end of a way
 abbrev pub goes_on : List Visit → Option Place → (Place → Way) → Way
 goes_on xs None next = record { seen = xs; ends = None }
-goes_on xs (Some q) next = joined xs (next q)
+goes_on xs (Some q) next = after_visits xs (next q)
 
 abbrev pub then_go : Way → (Place → Way) → Way
 then_go w next = goes_on w.seen w.ends next
@@ -82,7 +82,7 @@ unless_stands false w = w
 unfoldable pub pass_visits : Tokens → ℕ → List Place → Place → Way
 pass_visits T zero b p = record { seen = visit b p ∷ []; ends = None }
 pass_visits T (suc n) b p =
-    joined (visit b p ∷ []) (unless_stands (is_some (since p b)) (pass_written T (settle_by T (pass_visits T n (b ++ p ∷ []))) p (T p)))
+    after_visits (visit b p ∷ []) (unless_stands (is_some (since p b)) (pass_written T (settle_by T (pass_visits T n (b ++ p ∷ []))) p (T p)))
 
 -- the visits of each part, in order
 unfoldable pub visits_each : (Place → List Visit) → Place → List Step → List Visit
@@ -107,13 +107,13 @@ walk_visits T (suc n) b p =
     visit b p ∷ (if is_some (since p b) then [] else walk_written T (settle_by T (pass_visits T n (b ++ p ∷ []))) (walk_visits T n (b ++ p ∷ [])) p (T p))
 
 -- A break: its rule, its place, and the ring that closes, which is empty for the other rules.
-pub record Break : Type 0 where
+pub record RefBreak : Type 0 where
   pub rule : RefRule
   pub place : Place
   pub ring : List Place
 
-abbrev pub breaks : RefRule → Place → Break
-breaks rule place = record { rule = rule; place = place; ring = [] }
+abbrev pub ref_break : RefRule → Place → RefBreak
+ref_break rule place = record { rule = rule; place = place; ring = [] }
 
 -- how many places may stand on a branch before a visit
 abbrev pub most_places : ℕ
@@ -124,25 +124,25 @@ abbrev pub most_visits : ℕ
 most_visits = 1024
 
 -- The break of a visit that has n visits before it and this ring on its branch.
-abbrev pub break_if : Tokens → ℕ → List Place → Place → Option (List Place) → Option Break
+abbrev pub break_if : Tokens → ℕ → List Place → Place → Option (List Place) → Option RefBreak
 break_if T n b p (Some ring) = Some (record { rule = rule.Cycle; place = p; ring = ring })
 break_if T n b p None =
-    if nat_le most_places (length b) then Some (breaks rule.Deep p)
-    else if nat_le most_visits n then Some (breaks rule.Big p)
-    else if is_misspelled (T p) then Some (breaks rule.RefSyntax p)
+    if nat_le most_places (length b) then Some (ref_break rule.Deep p)
+    else if nat_le most_visits n then Some (ref_break rule.Big p)
+    else if is_misspelled (T p) then Some (ref_break rule.RefSyntax p)
     else None
 
 -- the break of a visit that has n visits before it
-abbrev pub own_break : Tokens → ℕ → Visit → Option Break
+abbrev pub own_break : Tokens → ℕ → Visit → Option RefBreak
 own_break T n (visit b p) = break_if T n b p (since p b)
-own_break T n (lost p) = Some (breaks rule.RefTarget p)
+own_break T n (lost p) = Some (ref_break rule.RefTarget p)
 
-abbrev pub or_else : Option Break → Option Break → Option Break
+abbrev pub or_else : Option RefBreak → Option RefBreak → Option RefBreak
 or_else (Some x) y = Some x
 or_else None y = y
 
 -- the first break, where n visits come before these
-unfoldable pub first_break : Tokens → ℕ → List Visit → Option Break
+unfoldable pub first_break : Tokens → ℕ → List Visit → Option RefBreak
 first_break T n [] = None
 first_break T n (e ∷ es) = or_else (own_break T n e) (first_break T (n + 1) es)
 
@@ -154,5 +154,5 @@ unfoldable pub passed : Tokens → List Place → Place → Way
 passed T b p = pass_visits T (most_places - length b) b p
 
 -- the first break of a token's walk
-abbrev pub walk_break : Tokens → List Step → Option Break
+abbrev pub walk_break : Tokens → List Step → Option RefBreak
 walk_break T token = first_break T 0 (walked T [] (whole token))

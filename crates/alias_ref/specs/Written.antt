@@ -70,21 +70,21 @@ abbrev pub Parts : Type 0
 Parts = List (Step × Placed)
 
 -- items under their indices in decimal digits, from this index on
-abbrev pub numbered : ℕ → List Placed → Parts
-numbered i [] = []
-numbered i (n ∷ ns) = (decimal i, n) ∷ numbered (i + 1) ns
+abbrev pub parts_by_index : ℕ → List Placed → Parts
+parts_by_index i [] = []
+parts_by_index i (n ∷ ns) = (decimal i, n) ∷ parts_by_index (i + 1) ns
 
 -- members under their names
-abbrev pub named : List Entry → Parts
-named es = map (λ e. (e.name, e.value)) es
+abbrev pub parts_by_name : List Entry → Parts
+parts_by_name es = map (λ e. (e.name, e.value)) es
 
 abbrev pub parts_of : Tree → Parts
 parts_of a_null = []
 parts_of (a_boolean b) = []
 parts_of (a_number k) = []
 parts_of (a_string s) = []
-parts_of (an_array ns) = numbered 0 (elements_in ns)
-parts_of (an_object ms) = named (entries_in ms)
+parts_of (an_array ns) = parts_by_index 0 (elements_in ns)
+parts_of (an_object ms) = parts_by_name (entries_in ms)
 
 abbrev pub steps_of : Parts → List Step
 steps_of ps = map (λ p. p.0) ps
@@ -95,13 +95,13 @@ part_under s [] = None
 part_under s (p ∷ ps) = if bytes_eq p.0 s then Some p.1 else part_under s ps
 
 -- the item of this index or the member of this name
-abbrev pub part_at : Placed → Step → Option Placed
-part_at n s = part_under s (parts_of (tree_of n))
+abbrev pub part_behind : Placed → Step → Option Placed
+part_behind n s = part_under s (parts_of (tree_of n))
 
 -- the value to which the steps lead
 unfoldable pub value_at : Placed → List Step → Option Placed
 value_at n [] = Some n
-value_at n (s ∷ trail) = option_and_then (λ m. value_at m trail) (part_at n s)
+value_at n (s ∷ trail) = option_and_then (λ m. value_at m trail) (part_behind n s)
 
 -- References among values.
 
@@ -115,14 +115,14 @@ pub data Role : Type 0 where
   of_token : Role
 
 -- a text that is a reference
-abbrev pub spelled : Option Place → Written
-spelled (Some place) = refers place.token place.trail
-spelled None = misspelled
+abbrev pub reference_written : Option Place → Written
+reference_written (Some place) = refers place.token place.trail
+reference_written None = misspelled
 
 abbrev pub text_written : Role → List ℕ → Written
-text_written of_value text = if is_curly text then spelled (option_map whole (alias_named text)) else leaf (plain_string text)
+text_written of_value text = if is_curly text then reference_written (option_map whole (alias_named text)) else leaf (plain_string text)
 text_written of_ref text = leaf (plain_string text)
-text_written of_token text = spelled (place_named text)
+text_written of_token text = reference_written (place_named text)
 
 -- the place that the value of a `$ref` names
 abbrev pub pointed : Tree → Option Place
@@ -140,14 +140,14 @@ object_pointed (e ∷ []) = pointed (tree_of e.value)
 object_pointed (e ∷ f ∷ es) = None
 
 abbrev pub object_written : List Entry → Written
-object_written es = if has (codes "$ref") es then spelled (object_pointed es) else parts object (steps_of (named es))
+object_written es = if has (codes "$ref") es then reference_written (object_pointed es) else parts object (steps_of (parts_by_name es))
 
 abbrev pub written_as : Role → Tree → Written
 written_as role a_null = leaf plain_null
 written_as role (a_boolean b) = leaf (plain_boolean b)
 written_as role (a_number k) = leaf (plain_number k)
 written_as role (a_string text) = text_written role text
-written_as role (an_array ns) = parts array (steps_of (numbered 0 (elements_in ns)))
+written_as role (an_array ns) = parts array (steps_of (parts_by_index 0 (elements_in ns)))
 written_as role (an_object ms) = object_written (entries_in ms)
 
 -- the role of a string behind a step

@@ -5,7 +5,7 @@ ghost use Rattle.json_span.specs.Tree.{Tree, string_in, array_in, object_in};
 ghost use Rattle.json_span.specs.PlainView.{plain_view};
 ghost use Rattle.token_tree.specs.Shape.{has};
 ghost use Rattle.alias_ref.specs.References.{is_curly, alias_named, place_named};
-ghost use Rattle.alias_ref.specs.Written.{Role, of_value, of_token, spelled, whole, named, text_written, object_pointed, object_written, written_as, is_misspelled, is_reference, part_under};
+ghost use Rattle.alias_ref.specs.Written.{Role, of_value, of_token, reference_written, whole, parts_by_name, text_written, object_pointed, object_written, written_as, is_misspelled, is_reference, part_under};
 ghost use Rattle.alias_ref.specs.inner.Contents.{content_view, content_parts, IsContent, role_of};
 ghost use Rattle.json_span.specs.View.{ref_view, json_view, fields_view};
 
@@ -38,7 +38,7 @@ fn is_curly(text: &str) -> bool
 
 /// The reference that a pointer spells.
 fn pointed<'a, 's>(alloc: Global, text: &Text<'s>) -> Result<Content<'a, 's>, NoMemory>
-    ensures written { IfOk result (λ c. content_view c ≡ spelled (place_named text.now)) }
+    ensures written { IfOk result (λ c. content_view c ≡ reference_written (place_named text.now)) }
     ensures parts { IfOk result (λ c. content_parts c ≡ []) }
 {
     match read_pointer(alloc, text) {
@@ -51,7 +51,7 @@ fn pointed<'a, 's>(alloc: Global, text: &Text<'s>) -> Result<Content<'a, 's>, No
 /// The reference that a curly alias spells.
 fn aliased<'a, 's>(alloc: Global, text: &Text<'s>) -> Result<Content<'a, 's>, NoMemory>
     ensures written { IfOk result (λ c. content_view c
-        ≡ spelled (option_map whole (alias_named text.now))) }
+        ≡ reference_written (option_map whole (alias_named text.now))) }
     ensures parts { IfOk result (λ c. content_parts c ≡ []) }
 {
     match read_curly(alloc, text) {
@@ -96,7 +96,7 @@ fn object_content<'a, 's>(
     ensures written { IfOk result (λ c. content_view c
         ≡ object_written (fields_view fields.entry)) }
     ensures parts { IfOk result (λ c. is_reference (Some (content_view c)) ≡ false
-        → content_parts c ≡ named (fields_view fields.entry)) }
+        → content_parts c ≡ parts_by_name (fields_view fields.entry)) }
 {
     let Some(node) = fields.get("$ref") else {
         return Ok(Content::Object(fields));

@@ -16,16 +16,16 @@ pub enum RefRule {
     RefTarget,
     /// References lead in a ring.
     Cycle,
-    /// A place stands behind 256 others.
+    /// A place stands after 256 others on its branch.
     Deep,
-    /// A place is visited behind 1,024 others.
+    /// A place is visited after 1,024 others.
     Big,
     /// Nothing gives the token a kind.
     NoType,
 }
 
 /// Why a token has no value.
-#[derive(Drop)]
+#[derive(Debug, Drop)]
 pub enum RefFault<'s> {
     /// The first rule that the token breaks.
     Broken {

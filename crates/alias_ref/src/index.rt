@@ -2,7 +2,7 @@
 
 ghost use Rattle.std.specs.Prelude.{◌≡◌, ◌≢◌, ◌<◌, ◌^◌, ℕ, length, slice_get, option_map, IfOk, IfSome, IfNone};
 ghost use Rattle.std.specs.Fmt.{decimal};
-ghost use Rattle.alias_ref.specs.Written.{numbered, part_under};
+ghost use Rattle.alias_ref.specs.Written.{parts_by_index, part_under};
 ghost use Rattle.json_span.specs.View.{ref_view, items_view};
 
 use itoa::Buffer;
@@ -43,7 +43,7 @@ fn nth<'a, 's>(items: Items<'a, 's>, i: usize) -> Option<NodeRef<'a, 's>>
 pub(crate) fn item<'a, 's>(items: Items<'a, 's>, step: &str) -> Option<NodeRef<'a, 's>>
     requires { length (items_view items) < 2 ^ 64 }
     ensures { option_map ref_view result
-        ≡ part_under step.now (numbered 0 (items_view items.entry)) }
+        ≡ part_under step.now (parts_by_index 0 (items_view items.entry)) }
 {
     let i = index_of(step)?;
     nth(items, i)

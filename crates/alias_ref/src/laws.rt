@@ -27,7 +27,7 @@ pub fn breaks_are_real()
 {}
 
 /// A token without a break means something; whatever its walk visits is new on its branch, spelled well, and leads
-/// somewhere where it is a reference; and at most 256 links stand one behind the other in it. It has a kind, or none, and
+/// somewhere where it is a reference; and at most 256 links follow one another in it. It has a kind, or none, and
 /// links.
 pub fn unbroken_tokens()
     ensures meaning { UnbrokenMeans }

@@ -49,10 +49,8 @@ fn append_plain(out: &mut Bytes, plain: &Plain<'_>, room: usize) -> Result<(), N
 #[cycle(printing)]
 fn append_items(out: &mut Bytes, items: &PlainItems<'_>, room: usize) -> Result<(), NoMemory> {
     out.append(b"[")?;
-    for i in 0..items.len() {
-        if let Some(item) = items.at(i) {
-            append_plain(out, item, room)?;
-        }
+    for item in items.as_slice() {
+        append_plain(out, item, room)?;
         out.append(b",")?;
     }
     out.append(b"]")
@@ -61,12 +59,10 @@ fn append_items(out: &mut Bytes, items: &PlainItems<'_>, room: usize) -> Result<
 #[cycle(printing)]
 fn append_fields(out: &mut Bytes, fields: &PlainFields<'_>, room: usize) -> Result<(), NoMemory> {
     out.append(b"{")?;
-    for i in 0..fields.len() {
-        if let Some(field) = fields.at(i) {
-            out.append(field.name.as_str().as_bytes())?;
-            out.append(b":")?;
-            append_plain(out, &field.value, room)?;
-        }
+    for field in fields.as_slice() {
+        out.append(field.name.as_str().as_bytes())?;
+        out.append(b":")?;
+        append_plain(out, &field.value, room)?;
         out.append(b",")?;
     }
     out.append(b"}")
@@ -128,7 +124,7 @@ fn append_number(out: &mut Bytes, number: usize) -> Result<(), NoMemory> {
 
 fn append_span<'s>(out: &mut Bytes, flat: &Flat<'s>, place: &Place<'s>) -> Result<(), NoMemory> {
     if flat.get(&place.token).is_none() {
-        return Ok(());
+        return out.append(b" nowhere");
     }
     let (start, end) = span_of(flat, place);
     out.append(b" ")?;
@@ -154,11 +150,11 @@ fn append_answer<'s, L: Ledger>(
     path: &Path<'s>,
     evals: &mut Steps<L>,
 ) -> Result<(), NoMemory> {
-    let Some(entry) = flat.get(path) else {
-        return Ok(());
-    };
     print_path(path, out)?;
     out.append(b" ")?;
+    let Some(entry) = flat.get(path) else {
+        return out.append(b"nowhere");
+    };
     let answer = evaluate(alloc, flat, path, evals);
     match answer {
         Ok(resolved) => append_resolved(out, &resolved)?,
@@ -230,26 +226,26 @@ fn answers_the_tokens_of_the_fourth_trees(rt: HostRuntime) -> Result<(), Fail> {
 /// Tokens each but the last of which is an alias of the next.
 fn chain(alloc: Global, last: usize) -> Result<Bytes, NoMemory> {
     let mut out = Bytes::new(alloc);
-    out.append(b"{\"$type\":\"number\"")?;
+    out.append(br#"{"$type":"number""#)?;
     for i in 0..last {
-        out.append(b",\"n")?;
+        out.append(br#","n"#)?;
         append_number(&mut out, i)?;
-        out.append(b"\":{\"$value\":\"{n")?;
+        out.append(br#"":{"$value":"{n"#)?;
         append_number(&mut out, i + 1)?;
-        out.append(b"}\"}")?;
+        out.append(br#"}"}"#)?;
     }
-    out.append(b",\"n")?;
+    out.append(br#","n"#)?;
     append_number(&mut out, last)?;
-    out.append(b"\":{\"$value\":1}}")?;
+    out.append(br#"":{"$value":1}}"#)?;
     Ok(out)
 }
 
 /// A token with one text and so many more.
 fn texts(alloc: Global, more: usize) -> Result<Bytes, NoMemory> {
     let mut out = Bytes::new(alloc);
-    out.append(b"{\"f\":{\"$type\":\"fontFamily\",\"$value\":[\"x\"")?;
+    out.append(br#"{"f":{"$type":"fontFamily","$value":["x""#)?;
     for _ in 0..more {
-        out.append(b",\"x\"")?;
+        out.append(br#","x""#)?;
     }
     out.append(b"]}}")?;
     Ok(out)
@@ -258,17 +254,17 @@ fn texts(alloc: Global, more: usize) -> Result<Bytes, NoMemory> {
 /// A token that would need more than two to the power of so many visits.
 fn doubling(alloc: Global, power: usize) -> Result<Bytes, NoMemory> {
     let mut out = Bytes::new(alloc);
-    out.append(b"{\"c\":{\"$type\":\"number\",\"$value\":{\"$ref\":\"#/z/$value/x")?;
+    out.append(br##"{"c":{"$type":"number","$value":{"$ref":"#/z/$value/x"##)?;
     append_number(&mut out, power)?;
-    out.append(b"/n\"}},\"z\":{\"$value\":{\"n\":1,\"x0\":{\"$ref\":\"#/z/$value\"}")?;
+    out.append(br##"/n"}},"z":{"$value":{"n":1,"x0":{"$ref":"#/z/$value"}"##)?;
     for i in 0..power {
-        out.append(b",\"x")?;
+        out.append(br#","x"#)?;
         append_number(&mut out, i + 1)?;
-        out.append(b"\":{\"$ref\":\"#/z/$value/x")?;
+        out.append(br##"":{"$ref":"#/z/$value/x"##)?;
         append_number(&mut out, i)?;
         out.append(b"/x")?;
         append_number(&mut out, i)?;
-        out.append(b"\"}")?;
+        out.append(br#""}"#)?;
     }
     out.append(b"}}}")?;
     Ok(out)

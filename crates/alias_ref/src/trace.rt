@@ -3,7 +3,7 @@
 ghost use Rattle.std.specs.Prelude.{◌≡◌, ◌≤◌, ◌+◌, ◌∷◌, ◌++◌, [], ℕ, List, Contains, length, drop, map, Some, IfOk, OnOk, false};
 ghost use Rattle.name_path.specs.declared.place.Place.{Place};
 ghost use Rattle.alias_ref.specs.Written.{Tokens};
-ghost use Rattle.alias_ref.specs.Visits.{visit, since, breaks};
+ghost use Rattle.alias_ref.specs.Visits.{visit, since, ref_break};
 ghost use Rattle.alias_ref.specs.inner.Contents.{content_view};
 ghost use Rattle.alias_ref.specs.inner.Seen.{IsFault, HasBegun};
 ghost use Rattle.alias_ref.specs.inner.Spots.{start_in, HasStarts};
@@ -32,7 +32,7 @@ pub(crate) struct Trace<'s> {
 
 /// A break of the rule at the place.
 pub(crate) fn broken<'s>(alloc: Global, rule: RefRule, place: &Place<'s>) -> RefFault<'s>
-    ensures { IsFault result (Some (breaks rule place.now)) }
+    ensures { IsFault result (Some (ref_break rule place.now)) }
 {
     match place.copy() {
         Ok(place) => RefFault::Broken {
@@ -64,8 +64,8 @@ fn ring_from<'s>(
 ) -> Result<Option<Ring<'s>>, NoMemory>
     ensures { IfOk result (λ ring. ring ≡ since place.now places.now) }
 {
-    for i in 0..places.len() {
-        if places[i] == *place {
+    for (i, other) in places.iter().enumerate() {
+        if *other == *place {
             return Ok(Some(rest_of(alloc, places, i)?));
         }
     }

@@ -4,7 +4,7 @@ ghost use Rattle.std.specs.Prelude.{◌≡◌, ◌≤◌, ◌++◌, length, Some
 ghost use Rattle.json_span.specs.View.{ref_view};
 ghost use Rattle.alias_ref.specs.Written.{is_misspelled, part};
 ghost use Rattle.alias_ref.specs.inner.Contents.{content_view};
-ghost use Rattle.alias_ref.specs.inner.Linking.{kind_with, lent, added};
+ghost use Rattle.alias_ref.specs.inner.Linking.{kind_with, lent, links_added};
 ghost use Rattle.alias_ref.specs.inner.Spots.{IsSpot, IsHolder, IsPartAt, HasStarts, IsSameBranch};
 ghost use Rattle.alias_ref.specs.inner.Walks.{walking, walking_on, walking_parts, HasSeen, IsMeantAt};
 ghost use Rattle.alias_ref.specs.inner.Walks.{IsKindAt, HasLinks, HasLinksOf, item_parts, field_parts};
@@ -49,7 +49,7 @@ fn refer<'s>(
     ensures kind { IfOk result (λ o. o.kind
         ≡ kind_with token.now (lent found.entry.kind named.entry.trail)) }
     ensures links { OnOk result (links.new ≡ links.old
-        ++ added own place.now named.entry.token found.entry.kind named.entry.trail) }
+        ++ links_added own place.now named.entry.token found.entry.kind named.entry.trail) }
 {
     let kind = found.kind;
     if named.trail.len() > 0 {
@@ -243,7 +243,8 @@ fn walk_part<'a, 's>(
     ensures seen { HasSeen flat.entry.now trace.old trace.new result
         (walking (part place.now step.now)) }
     ensures means { IfOk result (λ v. IsMeantAt flat.entry.now (part place.now step.now) v) }
-    ensures links { OnOk result (HasLinks own flat.entry.now (part place.now step.now) links.old links.new) }
+    ensures links { OnOk result
+        (HasLinks own flat.entry.now (part place.now step.now) links.old links.new) }
     ensures branch { OnOk result (IsSameBranch trace.old trace.new) }
 {
     let spot = part_spot(alloc, place, token, step, node)?;

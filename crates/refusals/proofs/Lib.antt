@@ -1,2 +1,2 @@
-pub mod Refusals
+mod Refusals
 pub mod Reports

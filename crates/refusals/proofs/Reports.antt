@@ -4,12 +4,12 @@ use Rattle.std.proofs.lemmas.List.{append-nil, take_more, flat_map_more}
 use Rattle.std.proofs.lemmas.List.Folds.{flat_map-map}
 use Rattle.name_path.specs.declared.place.Place.{Place}
 use Rattle.tk_io.specs.FilesData.{FilesData}
-use Rattle.refusals.specs.Refusal.{Detail, ring_group, ring_place, ring_set, detail_line, detail_lines, refusal_text, report, report_text, text_at}
+use Rattle.refusals.specs.Refusal.{Detail, ring_group, ring_place, ring_set, detail_line, detail_lines, refusal_text, report, report_text, file_text}
 use Rattle.refusals.specs.declared.rule.Rule.{Rule}
 
 module _ (files : FilesData) (rule : Rule) (file : List ℕ) (start end : ℕ) where
   -- nothing else is said
-  pub bare : (text b : List ℕ) → text ≡ text_at files file → b ≡ refusal_text rule file text start end → b ≡ report_text files (report rule file start end [])
+  pub bare : (text b : List ℕ) → text ≡ file_text files file → b ≡ refusal_text rule file text start end → b ≡ report_text files (report rule file start end [])
   unfolding report_text
   bare text b there is = is ∙ (ap (λ t. refusal_text rule file t start end) there ∙ sym (append-nil _))
 

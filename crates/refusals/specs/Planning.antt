@@ -20,7 +20,7 @@ plan_report (breaks told ring) = report (rule.Plan told.rule) resolver_path told
 plan_report (too_many start end n) = report rule.PlanPermutations resolver_path start end (counted n ∷ [])
 plan_report (too_many_sources start end n) = report rule.PlanSources resolver_path start end (counted n ∷ [])
 
--- the break that a refusal tells; want of memory is none
+-- the break that a refusal tells; out of memory is none
 abbrev pub break_of : PlanRefusal → Option PlanBreak
 break_of (Syntax at) = Some (stopped at)
 break_of (Duplicate start end) = Some (has_flaw (equal_names start end))

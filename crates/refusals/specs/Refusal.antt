@@ -3,6 +3,7 @@ use Rattle.std.specs.Prelude.{ℕ, ◌+◌, ◌==◌, not, List, [], ◌∷◌, 
 use Rattle.std.specs.FinMap as finite
 use Rattle.std.specs.Fmt.{decimal}
 use Rattle.std.specs.List.{suffix_len}
+use Rattle.tk_io.specs.Characters.{newline}
 use Rattle.tk_io.specs.FilesData.{FilesData}
 use Rattle.json_span.specs.Spelling.{string_text}
 use Rattle.name_path.specs.Reference.{pointer_text, path_text, place_text}
@@ -75,11 +76,11 @@ rule_name rule.NameClash = codes "name-clash"
 
 -- one plus the newlines before the place
 abbrev pub line_of : List ℕ → ℕ → ℕ
-line_of text start = count_by (λ b. b == 10) (take start text) + 1
+line_of text start = count_by (λ b. b == newline) (take start text) + 1
 
 -- one plus the bytes behind the last of them
 abbrev pub column_of : List ℕ → ℕ → ℕ
-column_of text start = suffix_len (λ b. not (b == 10)) (take start text) + 1
+column_of text start = suffix_len (λ b. not (b == newline)) (take start text) + 1
 
 -- by the rule, the file, its text and a span in it
 unfoldable pub refusal_text : Rule → List ℕ → List ℕ → ℕ → ℕ → List ℕ
@@ -144,9 +145,9 @@ abbrev pub report : Rule → List ℕ → ℕ → ℕ → List Detail → Report
 report rule file start end details = record { rule = rule; file = file; start = start; end = end; details = details }
 
 -- the text of a file; of an absent one it is empty
-abbrev pub text_at : FilesData → List ℕ → List ℕ
-text_at files file = unwrap_or (finite.get files file) []
+abbrev pub file_text : FilesData → List ℕ → List ℕ
+file_text files file = unwrap_or (finite.get files file) []
 
 -- what is printed of it, with its line and column in the file's text
 unfoldable pub report_text : FilesData → Report → List ℕ
-report_text files r = refusal_text r.rule r.file (text_at files r.file) r.start r.end ++ detail_lines r.details
+report_text files r = refusal_text r.rule r.file (file_text files r.file) r.start r.end ++ detail_lines r.details

@@ -8,7 +8,7 @@ mod rule;
 pub use planning::plan_text;
 pub use refusal::{
     append_count, append_key, append_lost_group, append_other, append_place, append_platform,
-    append_ring_groups, append_ring_places, append_ring_sets, append_token, refuse, refuse_span,
-    text_at,
+    append_ring_groups, append_ring_places, append_ring_sets, append_token, file_text, refuse,
+    refuse_span,
 };
 pub use rule::{CellRule, Rule};

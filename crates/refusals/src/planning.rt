@@ -39,7 +39,8 @@ fn broken_text(
     ring: &Trail<'_>,
 ) -> Result<Bytes, NoMemory>
     ensures { IfOk result (λ b. b
-        ≡ report_text files.now (plan_report (breaks (record { rule = rule; start = start; end = end }) ring.now))) }
+        ≡ report_text files.now
+        (plan_report (breaks (record { rule = rule; start = start; end = end }) ring.now))) }
 {
     let mut out = refused(alloc, files, Rule::Plan(rule), start, end)?;
     append_ring_sets(alloc, &mut out, ring)?;

@@ -2,7 +2,7 @@
 ghost use Rattle.std.specs.Prelude.{◌≡◌, ◌+◌, ◌++◌, ◌∷◌, [], IfOk, OnOk, codes, take, flat_map};
 ghost use Rattle.std.specs.Fmt.{decimal};
 ghost use Rattle.name_path.specs.Reference.{path_text, place_text, pointer_text};
-ghost use Rattle.refusals.specs.Refusal.{rule_name, line_of, column_of, refusal_text, text_at, report, report_text, quoted_line, platform_name, detail_line, lost_group, ring_group, counted, of_token, at_place, ring_place, other_token, on_platform, of_key, ring_set};
+ghost use Rattle.refusals.specs.Refusal.{rule_name, line_of, column_of, refusal_text, file_text, report, report_text, quoted_line, platform_name, detail_line, lost_group, ring_group, counted, of_token, at_place, ring_place, other_token, on_platform, of_key, ring_set};
 
 use crate::rule::Rule;
 use file_plan::Files;
@@ -106,8 +106,8 @@ fn refusal_text(
 }
 
 /// The text of a file; of an absent one it is empty.
-pub fn text_at<'s>(files: &Files<'s>, file: &str) -> &'s str
-    ensures { result.now ≡ text_at files.now file.now }
+pub fn file_text<'s>(files: &Files<'s>, file: &str) -> &'s str
+    ensures { result.now ≡ file_text files.now file.now }
 {
     files.get(file).unwrap_or("")
 }
@@ -123,7 +123,7 @@ pub fn refuse(
 ) -> Result<Bytes, NoMemory>
     ensures { IfOk result (λ b. b ≡ report_text files.now (report rule file.now start end [])) }
 {
-    refusal_text(alloc, rule, file, text_at(files, file), start, end)
+    refusal_text(alloc, rule, file, file_text(files, file), start, end)
 }
 
 /// The same of a span with its file.

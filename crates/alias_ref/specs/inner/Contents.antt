@@ -2,22 +2,22 @@
 use Rattle.std.specs.Prelude.{◌≡◌, List, [], Bool, true, false, Some}
 use Rattle.json_span.specs.Tree.{Tree, Placed}
 use Rattle.json_span.specs.PlainView.{plain_view}
-use Rattle.alias_ref.specs.Written.{Written, leaf, parts, refers, misspelled, array, object, Parts, numbered, named, parts_of, steps_of, Role, of_value, of_token, written_as, is_reference}
+use Rattle.alias_ref.specs.Written.{Written, leaf, parts, refers, misspelled, array, object, Parts, parts_by_index, parts_by_name, parts_of, steps_of, Role, of_value, of_token, written_as, is_reference}
 use Rattle.json_span.specs.View.{items_view, fields_view}
 use Rattle.alias_ref.specs.declared.content.Content.{Content}
 use Rattle.alias_ref.specs.declared.content.Content.TheVariants as content
 
 abbrev pub content_view : Content → Written
 content_view (content.Leaf v) = leaf (plain_view v)
-content_view (content.Array items) = parts array (steps_of (numbered 0 (items_view items)))
-content_view (content.Object fields) = parts object (steps_of (named (fields_view fields)))
+content_view (content.Array items) = parts array (steps_of (parts_by_index 0 (items_view items)))
+content_view (content.Object fields) = parts object (steps_of (parts_by_name (fields_view fields)))
 content_view (content.Refers place) = refers place.token place.trail
 content_view content.Misspelled = misspelled
 
 abbrev pub content_parts : Content → Parts
 content_parts (content.Leaf v) = []
-content_parts (content.Array items) = numbered 0 (items_view items)
-content_parts (content.Object fields) = named (fields_view fields)
+content_parts (content.Array items) = parts_by_index 0 (items_view items)
+content_parts (content.Object fields) = parts_by_name (fields_view fields)
 content_parts (content.Refers place) = []
 content_parts content.Misspelled = []
 

@@ -21,6 +21,6 @@ link_here p token k [] = record { trail = p.trail; target = token; kind = k } �
 link_here p token k (s ∷ steps) = []
 
 -- .. which is listed where it is written in the token's own value
-abbrev pub added : Bool → Place → List Step → Option Kind → List Step → List Link
-added true p token k steps = link_here p token k steps
-added false p token k steps = []
+abbrev pub links_added : Bool → Place → List Step → Option Kind → List Step → List Link
+links_added true p token k steps = link_here p token k steps
+links_added false p token k steps = []

@@ -2,17 +2,17 @@
 use Rattle.std.specs.Prelude.{◌≡◌, ℕ, ◌+◌, List, length, true, Option, Some, None, Result, Ok, Err, MatchResult, [], ◌∷◌}
 use Rattle.name_path.specs.declared.place.Place.{Place}
 use Rattle.alias_ref.specs.Written.{Step, Container, parts, Tokens, part, is_written}
-use Rattle.alias_ref.specs.Visits.{Visit, Break, own_break, first_break}
+use Rattle.alias_ref.specs.Visits.{Visit, RefBreak, own_break, first_break}
 use Rattle.alias_ref.specs.declared.fault.RefFault.{RefFault}
 use Rattle.alias_ref.specs.declared.fault.RefFault.TheVariants as faults
 
--- no visit breaks, and m counts them behind the n before
+-- no visit breaks, and m counts them after the n before
 pub record Clean (T : Tokens) (n m : ℕ) (es : List Visit) : Type 0 where
   pub unbroken : first_break T n es ≡ None
   pub counted : m ≡ n + length es
 
 -- The fault is this break, unless memory ran out.
-abbrev pub IsFault : RefFault → Option Break → Type 0
+abbrev pub IsFault : RefFault → Option RefBreak → Type 0
 IsFault (faults.Broken r p ring) b = b ≡ Some (record { rule = r; place = p; ring = ring })
 IsFault faults.NoMemory b = Unit {0}
 

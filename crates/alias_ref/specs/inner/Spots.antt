@@ -3,10 +3,10 @@ use Rattle.std.specs.Prelude.{◌≡◌, ℕ, ◌<◌, ◌^◌, List, ◌++◌, 
 use Rattle.std.specs.FinMap as flat_map
 use Rattle.name_path.specs.declared.link.Link.{Link}
 use Rattle.name_path.specs.declared.place.Place.{Place}
-use Rattle.json_span.specs.Tree.{Tree, a_null, a_boolean, a_number, a_string, an_array, an_object, Placed, placed, Elements, no_elements, element, Members, no_members, member, tree_of, start_of, elements_in, entries_in}
+use Rattle.json_span.specs.Tree.{Tree, a_null, a_boolean, a_number, a_string, an_array, an_object, Placed, placed, Elements, no_elements, an_element, Members, no_members, a_member, tree_of, start_of, elements_in, entries_in}
 use Rattle.json_span.specs.Flaw.{flaw_in}
 use Rattle.group_inherit.specs.Flattening.{Flattened}
-use Rattle.alias_ref.specs.Written.{Step, of_value, Tokens, Parts, parts_of, part_at, value_at, is_reference, written_as, role_behind, role_at}
+use Rattle.alias_ref.specs.Written.{Step, of_value, Tokens, Parts, parts_of, part_behind, value_at, is_reference, written_as, role_behind, role_at}
 use Rattle.alias_ref.specs.Kinds.{Kinds, LinksAt, LinksEach}
 use Rattle.alias_ref.specs.Laws.{Flat}
 use Rattle.alias_ref.specs.inner.Contents.{IsContent}
@@ -14,60 +14,60 @@ use Rattle.alias_ref.specs.declared.spot.Spot.{Spot}
 use Rattle.alias_ref.specs.declared.trace.Trace.{Trace}
 
 -- the token and the value at a place
-pub record Stands (flat : Flat) (p : Place) (f : Flattened) (n : Placed) : Type 0 where
+pub record IsValueAt (flat : Flat) (p : Place) (f : Flattened) (n : Placed) : Type 0 where
   pub token : flat_map.get flat p.token ≡ Some f
   pub value : value_at f.def.value p.trail ≡ Some n
 
 -- each array and object has fewer parts than a text may have bytes
 abbrev mutual
-  pub IsShort : Placed → Type 0
-  IsShort (placed v start end) = IsShortTree v
+  pub HasFewParts : Placed → Type 0
+  HasFewParts (placed v start end) = TreeHasFewParts v
 
-  pub IsShortTree : Tree → Type 0
-  IsShortTree a_null = Unit {0}
-  IsShortTree (a_boolean b) = Unit {0}
-  IsShortTree (a_number k) = Unit {0}
-  IsShortTree (a_string s) = Unit {0}
-  IsShortTree (an_array ns) = (length (elements_in ns) < 2 ^ 64) × AreShort ns
-  IsShortTree (an_object ms) = (length (entries_in ms) < 2 ^ 64) × MembersShort ms
+  pub TreeHasFewParts : Tree → Type 0
+  TreeHasFewParts a_null = Unit {0}
+  TreeHasFewParts (a_boolean b) = Unit {0}
+  TreeHasFewParts (a_number k) = Unit {0}
+  TreeHasFewParts (a_string s) = Unit {0}
+  TreeHasFewParts (an_array ns) = (length (elements_in ns) < 2 ^ 64) × ElementsHaveFewParts ns
+  TreeHasFewParts (an_object ms) = (length (entries_in ms) < 2 ^ 64) × MembersHaveFewParts ms
 
-  pub AreShort : Elements → Type 0
-  AreShort no_elements = Unit {0}
-  AreShort (element n ns) = IsShort n × AreShort ns
+  pub ElementsHaveFewParts : Elements → Type 0
+  ElementsHaveFewParts no_elements = Unit {0}
+  ElementsHaveFewParts (an_element n ns) = HasFewParts n × ElementsHaveFewParts ns
 
-  pub MembersShort : Members → Type 0
-  MembersShort no_members = Unit {0}
-  MembersShort (member s start end n ms) = IsShort n × MembersShort ms
+  pub MembersHaveFewParts : Members → Type 0
+  MembersHaveFewParts no_members = Unit {0}
+  MembersHaveFewParts (a_member s start end n ms) = HasFewParts n × MembersHaveFewParts ms
 
 -- a value of a text without a flaw
-pub record IsSound (n : Placed) : Type 0 where
+pub record IsFlawless (n : Placed) : Type 0 where
   pub room : ℕ
   pub flawless : flaw_in room n ≡ None
-  pub short : IsShort n
+  pub short : HasFewParts n
 
 -- what the spot says of its place is so
 pub record IsSpot (flat : Flat) (s : Spot) : Type 0 where
   pub value : Placed
-  pub stands : Stands flat s.place s.token.now value
+  pub stands : IsValueAt flat s.place s.token.now value
   pub start : s.start ≡ start_of value
   pub content : IsContent s.content (role_at s.token.now.def.by_ref s.place.trail) (tree_of value)
-  pub sound : IsSound value
+  pub sound : IsFlawless value
 
 -- the value is the part behind a step of what is written at the place
 pub record IsPartAt (flat : Flat) (p : Place) (f : Flattened) (s : Step) (m : Placed) : Type 0 where
   pub value : Placed
-  pub stands : Stands flat p f value
-  pub part : part_at value s ≡ Some m
+  pub stands : IsValueAt flat p f value
+  pub part : part_behind value s ≡ Some m
   pub role : role_behind s ≡ of_value
-  pub sound : IsSound m
+  pub sound : IsFlawless m
 
 -- the parts are those of what is written at the place, which is no reference
 pub record IsHolder (flat : Flat) (p : Place) (f : Flattened) (ps : Parts) : Type 0 where
   pub value : Placed
-  pub stands : Stands flat p f value
+  pub stands : IsValueAt flat p f value
   pub parts : ps ≡ parts_of (tree_of value)
   pub plain : is_reference (Some (written_as (role_at f.def.by_ref p.trail) (tree_of value))) ≡ false
-  pub sound : IsSound value
+  pub sound : IsFlawless value
 
 -- where the value at a place starts
 abbrev pub start_in : Flat → Place → ℕ

@@ -3,14 +3,14 @@ use Rattle.std.specs.Prelude.{◌≡◌, List, [], map, Bool, Option, Some, Resu
 use Rattle.name_path.specs.declared.kind.Kind.{Kind}
 use Rattle.name_path.specs.declared.link.Link.{Link}
 use Rattle.name_path.specs.declared.place.Place.{Place}
-use Rattle.json_span.specs.PlainView.{Entry, plain_view, plain_items_view, plain_fields_view}
+use Rattle.json_span.specs.PlainView.{ValueEntry, plain_view, plain_items_view, plain_fields_view}
 use Rattle.json_span.specs.View.{items_view, fields_view}
 use Rattle.json_span.specs.declared.fields.Fields.{Fields}
 use Rattle.json_span.specs.declared.items.Items.{Items}
 use Rattle.json_span.specs.declared.plain.Plain.{Plain}
 use Rattle.json_span.specs.declared.plain.PlainFields.{PlainFields}
 use Rattle.json_span.specs.declared.plain.PlainItems.{PlainItems}
-use Rattle.alias_ref.specs.Written.{Tokens, Parts, numbered, named, steps_of, written_in}
+use Rattle.alias_ref.specs.Written.{Tokens, Parts, parts_by_index, parts_by_name, steps_of, written_in}
 use Rattle.alias_ref.specs.Meaning.{Means, EachMeans}
 use Rattle.alias_ref.specs.Visits.{Visit, Way, way_of, settle_by, pass_written, passed, visits_each, walk_written, walked}
 use Rattle.alias_ref.specs.Kinds.{KindOf, own_in, group_in}
@@ -75,13 +75,13 @@ HasLinks own flat p old new = HasGrown own (written_in flat) (own_in flat) (grou
 
 -- and at its parts
 abbrev pub item_parts : Items → Parts
-item_parts items = numbered 0 (items_view items)
+item_parts items = parts_by_index 0 (items_view items)
 
 abbrev pub field_parts : Fields → Parts
-field_parts fields = named (fields_view fields)
+field_parts fields = parts_by_name (fields_view fields)
 
 abbrev pub ItemsMean : Flat → Place → Items → PlainItems → Type 0
-ItemsMean flat p items l = (es : List Entry) × EachMeans (written_in flat) p (steps_of (item_parts items)) es × (plain_items_view l ≡ map (λ e. e.value) es)
+ItemsMean flat p items l = (es : List ValueEntry) × EachMeans (written_in flat) p (steps_of (item_parts items)) es × (plain_items_view l ≡ map (λ e. e.value) es)
 
 abbrev pub FieldsMean : Flat → Place → Fields → PlainFields → Type 0
 FieldsMean flat p fields l = EachMeans (written_in flat) p (steps_of (field_parts fields)) (plain_fields_view l)

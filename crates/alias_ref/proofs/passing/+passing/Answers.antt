@@ -1,15 +1,16 @@
-use Rattle.std.proofs.Common.{◌≡◌, ◌+◌, ◌∷◌, ◌++◌, [], length, drop, Some, None, arith, refl, sym, ap, ap₂, ◌∙◌, subst, length-append}
+use Rattle.std.proofs.Common.{◌≡◌, ℕ, List, ◌+◌, ◌∷◌, ◌++◌, [], length, drop, Some, None, arith, refl, sym, ap, ap₂, ◌∙◌, subst, length-append}
 use Rattle.std.specs.Prelude.{IfOk}
 use Rattle.std.specs.FinMap as map
 use Rattle.std.proofs.lemmas.Result.{err_from_is_err_and}
+use Rattle.name_path.specs.declared.place.Place.{Place}
 use Rattle.alias_ref.specs.Written.{whole, part, is_reference, is_written, is_misspelled, refers, written_in}
-use Rattle.alias_ref.specs.Visits.{settle_by, steps_from, joined, pass_written, passed, first_break}
+use Rattle.alias_ref.specs.Visits.{settle_by, steps_from, way_of, after_visits, pass_written, passed, first_break}
 use Rattle.alias_ref.specs.inner.Contents.{content_view}
 use Rattle.alias_ref.specs.inner.Seen.{Clean, Sees, IsFault}
 use Rattle.alias_ref.specs.inner.Spots.{IsSpot, start_in}
 use Rattle.alias_ref.proofs.FirstBreaks.{clean_nil, clean_append, enters, passed-fault}
 use Rattle.alias_ref.proofs.SpotsStand.{spot_written, spot_start, spot_whole, spot_no_part, items_fit, settled_spot, stays_there}
-use Rattle.alias_ref.proofs.TracesGrow.{starts_more, none_case, some_case, not_there, drop_at, drop_all}
+use Rattle.alias_ref.proofs.TracesGrow.{starts_more, same_then, none_case, some_case, not_there, drop_at, drop_all}
 use Rattle.alias_ref.proofs.WalksInTurns.{way_lost, way_found, turn_fault, turn_lost, turn_on, turns_done, pass_fault, pass_clean, pass_ends, refers_fault, refers_then_fault, refers_clean, settle_passes, settle_stays, sees_by}
 use Rattle.alias_ref.proofs.passing.+passing.Goals as goal
 
@@ -25,31 +26,26 @@ pub follow-loop-step-init : goal.follow-loop-step-init
 follow-loop-step-init t c =
     let T = written_in c.args.flat.now in
     let settle = settle_by T (passed T c.args.trace.now.places.items) in
-    let place = some_case c.in_ok-spot.field-0 c.in-Some.spot (λ s. s.place ≡ whole c.args.named.now.token) c.in-Some.is c.in_ok-spot.ensures.place in
+    let token = c.args.named.now.token in
+    let place = some_case c.in_ok-spot.field-0 c.in-Some.spot (λ s. s.place ≡ whole token) c.in-Some.is c.in_ok-spot.ensures.place in
     let at = some_case c.in_ok-spot.field-0 c.in-Some.spot (IsSpot c.args.flat.now) c.in-Some.is c.in_ok-spot.ensures.at in
-    ([], clean_nil T c.args.trace.now.visits, ap₂ (steps_from T settle c.args.home.now) place c.as_slice-steps.ensures, at, (refl, refl))
+    let found = way_found T settle c.args.home.now token c.args.named.now.trail (spot_whole c.args.flat.now c.in-Some.spot token at place) in
+    ([], clean_nil T c.args.trace.now.visits, ap₂ (steps_from T settle c.args.home.now) place c.as_slice-steps.ensures ∙ sym found, at, (refl {A = List Place}, refl {A = List ℕ}))
 
 pub follow-returns-in_err-end-clause-seen : goal.follow-returns-in_err-end-clause-seen
 follow-returns-in_err-end-clause-seen t c =
     let T = written_in c.args.flat.now in
     let settle = settle_by T (passed T c.args.trace.now.places.items) in
     let home = c.args.home.now in
-    let token = c.args.named.now.token in
-    let trail = c.args.named.now.trail in
-    let n = c.args.trace.now.visits in
     let i = c.loop-step.step-index in
     let inv = c.loop-step.invariant in
     let ss = c.as_slice-steps.result.now in
     let s = c.step-item.result in
     let f = c.in_err-end.field-0.0 in
     let p = err_from_is_err_and c.from_residual-in_err-end.result c.from_residual-in_err-end.ensures.1 in
-    let place = some_case c.in_ok-spot.field-0 c.in-Some.spot (λ x. x.place ≡ whole token) c.in-Some.is c.in_ok-spot.ensures.place in
-    let at = some_case c.in_ok-spot.field-0 c.in-Some.spot (IsSpot c.args.flat.now) c.in-Some.is c.in_ok-spot.ensures.at in
-    let found = way_found T settle home token trail (spot_whole c.args.flat.now c.in-Some.spot token at place) in
-    let so_far = ap (λ xs. joined inv.0 (steps_from T settle home c.loop-step.spot.place xs)) (sym (drop_at ss i s (omega arith) c.step-item.is)) ∙ inv.2 in
+    let so_far = ap (λ xs. after_visits inv.0 (steps_from T settle home c.loop-step.spot.place xs)) (sym (drop_at ss i s (omega arith) c.step-item.is)) ∙ inv.2 in
     let seen = subst (λ b. IsFault f (first_break T c.loop-step.trace.visits (settle_by T (passed T b) c.loop-step.spot.place).seen)) inv.4.0 c.in_err-end.ensures.seen in
-    let turn = turn_fault T settle home (steps_from T settle home (whole token) trail) c.loop-step.spot.place s (drop (i + 1) ss) inv.0 inv.1 so_far f seen in
-    rw (p.1, p.2) (subst (λ w. IsFault f (first_break T n w.seen)) (sym found) turn)
+    rw (p.1, p.2) (turn_fault T settle home (way_of T settle home c.args.named.now.token c.args.named.now.trail) c.loop-step.spot.place s (drop (i + 1) ss) inv.0 inv.1 so_far f seen)
 
 pub follow-part-requires : goal.follow-part-requires
 follow-part-requires t c = record { short = items_fit c.args.flat.now c.in_ok-end.end c.in_ok-end.ensures.found }
@@ -61,9 +57,6 @@ follow-returns-in_default-2-clause-seen t c =
     let branch = c.args.trace.now.places.items in
     let settle = settle_by T (passed T branch) in
     let home = c.args.home.now in
-    let token = c.args.named.now.token in
-    let trail = c.args.named.now.trail in
-    let n = c.args.trace.now.visits in
     let i = c.loop-step.step-index in
     let inv = c.loop-step.invariant in
     let ss = c.as_slice-steps.result.now in
@@ -71,17 +64,14 @@ follow-returns-in_default-2-clause-seen t c =
     let end = c.in_ok-end.end in
     let k = c.in_ok-end.ensures in
     let here = c.loop-step.spot.place in
-    let first = some_case c.in_ok-spot.field-0 c.in-Some.spot (λ x. x.place ≡ whole token) c.in-Some.is c.in_ok-spot.ensures.place in
-    let at = some_case c.in_ok-spot.field-0 c.in-Some.spot (IsSpot flat) c.in-Some.is c.in_ok-spot.ensures.at in
-    let found = way_found T settle home token trail (spot_whole flat c.in-Some.spot token at first) in
-    let so_far = ap (λ xs. joined inv.0 (steps_from T settle home here xs)) (sym (drop_at ss i s (omega arith) c.step-item.is)) ∙ inv.2 in
+    let so_far = ap (λ xs. after_visits inv.0 (steps_from T settle home here xs)) (sym (drop_at ss i s (omega arith) c.step-item.is)) ∙ inv.2 in
     let seen = subst (λ b. Clean T c.loop-step.trace.visits c.settle.new.trace.visits (settle_by T (passed T b) here).seen) inv.4.0 k.seen in
     let ends = subst (λ b. (settle_by T (passed T b) here).ends ≡ Some end.place) inv.4.0 k.ends in
     let plain = settled_spot flat branch here end k.found ends in
     let gone = none_case c.in_ok-next.field-0 _ c.in_default-2.is c.in_ok-next.ensures.none in
     let lost = ap is_written (spot_no_part flat end s k.found plain gone) in
-    let turn = turn_lost T settle home (steps_from T settle home (whole token) trail) here s (drop (i + 1) ss) inv.0 inv.1 so_far end.place seen ends lost in
-    subst (IsFault c.broken-in_default-2.result) (sym (ap (λ w. first_break T n w.seen) found ∙ turn)) c.broken-in_default-2.ensures
+    let turn = turn_lost T settle home (way_of T settle home c.args.named.now.token c.args.named.now.trail) here s (drop (i + 1) ss) inv.0 inv.1 so_far end.place seen ends lost in
+    subst (IsFault c.broken-in_default-2.result) (sym turn) c.broken-in_default-2.ensures
 
 pub follow-loop-step-preserved : goal.follow-loop-step-preserved
 follow-loop-step-preserved t c =
@@ -90,9 +80,6 @@ follow-loop-step-preserved t c =
     let branch = c.args.trace.now.places.items in
     let settle = settle_by T (passed T branch) in
     let home = c.args.home.now in
-    let token = c.args.named.now.token in
-    let trail = c.args.named.now.trail in
-    let n = c.args.trace.now.visits in
     let i = c.loop-step.step-index in
     let inv = c.loop-step.invariant in
     let ss = c.as_slice-steps.result.now in
@@ -100,10 +87,7 @@ follow-loop-step-preserved t c =
     let end = c.in_ok-end.end in
     let k = c.in_ok-end.ensures in
     let here = c.loop-step.spot.place in
-    let first = some_case c.in_ok-spot.field-0 c.in-Some.spot (λ x. x.place ≡ whole token) c.in-Some.is c.in_ok-spot.ensures.place in
-    let at = some_case c.in_ok-spot.field-0 c.in-Some.spot (IsSpot flat) c.in-Some.is c.in_ok-spot.ensures.at in
-    let found = way_found T settle home token trail (spot_whole flat c.in-Some.spot token at first) in
-    let so_far = ap (λ xs. joined inv.0 (steps_from T settle home here xs)) (sym (drop_at ss i s (omega arith) c.step-item.is)) ∙ inv.2 in
+    let so_far = ap (λ xs. after_visits inv.0 (steps_from T settle home here xs)) (sym (drop_at ss i s (omega arith) c.step-item.is)) ∙ inv.2 in
     let seen = subst (λ b. Clean T c.loop-step.trace.visits c.settle.new.trace.visits (settle_by T (passed T b) here).seen) inv.4.0 k.seen in
     let ends = subst (λ b. (settle_by T (passed T b) here).ends ≡ Some end.place) inv.4.0 k.ends in
     let plain = settled_spot flat branch here end k.found ends in
@@ -112,40 +96,30 @@ follow-loop-step-preserved t c =
     let there = some_case c.in_ok-next.field-0 next (IsSpot flat) c.in-Some-2.is (c.in_ok-next.ensures.at flat k.found plain) in
     let written = ap is_written (subst (λ x. T x ≡ Some (content_view next.content)) place (spot_written flat next there)) in
     let xs = inv.0 ++ (settle here).seen in
-    let turn = turn_on T settle home (steps_from T settle home (whole token) trail) here s (drop (i + 1) ss) inv.0 inv.1 so_far end.place ends written in
-    (xs, clean_append T inv.0 (settle here).seen inv.1 seen, ap (λ x. joined xs (steps_from T settle home x (drop (i + 1) ss))) place ∙ turn, there, (k.branch.0 ∙ inv.4.0, k.branch.1 ∙ inv.4.1))
+    let turn = turn_on T settle home (way_of T settle home c.args.named.now.token c.args.named.now.trail) here s (drop (i + 1) ss) inv.0 inv.1 so_far end.place ends written in
+    (xs, clean_append T inv.0 (settle here).seen inv.1 seen, ap (λ x. after_visits xs (steps_from T settle home x (drop (i + 1) ss))) place ∙ turn, there, same_then c.args.trace.now c.loop-step.trace c.settle.new.trace inv.4 k.branch)
 
 pub follow-returns-clause-seen : goal.follow-returns-clause-seen
 follow-returns-clause-seen t c =
     let T = written_in c.args.flat.now in
     let settle = settle_by T (passed T c.args.trace.now.places.items) in
     let home = c.args.home.now in
-    let token = c.args.named.now.token in
-    let trail = c.args.named.now.trail in
     let inv = c.loop-step.invariant in
     let ss = c.as_slice-steps.result.now in
-    let place = some_case c.in_ok-spot.field-0 c.in-Some.spot (λ x. x.place ≡ whole token) c.in-Some.is c.in_ok-spot.ensures.place in
-    let at = some_case c.in_ok-spot.field-0 c.in-Some.spot (IsSpot c.args.flat.now) c.in-Some.is c.in_ok-spot.ensures.at in
-    let found = way_found T settle home token trail (spot_whole c.args.flat.now c.in-Some.spot token at place) in
-    let so_far = ap (λ xs. joined inv.0 (steps_from T settle home c.loop-step.spot.place xs)) (sym (drop_all ss c.loop-step.step-index (λ k. omega (arith, k)))) ∙ inv.2 in
-    let done = turns_done T settle home (steps_from T settle home (whole token) trail) c.loop-step.spot.place inv.0 so_far in
-    subst (λ w. Clean T c.args.trace.now.visits c.loop-step.trace.visits w.seen) (sym (found ∙ done)) inv.1
+    let so_far = ap (λ xs. after_visits inv.0 (steps_from T settle home c.loop-step.spot.place xs)) (sym (drop_all ss c.loop-step.step-index (λ k. omega (arith, k)))) ∙ inv.2 in
+    let done = turns_done T settle home (way_of T settle home c.args.named.now.token c.args.named.now.trail) c.loop-step.spot.place inv.0 so_far in
+    subst (λ w. Clean T c.args.trace.now.visits c.loop-step.trace.visits w.seen) (sym done) inv.1
 
 pub follow-returns-clause-ends : goal.follow-returns-clause-ends
 follow-returns-clause-ends t c =
     let T = written_in c.args.flat.now in
     let settle = settle_by T (passed T c.args.trace.now.places.items) in
     let home = c.args.home.now in
-    let token = c.args.named.now.token in
-    let trail = c.args.named.now.trail in
     let inv = c.loop-step.invariant in
     let ss = c.as_slice-steps.result.now in
-    let place = some_case c.in_ok-spot.field-0 c.in-Some.spot (λ x. x.place ≡ whole token) c.in-Some.is c.in_ok-spot.ensures.place in
-    let at = some_case c.in_ok-spot.field-0 c.in-Some.spot (IsSpot c.args.flat.now) c.in-Some.is c.in_ok-spot.ensures.at in
-    let found = way_found T settle home token trail (spot_whole c.args.flat.now c.in-Some.spot token at place) in
-    let so_far = ap (λ xs. joined inv.0 (steps_from T settle home c.loop-step.spot.place xs)) (sym (drop_all ss c.loop-step.step-index (λ k. omega (arith, k)))) ∙ inv.2 in
-    let done = turns_done T settle home (steps_from T settle home (whole token) trail) c.loop-step.spot.place inv.0 so_far in
-    ap (λ w. w.ends) (found ∙ done)
+    let so_far = ap (λ xs. after_visits inv.0 (steps_from T settle home c.loop-step.spot.place xs)) (sym (drop_all ss c.loop-step.step-index (λ k. omega (arith, k)))) ∙ inv.2 in
+    let done = turns_done T settle home (way_of T settle home c.args.named.now.token c.args.named.now.trail) c.loop-step.spot.place inv.0 so_far in
+    ap (λ w. w.ends) done
 
 pub pass-returns-in_err-enter-clause-seen : goal.pass-returns-in_err-enter-clause-seen
 pass-returns-in_err-enter-clause-seen t c =
@@ -242,7 +216,7 @@ pass_on-returns t c =
       seen = subst (λ w. Clean T c.args.trace.now.visits c.args.trace.now.visits w.seen) (sym stays) (clean_nil T c.args.trace.now.visits);
       ends = ap (λ w. w.ends) stays;
       found = c.requires.at;
-      branch = (refl, refl);
+      branch = (refl {A = List Place}, refl {A = List ℕ});
     }
 
 pub settle-returns-then-is_reference-clause-seen : goal.settle-returns-then-is_reference-clause-seen

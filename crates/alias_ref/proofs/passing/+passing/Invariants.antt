@@ -1,6 +1,6 @@
 use Rattle.std.proofs.Common.{◌≡◌, ◌+◌, ◌-◌, ◌*◌, List, length, drop}
-use Rattle.alias_ref.specs.Written.{whole, written_in}
-use Rattle.alias_ref.specs.Visits.{Visit, joined, steps_from, settle_by, passed}
+use Rattle.alias_ref.specs.Written.{written_in}
+use Rattle.alias_ref.specs.Visits.{Visit, after_visits, steps_from, way_of, settle_by, passed}
 use Rattle.alias_ref.specs.inner.Seen.{Clean}
 use Rattle.alias_ref.specs.inner.Spots.{IsSpot, IsSameBranch}
 use Rattle.alias_ref.proofs.passing.+passing.Given as goal
@@ -23,6 +23,6 @@ invariant-follow-loop-step l =
     let settle = settle_by T (passed T l.initial.trace.places.items) in
     (es : List Visit)
     × Clean T l.initial.trace.visits l.trace.visits es
-    × (joined es (steps_from T settle l.home l.spot.place (drop l.step-index l.steps)) ≡ steps_from T settle l.home (whole l.named.token) l.named.trail)
+    × (after_visits es (steps_from T settle l.home l.spot.place (drop l.step-index l.steps)) ≡ way_of T settle l.home l.named.token l.named.trail)
     × IsSpot l.flat l.spot
     × IsSameBranch l.initial.trace l.trace

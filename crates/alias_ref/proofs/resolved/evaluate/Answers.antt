@@ -1,7 +1,7 @@
 use Rattle.std.proofs.Common.{rules, ◌≡◌, Some, None, subst}
 use Rattle.std.proofs.lemmas.Result.{err_from_is_err_and}
 use Rattle.alias_ref.specs.Kinds.{KindOf, own_in, group_in}
-use Rattle.alias_ref.specs.Visits.{breaks}
+use Rattle.alias_ref.specs.Visits.{ref_break}
 use Rattle.alias_ref.specs.Written.{whole, written_in}
 use Rattle.alias_ref.specs.inner.Seen.{IsFault}
 use Rattle.alias_ref.specs.declared.fault.RefRule.TheVariants as rule
@@ -36,5 +36,5 @@ returns-in_default-kind-clause-broken g c =
     let unbroken = whole_clean flat token c.new-trace.result.places.items c.in-Some.spot.place c.new-trace.result.visits c.walk.new.trace.visits c.new-trace.ensures.places place c.new-trace.ensures.visits c.in_ok-found.ensures.seen in
     let kind = whole_kind flat token c.in-Some.spot.place c.in_ok-found.found.kind place c.in_ok-found.ensures.kind in
     let none : c.in_ok-found.found.kind ≡ None = search rules in
-    let fault : IsFault c.broken.result (Some (breaks rule.NoType (whole token))) = search rules in
+    let fault : IsFault c.broken.result (Some (ref_break rule.NoType (whole token))) = search rules in
     missing_broken flat token c.broken.result fault unbroken (subst (KindOf T (own_in flat) (group_in flat) token) none kind)

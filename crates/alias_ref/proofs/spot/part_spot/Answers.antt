@@ -4,7 +4,7 @@ use Rattle.json_span.specs.Tree.{tree_of}
 use Rattle.alias_ref.specs.Written.{part, role_at}
 use Rattle.alias_ref.specs.inner.Contents.{IsContent}
 use Rattle.json_span.specs.View.{ref_view}
-use Rattle.alias_ref.specs.inner.Spots.{Stands}
+use Rattle.alias_ref.specs.inner.Spots.{IsValueAt}
 use Rattle.alias_ref.proofs.SpotsStand.{part_content, part_stands_at}
 use Rattle.alias_ref.proofs.spot.part_spot.Goals as goal
 
@@ -16,7 +16,7 @@ returns-clause-at c = λ flat k.
     let m = ref_view c.args.node in
     record {
       value = m;
-      stands = subst (λ p. Stands flat p f m) (sym same) (part_stands_at flat c.args.place.now f c.args.step.now m k);
+      stands = subst (λ p. IsValueAt flat p f m) (sym same) (part_stands_at flat c.args.place.now f c.args.step.now m k);
       start = c.start.ensures;
       content = subst (λ p. IsContent c.in_ok-content.content (role_at f.def.by_ref p.trail) (tree_of m)) (sym same) (part_content flat c.args.place.now f c.args.step.now m c.in_ok-content.content k c.in_ok-content.ensures);
       sound = k.sound;

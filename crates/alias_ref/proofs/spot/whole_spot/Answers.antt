@@ -6,7 +6,7 @@ use Rattle.token_tree.specs.Promise.{IsDefinition}
 use Rattle.alias_ref.specs.Written.{whole, role_at}
 use Rattle.alias_ref.specs.inner.Contents.{IsContent, role_of}
 use Rattle.json_span.specs.View.{ref_view, json_view}
-use Rattle.alias_ref.specs.inner.Spots.{Stands}
+use Rattle.alias_ref.specs.inner.Spots.{IsValueAt}
 use Rattle.alias_ref.proofs.SoundValues.{sound_definition}
 use Rattle.alias_ref.proofs.SpotsStand.{whole_role}
 use Rattle.alias_ref.proofs.WrittenParts.{whole_stands}
@@ -26,7 +26,7 @@ returns-clause-at c =
     let raw : IsContent content (role_of f.def.by_ref) (json_view c.as_ref-node.result) = search rules in
     record {
       value = f.def.value;
-      stands = subst (λ p. Stands flat p f f.def.value) (sym same) (whole_stands flat c.args.token.now f there);
+      stands = subst (λ p. IsValueAt flat p f f.def.value) (sym same) (whole_stands flat c.args.token.now f there);
       start = c.start.ensures ∙ ap start_of view;
       content = subst (λ p. IsContent content (role_at f.def.by_ref p.trail) (tree_of f.def.value)) (sym same) (subst (λ r. IsContent content r (tree_of f.def.value)) (whole_role f.def.by_ref) (subst (λ v. IsContent content (role_of f.def.by_ref) (tree_of v)) view raw));
       sound = sound_definition f.def keeps few;

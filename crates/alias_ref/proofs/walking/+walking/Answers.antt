@@ -1,10 +1,9 @@
 use Rattle.std.proofs.Common.{rules, ◌≡◌, ◌+◌, ◌∷◌, ◌++◌, [], length, Some, arith, refl, sym, ap, ap₂, ◌∙◌, subst, length-append}
-use Rattle.json_span.specs.Tree.{Placed}
 use Rattle.std.proofs.lemmas.Result.{err_from_is_err_and}
 use Rattle.group_inherit.specs.Merging.{either}
 use Rattle.json_span.specs.Plain.{plains_of, plain_array}
-use Rattle.json_span.specs.PlainView.{Entry, plain_view, plain_items_view, plain_fields_view}
-use Rattle.alias_ref.specs.Written.{Step, array, object, leaf, parts, part, is_misspelled, numbered, named, steps_of, written_in}
+use Rattle.json_span.specs.PlainView.{ValueEntry, plain_view, plain_items_view, plain_fields_view}
+use Rattle.alias_ref.specs.Written.{array, object, leaf, parts, is_misspelled, parts_by_index, parts_by_name, steps_of, written_in}
 use Rattle.alias_ref.specs.Meaning.{Means, means_leaf, means_parts, means_target}
 use Rattle.alias_ref.specs.Visits.{settle_by, passed, walked, walk_written, first_break}
 use Rattle.alias_ref.specs.Kinds.{own_in, group_in}
@@ -15,9 +14,9 @@ use Rattle.alias_ref.specs.inner.Seen.{Clean, IsFault}
 use Rattle.alias_ref.specs.inner.Spots.{start_in}
 use Rattle.alias_ref.proofs.FirstBreaks.{clean_nil, enters, walked-fault}
 use Rattle.alias_ref.proofs.LinksOfParts.{alone, refers_kind}
-use Rattle.alias_ref.proofs.PartsInTurn.{none_walked, walked_more, walked_fault, leaf_grown, grown_parts, lead_by, refers_grown, with_rest, with_entries, push_map}
+use Rattle.alias_ref.proofs.PartsInTurn.{none_walked, next_item, next_field, walked_more, items_more, walked_fault, leaf_grown, grown_parts, lead_by, refers_grown}
 use Rattle.alias_ref.proofs.PlainViews.{array_view, object_view}
-use Rattle.alias_ref.proofs.SpotsStand.{spot_written, spot_start, own_is, group_is, holder_part, holder_few}
+use Rattle.alias_ref.proofs.SpotsStand.{spot_written, spot_start, spot_shows, own_is, group_is, kinds_at, holder_part, holder_few}
 use Rattle.alias_ref.proofs.TracesGrow.{starts_more, same_starts, same_then}
 use Rattle.alias_ref.proofs.WalksInTurns.{walk_fault, walk_clean, target_fault, target_then_fault, target_clean}
 use Rattle.alias_ref.proofs.walking.+walking.Goals as goal
@@ -68,119 +67,42 @@ walk-returns-clause-seen t c =
 
 pub walk_fields-loop-field-init : goal.walk_fields-loop-field-init
 walk_fields-loop-field-init t c =
-    let flat = c.args.flat.now in
-    let T = written_in flat in
-    let own = c.args.own in
-    let kinds = own_in flat in
-    let groups = group_in flat in
-    let branch = c.args.trace.now.places.items in
-    let place = c.args.place.now in
-    let token = c.args.token.now in
-    let n = c.args.trace.now.visits in
-    let fields = c.args.fields in
-    let same : c.into_iter-field-iterator.result ≡ fields = c.into_iter-field-iterator.ensures.into_iter_gives in
-    let all = named (fields_view fields) in
-    (tt, tt, with_rest (none_walked T kinds groups branch place own all n (plain_fields_view c.new-list.result) c.args.links.now c.new-list.ensures) (named (fields_view c.into_iter-field-iterator.result)) (sym (ap (λ i. named (fields_view i)) same)), (refl, refl))
+    let same : c.into_iter-field-iterator.result ≡ c.args.fields = c.into_iter-field-iterator.ensures.into_iter_gives in
+    (tt, tt, none_walked (sym (ap (λ i. parts_by_name (fields_view i)) same)) c.new-list.ensures, (refl, refl))
 
 pub walk_fields-walk_part-requires : goal.walk_fields-walk_part-requires
 walk_fields-walk_part-requires t c =
     let flat = c.args.flat.now in
-    let T = written_in flat in
-    let own = c.args.own in
-    let kinds = own_in flat in
-    let groups = group_in flat in
-    let branch = c.args.trace.now.places.items in
-    let place = c.args.place.now in
-    let token = c.args.token.now in
-    let n = c.args.trace.now.visits in
-    let fields = c.args.fields in
-    let all = named (fields_view fields) in
     let inv = c.loop-field.invariant in
-    let m = ref_view c.value.result in
-    let step = c.in_ok-name.name in
-    let rest = named (fields_view c.next.new.self) in
     let first : fields_view c.loop-field.field-iterator ≡ field_view c.in-Some.field ∷ fields_view c.next.new.self = search rules in
-    let make : Step → Placed → Step × Placed = λ s x. (s, x) in
-    let next : named (fields_view c.loop-field.field-iterator) ≡ (step, m) ∷ rest = ap named first ∙ ap₂ (λ s x. make s x ∷ rest) (sym c.in_ok-name.ensures) (sym c.value.ensures) in
-    let w = with_rest inv.2 ((step, m) ∷ rest) next in
-    let same : length c.loop-field.trace.places.items ≡ length branch = ap length inv.3.0 in
-    (omega (arith, same), (holder_part flat place token all w.front step m rest c.requires.at w.split, (omega (arith, same, c.requires.room), same_starts flat c.args.trace.now c.loop-field.trace c.requires.starts inv.3)))
+    let w = next_field inv.2 first c.in_ok-name.ensures c.value.ensures in
+    let same : length c.loop-field.trace.places.items ≡ length c.args.trace.now.places.items = ap length inv.3.0 in
+    (omega (arith, same), (holder_part flat c.args.place.now c.args.token.now _ w.front c.in_ok-name.name (ref_view c.value.result) _ c.requires.at w.split, (omega (arith, same, c.requires.room), same_starts flat c.args.trace.now c.loop-field.trace c.requires.starts inv.3)))
 
 pub walk_fields-returns-in_err-value-clause-seen : goal.walk_fields-returns-in_err-value-clause-seen
 walk_fields-returns-in_err-value-clause-seen t c =
-    let flat = c.args.flat.now in
-    let T = written_in flat in
-    let own = c.args.own in
-    let kinds = own_in flat in
-    let groups = group_in flat in
-    let branch = c.args.trace.now.places.items in
-    let place = c.args.place.now in
-    let token = c.args.token.now in
-    let n = c.args.trace.now.visits in
-    let fields = c.args.fields in
-    let all = named (fields_view fields) in
     let inv = c.loop-field.invariant in
-    let m = ref_view c.value.result in
-    let step = c.in_ok-name.name in
-    let rest = named (fields_view c.next.new.self) in
     let first : fields_view c.loop-field.field-iterator ≡ field_view c.in-Some.field ∷ fields_view c.next.new.self = search rules in
-    let make : Step → Placed → Step × Placed = λ s x. (s, x) in
-    let next : named (fields_view c.loop-field.field-iterator) ≡ (step, m) ∷ rest = ap named first ∙ ap₂ (λ s x. make s x ∷ rest) (sym c.in_ok-name.ensures) (sym c.value.ensures) in
-    let w = with_rest inv.2 ((step, m) ∷ rest) next in
-    let f = c.in_err-value.field-0.0 in
+    let w = next_field inv.2 first c.in_ok-name.ensures c.value.ensures in
     let p = err_from_is_err_and c.from_residual-in_err-value.result c.from_residual-in_err-value.ensures.1 in
-    let seen = subst (λ b. IsFault f (first_break T c.loop-field.trace.visits (walked T b (part place step)))) inv.3.0 c.in_err-value.ensures.seen in
-    rw (p.1, p.2) (walked_fault T kinds groups branch place f own all rest step m n c.loop-field.trace.visits (plain_fields_view c.loop-field.list) c.args.links.now c.loop-field.links w seen)
+    rw (p.1, p.2) (walked_fault c.in_err-value.field-0.0 w inv.3.0 c.in_err-value.ensures.seen)
 
 pub walk_fields-loop-field-preserved : goal.walk_fields-loop-field-preserved
 walk_fields-loop-field-preserved t c =
-    let flat = c.args.flat.now in
-    let T = written_in flat in
-    let own = c.args.own in
-    let kinds = own_in flat in
-    let groups = group_in flat in
-    let branch = c.args.trace.now.places.items in
-    let place = c.args.place.now in
-    let token = c.args.token.now in
-    let n = c.args.trace.now.visits in
-    let fields = c.args.fields in
-    let all = named (fields_view fields) in
     let inv = c.loop-field.invariant in
-    let m = ref_view c.value.result in
-    let step = c.in_ok-name.name in
-    let rest = named (fields_view c.next.new.self) in
-    let first : fields_view c.loop-field.field-iterator ≡ field_view c.in-Some.field ∷ fields_view c.next.new.self = search rules in
-    let make : Step → Placed → Step × Placed = λ s x. (s, x) in
-    let next : named (fields_view c.loop-field.field-iterator) ≡ (step, m) ∷ rest = ap named first ∙ ap₂ (λ s x. make s x ∷ rest) (sym c.in_ok-name.ensures) (sym c.value.ensures) in
-    let w = with_rest inv.2 ((step, m) ∷ rest) next in
-    let v = plain_view c.in_ok-value.value in
     let e = c.in_ok-value.ensures in
-    let clean = subst (λ b. Clean T c.loop-field.trace.visits c.walk_part.new.trace.visits (walked T b (part place step))) inv.3.0 e.seen in
-    let entry : Entry = record { name = step; value = v } in
-    let pushed : plain_fields_view c.push.new.self ≡ plain_fields_view c.loop-field.list ++ entry ∷ [] = search rules in (
-      tt,
-      tt,
-      with_entries (walked_more T kinds groups branch place own all rest step m n c.loop-field.trace.visits c.walk_part.new.trace.visits (plain_fields_view c.loop-field.list) v c.args.links.now c.loop-field.links c.walk_part.new.links w clean e.means e.links) (plain_fields_view c.push.new.self) (sym pushed),
-      same_then c.args.trace.now c.loop-field.trace c.walk_part.new.trace inv.3 e.branch,
-    )
+    let first : fields_view c.loop-field.field-iterator ≡ field_view c.in-Some.field ∷ fields_view c.next.new.self = search rules in
+    let w = next_field inv.2 first c.in_ok-name.ensures c.value.ensures in
+    let entry : ValueEntry = record { name = c.in_ok-name.name; value = plain_view c.in_ok-value.value } in
+    let pushed : plain_fields_view c.push.new.self ≡ plain_fields_view c.loop-field.list ++ entry ∷ [] = search rules in
+    (tt, tt, walked_more c.walk_part.new.links w inv.3.0 e.seen e.means e.links pushed, same_then c.args.trace.now c.loop-field.trace c.walk_part.new.trace inv.3 e.branch)
 
 pub walk_items-loop-node-init : goal.walk_items-loop-node-init
 walk_items-loop-node-init t c =
-    let flat = c.args.flat.now in
-    let T = written_in flat in
-    let own = c.args.own in
-    let kinds = own_in flat in
-    let groups = group_in flat in
-    let branch = c.args.trace.now.places.items in
-    let place = c.args.place.now in
-    let token = c.args.token.now in
-    let n = c.args.trace.now.visits in
-    let items = c.args.items in
-    let same : c.into_iter-node-iterator.result ≡ items = c.into_iter-node-iterator.ensures.into_iter_gives in
-    let all = numbered 0 (items_view items) in (
+    let same : c.into_iter-node-iterator.result ≡ c.args.items = c.into_iter-node-iterator.ensures.into_iter_gives in (
       tt,
       tt,
-      ([], c.new-list.ensures, with_rest (none_walked T kinds groups branch place own all n [] c.args.links.now refl) (numbered 0 (items_view c.into_iter-node-iterator.result)) (sym (ap (λ i. numbered 0 (items_view i)) same))),
+      ([], c.new-list.ensures, none_walked (sym (ap (λ i. parts_by_index 0 (items_view i)) same)) refl),
       omega (arith, ap (λ i. length (items_view i)) same),
       (refl, refl),
     )
@@ -188,52 +110,19 @@ walk_items-loop-node-init t c =
 pub walk_items-walk_part-requires : goal.walk_items-walk_part-requires
 walk_items-walk_part-requires t c =
     let flat = c.args.flat.now in
-    let T = written_in flat in
-    let own = c.args.own in
-    let kinds = own_in flat in
-    let groups = group_in flat in
-    let branch = c.args.trace.now.places.items in
-    let place = c.args.place.now in
-    let token = c.args.token.now in
-    let n = c.args.trace.now.visits in
-    let items = c.args.items in
-    let all = numbered 0 (items_view items) in
     let inv = c.loop-node.invariant in
-    let i = c.loop-node.index in
-    let m = ref_view c.in-Some.node in
-    let step = c.in_ok-step.step in
-    let rest = numbered (i + 1) (items_view c.next.new.self) in
-    let first : items_view c.loop-node.node-iterator ≡ m ∷ items_view c.next.new.self = search rules in
-    let next : numbered i (items_view c.loop-node.node-iterator) ≡ (step, m) ∷ rest = ap (numbered i) first ∙ ap (λ (s : Step). (s, m) ∷ rest) (sym c.in_ok-step.ensures) in
-    let w = with_rest inv.2.2 ((step, m) ∷ rest) next in
-    let same : length c.loop-node.trace.places.items ≡ length branch = ap length inv.4.0 in
-    (omega (arith, same), (holder_part flat place token all w.front step m rest c.requires.at w.split, (omega (arith, same, c.requires.room), same_starts flat c.args.trace.now c.loop-node.trace c.requires.starts inv.4)))
+    let first : items_view c.loop-node.node-iterator ≡ ref_view c.in-Some.node ∷ items_view c.next.new.self = search rules in
+    let w = next_item c.loop-node.index inv.2.2 first c.in_ok-step.ensures in
+    let same : length c.loop-node.trace.places.items ≡ length c.args.trace.now.places.items = ap length inv.4.0 in
+    (omega (arith, same), (holder_part flat c.args.place.now c.args.token.now _ w.front c.in_ok-step.step (ref_view c.in-Some.node) _ c.requires.at w.split, (omega (arith, same, c.requires.room), same_starts flat c.args.trace.now c.loop-node.trace c.requires.starts inv.4)))
 
 pub walk_items-returns-in_err-plain-clause-seen : goal.walk_items-returns-in_err-plain-clause-seen
 walk_items-returns-in_err-plain-clause-seen t c =
-    let flat = c.args.flat.now in
-    let T = written_in flat in
-    let own = c.args.own in
-    let kinds = own_in flat in
-    let groups = group_in flat in
-    let branch = c.args.trace.now.places.items in
-    let place = c.args.place.now in
-    let token = c.args.token.now in
-    let n = c.args.trace.now.visits in
-    let items = c.args.items in
-    let all = numbered 0 (items_view items) in
     let inv = c.loop-node.invariant in
-    let i = c.loop-node.index in
-    let m = ref_view c.in-Some.node in
-    let step = c.in_ok-step.step in
-    let rest = numbered (i + 1) (items_view c.next.new.self) in
-    let first : items_view c.loop-node.node-iterator ≡ m ∷ items_view c.next.new.self = search rules in
-    let next : numbered i (items_view c.loop-node.node-iterator) ≡ (step, m) ∷ rest = ap (numbered i) first ∙ ap (λ (s : Step). (s, m) ∷ rest) (sym c.in_ok-step.ensures) in
-    let w = with_rest inv.2.2 ((step, m) ∷ rest) next in
-    let f = c.in_err-plain.field-0.0 in
+    let first : items_view c.loop-node.node-iterator ≡ ref_view c.in-Some.node ∷ items_view c.next.new.self = search rules in
+    let w = next_item c.loop-node.index inv.2.2 first c.in_ok-step.ensures in
     let p = err_from_is_err_and c.from_residual-in_err-plain.result c.from_residual-in_err-plain.ensures.1 in
-    let seen = subst (λ b. IsFault f (first_break T c.loop-node.trace.visits (walked T b (part place step)))) inv.4.0 c.in_err-plain.ensures.seen in
-    rw (p.1, p.2) (walked_fault T kinds groups branch place f own all rest step m n c.loop-node.trace.visits inv.2.0 c.args.links.now c.loop-node.links w seen)
+    rw (p.1, p.2) (walked_fault c.in_err-plain.field-0.0 w inv.4.0 c.in_err-plain.ensures.seen)
 
 pub walk_items-overflow_add-index : goal.walk_items-overflow_add-index
 walk_items-overflow_add-index t c =
@@ -244,82 +133,25 @@ walk_items-overflow_add-index t c =
 
 pub walk_items-loop-node-preserved-in_ok-push : goal.walk_items-loop-node-preserved-in_ok-push
 walk_items-loop-node-preserved-in_ok-push t c =
-    let flat = c.args.flat.now in
-    let T = written_in flat in
-    let own = c.args.own in
-    let kinds = own_in flat in
-    let groups = group_in flat in
-    let branch = c.args.trace.now.places.items in
-    let place = c.args.place.now in
-    let token = c.args.token.now in
-    let n = c.args.trace.now.visits in
-    let items = c.args.items in
-    let all = numbered 0 (items_view items) in
     let inv = c.loop-node.invariant in
-    let i = c.loop-node.index in
-    let m = ref_view c.in-Some.node in
-    let step = c.in_ok-step.step in
-    let rest = numbered (i + 1) (items_view c.next.new.self) in
-    let first : items_view c.loop-node.node-iterator ≡ m ∷ items_view c.next.new.self = search rules in
-    let next : numbered i (items_view c.loop-node.node-iterator) ≡ (step, m) ∷ rest = ap (numbered i) first ∙ ap (λ (s : Step). (s, m) ∷ rest) (sym c.in_ok-step.ensures) in
-    let w = with_rest inv.2.2 ((step, m) ∷ rest) next in
-    let v = plain_view c.in_ok-plain.plain in
     let e = c.in_ok-plain.ensures in
-    let clean = subst (λ b. Clean T c.loop-node.trace.visits c.walk_part.new.trace.visits (walked T b (part place step))) inv.4.0 e.seen in
-    let entry : Entry = record { name = step; value = v } in
-    let pushed : plain_items_view c.push.new.self ≡ plain_items_view c.loop-node.list ++ v ∷ [] = search rules in (
-      tt,
-      tt,
-      (
-        inv.2.0 ++ entry ∷ [],
-        pushed ∙ ap (λ vs. vs ++ v ∷ []) inv.2.1 ∙ sym (push_map (λ x. x.value) inv.2.0 entry),
-        walked_more T kinds groups branch place own all rest step m n c.loop-node.trace.visits c.walk_part.new.trace.visits inv.2.0 v c.args.links.now c.loop-node.links c.walk_part.new.links w clean e.means e.links,
-      ),
-      omega (arith, inv.3, ap length first),
-      same_then c.args.trace.now c.loop-node.trace c.walk_part.new.trace inv.4 e.branch,
-    )
+    let first : items_view c.loop-node.node-iterator ≡ ref_view c.in-Some.node ∷ items_view c.next.new.self = search rules in
+    let w = next_item c.loop-node.index inv.2.2 first c.in_ok-step.ensures in
+    let pushed : plain_items_view c.push.new.self ≡ plain_items_view c.loop-node.list ++ plain_view c.in_ok-plain.plain ∷ [] = search rules in
+    (tt, tt, items_more c.walk_part.new.links w inv.2.1 inv.4.0 e.seen e.means e.links pushed, omega (arith, inv.3, ap length first), same_then c.args.trace.now c.loop-node.trace c.walk_part.new.trace inv.4 e.branch)
 
 pub walk_items-loop-node-preserved : goal.walk_items-loop-node-preserved
 walk_items-loop-node-preserved t c =
-    let flat = c.args.flat.now in
-    let T = written_in flat in
-    let own = c.args.own in
-    let kinds = own_in flat in
-    let groups = group_in flat in
-    let branch = c.args.trace.now.places.items in
-    let place = c.args.place.now in
-    let token = c.args.token.now in
-    let n = c.args.trace.now.visits in
-    let items = c.args.items in
-    let all = numbered 0 (items_view items) in
     let inv = c.loop-node.invariant in
-    let i = c.loop-node.index in
-    let m = ref_view c.in-Some.node in
-    let step = c.in_ok-step.step in
-    let rest = numbered (i + 1) (items_view c.next.new.self) in
-    let first : items_view c.loop-node.node-iterator ≡ m ∷ items_view c.next.new.self = search rules in
-    let next : numbered i (items_view c.loop-node.node-iterator) ≡ (step, m) ∷ rest = ap (numbered i) first ∙ ap (λ (s : Step). (s, m) ∷ rest) (sym c.in_ok-step.ensures) in
-    let w = with_rest inv.2.2 ((step, m) ∷ rest) next in
-    let v = plain_view c.in_ok-plain.plain in
     let e = c.in_ok-plain.ensures in
-    let clean = subst (λ b. Clean T c.loop-node.trace.visits c.walk_part.new.trace.visits (walked T b (part place step))) inv.4.0 e.seen in
-    let entry : Entry = record { name = step; value = v } in
-    let pushed : plain_items_view c.push.new.self ≡ plain_items_view c.loop-node.list ++ v ∷ [] = search rules in (
-      tt,
-      tt,
-      (
-        inv.2.0 ++ entry ∷ [],
-        pushed ∙ ap (λ vs. vs ++ v ∷ []) inv.2.1 ∙ sym (push_map (λ x. x.value) inv.2.0 entry),
-        walked_more T kinds groups branch place own all rest step m n c.loop-node.trace.visits c.walk_part.new.trace.visits inv.2.0 v c.args.links.now c.loop-node.links c.walk_part.new.links w clean e.means e.links,
-      ),
-      omega (arith, inv.3, ap length first),
-      same_then c.args.trace.now c.loop-node.trace c.walk_part.new.trace inv.4 e.branch,
-    )
+    let first : items_view c.loop-node.node-iterator ≡ ref_view c.in-Some.node ∷ items_view c.next.new.self = search rules in
+    let w = next_item c.loop-node.index inv.2.2 first c.in_ok-step.ensures in
+    let pushed : plain_items_view c.push.new.self ≡ plain_items_view c.loop-node.list ++ plain_view c.in_ok-plain.plain ∷ [] = search rules in
+    (tt, tt, items_more c.walk_part.new.links w inv.2.1 inv.4.0 e.seen e.means e.links pushed, omega (arith, inv.3, ap length first), same_then c.args.trace.now c.loop-node.trace c.walk_part.new.trace inv.4 e.branch)
 
 pub walk_on-returns-in-Leaf-clause-seen : goal.walk_on-returns-in-Leaf-clause-seen
 walk_on-returns-in-Leaf-clause-seen t c =
     let T = written_in c.args.flat.now in
-    let flat = c.args.flat.now in
     let spot = c.args.spot in
     let settle = settle_by T (passed T c.args.trace.now.places.items) in
     let walk = walked T c.args.trace.now.places.items in
@@ -327,90 +159,59 @@ walk_on-returns-in-Leaf-clause-seen t c =
 
 pub walk_on-returns-in-Leaf-clause-means : goal.walk_on-returns-in-Leaf-clause-means
 walk_on-returns-in-Leaf-clause-means t c =
-    let T = written_in c.args.flat.now in
-    let flat = c.args.flat.now in
-    let spot = c.args.spot in
-    let is = spot_written flat spot c.requires.at in
-    means_leaf (is ∙ ap (λ x. Some (content_view x)) c.in-Leaf.is)
+    means_leaf (spot_shows c.args.flat.now c.args.spot _ c.requires.at c.in-Leaf.is)
 
 pub walk_on-returns-in-Leaf-clause-kind : goal.walk_on-returns-in-Leaf-clause-kind
 walk_on-returns-in-Leaf-clause-kind t c = λ at.
-    let T = written_in c.args.flat.now in
     let flat = c.args.flat.now in
     let spot = c.args.spot in
-    let is = spot_written flat spot c.requires.at in
-    alone T (own_in flat) (group_in flat) spot.place (leaf (plain_view c.in-Leaf.plain)) c.kind_here.result (is ∙ ap (λ x. Some (content_view x)) c.in-Leaf.is) refl at
-    (c.kind_here.ensures ∙ ap₂ either (sym (own_is flat spot.place spot.token.now c.requires.at.value c.requires.at.stands)) (sym (group_is flat spot.place spot.token.now c.requires.at.value c.requires.at.stands)))
+    alone (written_in flat) (own_in flat) (group_in flat) spot.place (leaf (plain_view c.in-Leaf.plain)) c.kind_here.result (spot_shows flat spot _ c.requires.at c.in-Leaf.is) refl at (kinds_at flat spot c.kind_here.result c.requires.at c.kind_here.ensures)
 
 pub walk_on-returns-in-Leaf-clause-links : goal.walk_on-returns-in-Leaf-clause-links
 walk_on-returns-in-Leaf-clause-links t c =
-    let T = written_in c.args.flat.now in
     let flat = c.args.flat.now in
-    let spot = c.args.spot in
-    let is = spot_written flat spot c.requires.at in
-    leaf_grown T (own_in flat) (group_in flat) c.args.own spot.place (plain_view c.in-Leaf.plain) c.args.links.now (is ∙ ap (λ x. Some (content_view x)) c.in-Leaf.is)
+    leaf_grown (written_in flat) (own_in flat) (group_in flat) c.args.own c.args.spot.place (plain_view c.in-Leaf.plain) c.args.links.now (spot_shows flat c.args.spot _ c.requires.at c.in-Leaf.is)
 
 pub walk_on-returns-in-Array-clause-means : goal.walk_on-returns-in-Array-clause-means
 walk_on-returns-in-Array-clause-means t c =
-    let T = written_in c.args.flat.now in
     let flat = c.args.flat.now in
-    let spot = c.args.spot in
-    let is = spot_written flat spot c.requires.at in
-    let there = is ∙ ap (λ x. Some (content_view x)) c.in-Array.is in
-    let l = c.in_ok-list-in-Array.list in
     let k = c.in_ok-list-in-Array.ensures.means in
-    let view = array_view l ∙ ap (λ vs. plain_array (plains_of vs)) k.2 in
-    subst (Means T spot.place) (sym view) (means_parts there k.1)
+    let view = array_view c.in_ok-list-in-Array.list ∙ ap (λ vs. plain_array (plains_of vs)) k.2 in
+    subst (Means (written_in flat) c.args.spot.place) (sym view) (means_parts (spot_shows flat c.args.spot _ c.requires.at c.in-Array.is) k.1)
 
 pub walk_on-returns-in-Array-clause-kind : goal.walk_on-returns-in-Array-clause-kind
 walk_on-returns-in-Array-clause-kind t c = λ at.
-    let T = written_in c.args.flat.now in
     let flat = c.args.flat.now in
     let spot = c.args.spot in
-    let is = spot_written flat spot c.requires.at in
-    alone T (own_in flat) (group_in flat) spot.place (parts array (steps_of (numbered 0 (items_view c.in-Array.items)))) c.kind_here-in-Array.result (is ∙ ap (λ x. Some (content_view x)) c.in-Array.is) refl at
-    (c.kind_here-in-Array.ensures ∙ ap₂ either (sym (own_is flat spot.place spot.token.now c.requires.at.value c.requires.at.stands)) (sym (group_is flat spot.place spot.token.now c.requires.at.value c.requires.at.stands)))
+    alone (written_in flat) (own_in flat) (group_in flat) spot.place (parts array (steps_of (parts_by_index 0 (items_view c.in-Array.items)))) c.kind_here-in-Array.result (spot_shows flat spot _ c.requires.at c.in-Array.is) refl at (kinds_at flat spot c.kind_here-in-Array.result c.requires.at c.kind_here-in-Array.ensures)
 
 pub walk_on-returns-in-Array-clause-links : goal.walk_on-returns-in-Array-clause-links
 walk_on-returns-in-Array-clause-links t c =
-    let T = written_in c.args.flat.now in
     let flat = c.args.flat.now in
-    let spot = c.args.spot in
-    let is = spot_written flat spot c.requires.at in
-    let there = is ∙ ap (λ x. Some (content_view x)) c.in-Array.is in
-    grown_parts T (own_in flat) (group_in flat) c.args.own spot.place (steps_of (numbered 0 (items_view c.in-Array.items))) c.args.links.now c.walk_items.new.links there c.in_ok-list-in-Array.ensures.links
+    let there = spot_shows flat c.args.spot _ c.requires.at c.in-Array.is in
+    grown_parts (written_in flat) (own_in flat) (group_in flat) c.args.own c.args.spot.place (steps_of (parts_by_index 0 (items_view c.in-Array.items))) c.args.links.now c.walk_items.new.links there c.in_ok-list-in-Array.ensures.links
 
 pub walk_on-returns-in-Object-clause-means : goal.walk_on-returns-in-Object-clause-means
 walk_on-returns-in-Object-clause-means t c =
-    let T = written_in c.args.flat.now in
     let flat = c.args.flat.now in
-    let spot = c.args.spot in
-    let is = spot_written flat spot c.requires.at in
-    let there = is ∙ ap (λ x. Some (content_view x)) c.in-Object.is in
-    subst (Means T spot.place) (sym (object_view c.in_ok-list-in-Object.list)) (means_parts there c.in_ok-list-in-Object.ensures.means)
+    let there = spot_shows flat c.args.spot _ c.requires.at c.in-Object.is in
+    subst (Means (written_in flat) c.args.spot.place) (sym (object_view c.in_ok-list-in-Object.list)) (means_parts there c.in_ok-list-in-Object.ensures.means)
 
 pub walk_on-returns-in-Object-clause-kind : goal.walk_on-returns-in-Object-clause-kind
 walk_on-returns-in-Object-clause-kind t c = λ at.
-    let T = written_in c.args.flat.now in
     let flat = c.args.flat.now in
     let spot = c.args.spot in
-    let is = spot_written flat spot c.requires.at in
-    alone T (own_in flat) (group_in flat) spot.place (parts object (steps_of (named (fields_view c.in-Object.fields)))) c.kind_here-in-Object.result (is ∙ ap (λ x. Some (content_view x)) c.in-Object.is) refl at
-    (c.kind_here-in-Object.ensures ∙ ap₂ either (sym (own_is flat spot.place spot.token.now c.requires.at.value c.requires.at.stands)) (sym (group_is flat spot.place spot.token.now c.requires.at.value c.requires.at.stands)))
+    alone (written_in flat) (own_in flat) (group_in flat) spot.place (parts object (steps_of (parts_by_name (fields_view c.in-Object.fields)))) c.kind_here-in-Object.result (spot_shows flat spot _ c.requires.at c.in-Object.is) refl at (kinds_at flat spot c.kind_here-in-Object.result c.requires.at c.kind_here-in-Object.ensures)
 
 pub walk_on-returns-in-Object-clause-links : goal.walk_on-returns-in-Object-clause-links
 walk_on-returns-in-Object-clause-links t c =
-    let T = written_in c.args.flat.now in
     let flat = c.args.flat.now in
-    let spot = c.args.spot in
-    let is = spot_written flat spot c.requires.at in
-    let there = is ∙ ap (λ x. Some (content_view x)) c.in-Object.is in
-    grown_parts T (own_in flat) (group_in flat) c.args.own spot.place (steps_of (named (fields_view c.in-Object.fields))) c.args.links.now c.walk_fields.new.links there c.in_ok-list-in-Object.ensures.links
+    let there = spot_shows flat c.args.spot _ c.requires.at c.in-Object.is in
+    grown_parts (written_in flat) (own_in flat) (group_in flat) c.args.own c.args.spot.place (steps_of (parts_by_name (fields_view c.in-Object.fields))) c.args.links.now c.walk_fields.new.links there c.in_ok-list-in-Object.ensures.links
 
 pub walk_on-returns-in_err-target-in-Refers-clause-seen : goal.walk_on-returns-in_err-target-in-Refers-clause-seen
 walk_on-returns-in_err-target-in-Refers-clause-seen t c =
     let T = written_in c.args.flat.now in
-    let flat = c.args.flat.now in
     let spot = c.args.spot in
     let branch = c.args.trace.now.places.items in
     let n = c.args.trace.now.visits in
@@ -419,7 +220,6 @@ walk_on-returns-in_err-target-in-Refers-clause-seen t c =
     let token = c.in-Refers.named.token in
     let trail = c.in-Refers.named.trail in
     let view = ap content_view c.in-Refers.is in
-    let is = spot_written flat spot c.requires.at ∙ ap (λ w. Some w) view in
     let f = c.in_err-target-in-Refers.field-0.0 in
     let p = err_from_is_err_and c.from_residual-in_err-target-in-Refers.result c.from_residual-in_err-target-in-Refers.ensures.1 in
     rw (p.1, p.2) (subst (λ w. IsFault f (first_break T n (walk_written T settle walk spot.place (Some w)))) (sym view)
@@ -428,7 +228,6 @@ walk_on-returns-in_err-target-in-Refers-clause-seen t c =
 pub walk_on-returns-in_err-found-in-Refers-clause-seen : goal.walk_on-returns-in_err-found-in-Refers-clause-seen
 walk_on-returns-in_err-found-in-Refers-clause-seen t c =
     let T = written_in c.args.flat.now in
-    let flat = c.args.flat.now in
     let spot = c.args.spot in
     let branch = c.args.trace.now.places.items in
     let n = c.args.trace.now.visits in
@@ -437,7 +236,6 @@ walk_on-returns-in_err-found-in-Refers-clause-seen t c =
     let token = c.in-Refers.named.token in
     let trail = c.in-Refers.named.trail in
     let view = ap content_view c.in-Refers.is in
-    let is = spot_written flat spot c.requires.at ∙ ap (λ w. Some w) view in
     let k = c.in_ok-target-in-Refers.ensures in
     let q = c.in_ok-target-in-Refers.target.place in
     let f = c.in_err-found-in-Refers.field-0.0 in
@@ -449,7 +247,6 @@ walk_on-returns-in_err-found-in-Refers-clause-seen t c =
 pub walk_on-returns-in-Refers-clause-seen : goal.walk_on-returns-in-Refers-clause-seen
 walk_on-returns-in-Refers-clause-seen t c =
     let T = written_in c.args.flat.now in
-    let flat = c.args.flat.now in
     let spot = c.args.spot in
     let branch = c.args.trace.now.places.items in
     let n = c.args.trace.now.visits in
@@ -458,13 +255,9 @@ walk_on-returns-in-Refers-clause-seen t c =
     let token = c.in-Refers.named.token in
     let trail = c.in-Refers.named.trail in
     let view = ap content_view c.in-Refers.is in
-    let is = spot_written flat spot c.requires.at ∙ ap (λ w. Some w) view in
     let k = c.in_ok-target-in-Refers.ensures in
     let q = c.in_ok-target-in-Refers.target.place in
     let found = c.in_ok-found-in-Refers in
-    let refer = c.in_ok-refer-in-Refers in
-    let own = own_is flat spot.place spot.token.now c.requires.at.value c.requires.at.stands in
-    let group = group_is flat spot.place spot.token.now c.requires.at.value c.requires.at.stands in
     let clean = subst (λ b. Clean T c.follow.new.trace.visits c.walk.new.trace.visits (walked T b q)) k.branch.0 found.ensures.seen in
     subst (λ w. Clean T n c.walk.new.trace.visits (walk_written T settle walk spot.place (Some w))) (sym view) (target_clean T settle walk spot.place q token trail k.ends k.seen clean)
 
@@ -474,9 +267,6 @@ walk_on-returns-in-Refers-clause-means t c =
     let flat = c.args.flat.now in
     let spot = c.args.spot in
     let branch = c.args.trace.now.places.items in
-    let n = c.args.trace.now.visits in
-    let settle = settle_by T (passed T branch) in
-    let walk = walked T branch in
     let token = c.in-Refers.named.token in
     let trail = c.in-Refers.named.trail in
     let view = ap content_view c.in-Refers.is in
@@ -485,8 +275,6 @@ walk_on-returns-in-Refers-clause-means t c =
     let q = c.in_ok-target-in-Refers.target.place in
     let found = c.in_ok-found-in-Refers in
     let refer = c.in_ok-refer-in-Refers in
-    let own = own_is flat spot.place spot.token.now c.requires.at.value c.requires.at.stands in
-    let group = group_is flat spot.place spot.token.now c.requires.at.value c.requires.at.stands in
     subst (λ v. Means T spot.place (plain_view v)) (sym refer.ensures.plain) (means_target (lead_by T branch spot.place q token trail is k.ends) found.ensures.means)
 
 pub walk_on-returns-in-Refers-clause-kind : goal.walk_on-returns-in-Refers-clause-kind
@@ -495,9 +283,7 @@ walk_on-returns-in-Refers-clause-kind t c = λ at.
     let flat = c.args.flat.now in
     let spot = c.args.spot in
     let branch = c.args.trace.now.places.items in
-    let n = c.args.trace.now.visits in
     let settle = settle_by T (passed T branch) in
-    let walk = walked T branch in
     let token = c.in-Refers.named.token in
     let trail = c.in-Refers.named.trail in
     let view = ap content_view c.in-Refers.is in
@@ -517,9 +303,7 @@ walk_on-returns-in-Refers-clause-links t c =
     let flat = c.args.flat.now in
     let spot = c.args.spot in
     let branch = c.args.trace.now.places.items in
-    let n = c.args.trace.now.visits in
     let settle = settle_by T (passed T branch) in
-    let walk = walked T branch in
     let token = c.in-Refers.named.token in
     let trail = c.in-Refers.named.trail in
     let view = ap content_view c.in-Refers.is in
@@ -528,6 +312,4 @@ walk_on-returns-in-Refers-clause-links t c =
     let q = c.in_ok-target-in-Refers.target.place in
     let found = c.in_ok-found-in-Refers in
     let refer = c.in_ok-refer-in-Refers in
-    let own = own_is flat spot.place spot.token.now c.requires.at.value c.requires.at.stands in
-    let group = group_is flat spot.place spot.token.now c.requires.at.value c.requires.at.stands in
     refers_grown T (own_in flat) (group_in flat) c.args.own settle spot.place q token trail found.found.kind c.args.links.now c.walk.new.links c.refer.new.links is k.ends found.ensures.kind found.ensures.links refer.ensures.links

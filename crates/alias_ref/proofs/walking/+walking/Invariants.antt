@@ -1,6 +1,6 @@
 use Rattle.std.proofs.Common.{◌≡◌, ◌+◌, ◌-◌, ◌*◌, List, length, map}
-use Rattle.json_span.specs.PlainView.{Entry, plain_items_view, plain_fields_view}
-use Rattle.alias_ref.specs.Written.{written_in, numbered, named}
+use Rattle.json_span.specs.PlainView.{ValueEntry, plain_items_view, plain_fields_view}
+use Rattle.alias_ref.specs.Written.{written_in, parts_by_index, parts_by_name}
 use Rattle.alias_ref.specs.Kinds.{own_in, group_in}
 use Rattle.json_span.specs.View.{items_view, fields_view}
 use Rattle.alias_ref.specs.inner.Spots.{IsSameBranch}
@@ -25,13 +25,13 @@ decreases-walk_part l = 8 * (257 - length l.trace.now.places.items) + 1
 abbrev pub invariant-walk_items-loop-node : goal.invariant-walk_items-loop-node
 invariant-walk_items-loop-node l =
     (goal.iterator-walk_items-loop-node).can_next l.node-iterator × (goal.iterator-walk_items-loop-node).is_finite l.node-iterator
-    × ((es : List Entry) × (plain_items_view l.list ≡ map (λ e. e.value) es)
-    × PartsWalked (written_in l.flat) l.own (own_in l.flat) (group_in l.flat) l.initial.trace.places.items l.place (numbered 0 (items_view l.items)) (numbered l.index (items_view l.node-iterator)) l.initial.trace.visits l.trace.visits es l.initial.links l.links)
+    × ((es : List ValueEntry) × (plain_items_view l.list ≡ map (λ e. e.value) es)
+    × PartsWalked (written_in l.flat) l.own (own_in l.flat) (group_in l.flat) l.initial.trace.places.items l.place (parts_by_index 0 (items_view l.items)) (parts_by_index l.index (items_view l.node-iterator)) l.initial.trace.visits l.trace.visits es l.initial.links l.links)
     × (l.index + length (items_view l.node-iterator) ≡ length (items_view l.items))
     × IsSameBranch l.initial.trace l.trace
 
 abbrev pub invariant-walk_fields-loop-field : goal.invariant-walk_fields-loop-field
 invariant-walk_fields-loop-field l =
     (goal.iterator-walk_fields-loop-field).can_next l.field-iterator × (goal.iterator-walk_fields-loop-field).is_finite l.field-iterator
-    × PartsWalked (written_in l.flat) l.own (own_in l.flat) (group_in l.flat) l.initial.trace.places.items l.place (named (fields_view l.fields)) (named (fields_view l.field-iterator)) l.initial.trace.visits l.trace.visits (plain_fields_view l.list) l.initial.links l.links
+    × PartsWalked (written_in l.flat) l.own (own_in l.flat) (group_in l.flat) l.initial.trace.places.items l.place (parts_by_name (fields_view l.fields)) (parts_by_name (fields_view l.field-iterator)) l.initial.trace.visits l.trace.visits (plain_fields_view l.list) l.initial.links l.links
     × IsSameBranch l.initial.trace l.trace
