@@ -3,8 +3,7 @@ use Rattle.std.proofs.Common.{arith, ◌≡◌, ◌≢◌, ◌<◌, ◌^◌, ℕ
 use Rattle.std.specs.FinMap as finite
 use Rattle.std.specs.List.{AllByRecursion}
 use Rattle.std.specs.Prelude.{◌⊎◌}
-use Rattle.ring.specs.Routes.{In}
-use Rattle.css_out.specs.Lists as css_lists
+use Rattle.ring.specs.Lists.{In}
 use Rattle.tk_io.specs.FilesData.{FilesData}
 use Rattle.tk_io.specs.Order.{text_cmp}
 use Rattle.token_tree.specs.Tree.{Group}
@@ -66,12 +65,6 @@ each_of holds [] p all i = absurd i
 each_of holds (q ∷ qs) p all (inl same) = subst holds (sym same) all.0
 each_of holds (q ∷ qs) p all (inr i) = each_of holds qs p all.1 i
 
--- the one list has what the other has
-listed : {A : Type 0} (x : A) (xs : List A) → css_lists.In x xs → In x xs
-listed x [] i = absurd i
-listed x (y ∷ ys) (inl same) = inl same
-listed x (y ∷ ys) (inr i) = inr (listed x ys i)
-
 -- what is found without a break
 record IsUnbroken (settings : Settings) (files : FilesData) (p : Permutation) (cells : List TokenCell) : Type 0 where
   flat : Flat
@@ -106,7 +99,7 @@ module _ (laws : Laws) (settings : Settings) (files : FilesData) (configured : s
       let tokens = u.tokens in
       let allowed = settings_allowed laws.config files settings configured in
       let small : settings.rem_base < 2 ^ 8 = omega (arith, allowed.most) in
-      let paths : AreTokenPaths flat = λ token i. laws.paths files (home_of files) p.sources flat u.is_flat token (listed token (finite.entries flat) i) in
+      let paths : AreTokenPaths flat = λ token i. laws.paths files (home_of files) p.sources flat u.is_flat token i in
       record {
         cells = cells;
         unbroken = found;

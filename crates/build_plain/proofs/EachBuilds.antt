@@ -1,5 +1,5 @@
 -- Files that are texts in memory have outputs, and any files have an amount of work.
-use Rattle.std.proofs.Common.{arith, ◌≡◌, ◌≢◌, ℕ, List, [], ◌∷◌, Option, Some, None, Result, Ok, Err, inl, inr, refl, codes, length, map}
+use Rattle.std.proofs.Common.{arith, ◌≡◌, ℕ, List, [], ◌∷◌, Option, Some, None, Result, Ok, Err, inl, inr, refl, codes, length, map}
 use Rattle.std.proofs.lemmas.Str.{IsUtf8-nil}
 use Rattle.std.specs.FinMap as finite
 use Rattle.std.specs.List.{AllByRecursion, zip}
@@ -18,7 +18,7 @@ use Rattle.permutations.specs.Permutation.{TokenSource, Permutation}
 use Rattle.file_plan.specs.InUse.{resolver_path, files_in_use}
 use Rattle.file_plan.specs.Laws.{EachPlan, InlinesStand}
 use Rattle.file_plan.specs.Plan.{Planned, planned, refused, Plans, text_count}
-use Rattle.source_trees.specs.Laws.{EachMerge, MergedIsOrdered}
+use Rattle.source_trees.specs.Laws.{EachFound, MergedIsOrdered}
 use Rattle.source_trees.specs.MergedTokens.{IsFlatOf, TokensAreDefinitions, TokensAreOfTexts}
 use Rattle.source_trees.specs.Merging.{AllInlineStand}
 use Rattle.source_trees.specs.Sources.{BreakAt, SourcesFound}
@@ -30,7 +30,7 @@ use Rattle.transforms.specs.declared.config.ConfigFault.TheVariants as config
 use Rattle.toml.specs.Data.{Members}
 use Rattle.toml.specs.Parse.{parse_document}
 use Rattle.refusals.specs.Planning.{plan_report}
-use Rattle.refusals.specs.Refusal.{Report, report_text, text_at}
+use Rattle.refusals.specs.Refusal.{Report, report_text, file_text}
 use Rattle.token_cells.specs.Breaks.{token_reports, verdict}
 use Rattle.token_cells.specs.Existence.{AreDefined, EachCells}
 use Rattle.token_cells.specs.declared.token_cell.TokenCell.{TokenCell}
@@ -45,7 +45,7 @@ use Rattle.build_plain.proofs.Stands.{all_stand}
 pub record BuildLaws : Type 0 where
   pub plan : EachPlan
   pub stand : InlinesStand
-  pub merge : EachMerge
+  pub merge : EachFound
   pub ordered : MergedIsOrdered
   pub tree : EachTreeAnswers
   pub definitions : TokensAreDefinitions
@@ -55,13 +55,13 @@ pub record BuildLaws : Type 0 where
 
 -- The file that names the sources is a text.
 
-file_text : (o : Option (List ℕ)) → ((text : List ℕ) → o ≡ Some text → IsText text) → IsText (unwrap_or o [])
-file_text None texts = record { utf8 = IsUtf8-nil; fits = omega arith }
-file_text (Some text) texts = texts text refl
+unwrapped_text : (o : Option (List ℕ)) → ((text : List ℕ) → o ≡ Some text → IsText text) → IsText (unwrap_or o [])
+unwrapped_text None texts = record { utf8 = IsUtf8-nil; fits = omega arith }
+unwrapped_text (Some text) texts = texts text refl
 
 home_text_by : (files : FilesData) → AreTexts files → (o : Option (List ℕ)) → finite.get files resolver_path ≡ o
     → IsText (home_by files o).text
-home_text_by files texts None is = file_text (finite.get files tokens_path) (texts tokens_path)
+home_text_by files texts None is = unwrapped_text (finite.get files tokens_path) (texts tokens_path)
 home_text_by files texts (Some document) is = texts resolver_path document is
 
 home_text : (files : FilesData) → AreTexts files → IsText (home_of files).text
@@ -133,7 +133,7 @@ module _ (laws : BuildLaws) (files : FilesData) (texts : AreTexts files) (settin
   of_plan (planned perms) plans = gives_from perms (all_stand files perms laws.stand plans) finite.empty
   of_plan (refused broken) plans = (one_output (codes "REFUSED") (report_text files (plan_report broken)), refl)
 
--- A configuration that is refused is told: its fault is never want of memory.
+-- A configuration that is refused is told: its fault is never that memory ran out.
 
 unrefused : (key : Option (List ℕ)) (settings : Settings) → unless_refused key settings ≡ Err config.NoMemory → ⊥
 unrefused None settings is = cc
@@ -160,7 +160,7 @@ module _ (laws : BuildLaws) (files : FilesData) where
       let (plan, plans) = laws.plan (finite.get files resolver_path) in
       let (out, of) = of_plan laws files texts settings (settings_allowed laws.config files settings is) plan plans in
       (out, (plan, plans, of))
-  builds_under texts (Err broken) is = config_told files (length (text_at files config_path)) broken is
+  builds_under texts (Err broken) is = config_told files (length (file_text files config_path)) broken is
 
   -- How much is done.
 

@@ -2,7 +2,7 @@
 use Rattle.std.proofs.Common.{◌≡◌, ◌≢◌, ℕ, List, [], ◌∷◌, ◌++◌, Option, Some, None, option_map, inl, inr, refl, sym, ap, subst, ◌∙◌, codes, map}
 use Rattle.std.specs.FinMap as finite
 use Rattle.std.specs.List.{zip}
-use Rattle.token_tree.specs.Shown.{group_view}
+use Rattle.token_tree.specs.View.{group_view}
 use Rattle.token_tree.specs.Tree.{Group}
 use Rattle.token_tree.specs.declared.tree.Group.{Group as GroupCode}
 use Rattle.group_inherit.specs.Answer.{IsSound, IsFlat, IsTreeBreak}

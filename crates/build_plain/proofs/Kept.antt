@@ -1,5 +1,5 @@
 -- Outputs by what is kept of a permutation.
-use Rattle.std.proofs.Common.{◌≡◌, List, [], ◌∷◌, Option, Some, None, refl, sym, subst, ◌∙◌}
+use Rattle.std.proofs.Common.{◌≡◌, ℕ, List, [], ◌∷◌, Option, Some, None, refl, sym, ap, subst, ◌∙◌}
 use Rattle.std.specs.FinMap as finite
 use Rattle.std.specs.List.{zip}
 use Rattle.token_tree.specs.Tree.{Group}
@@ -7,22 +7,24 @@ use Rattle.group_inherit.specs.Merging.{merged_over, empty_group}
 use Rattle.group_inherit.specs.declared.fault.TreeFault.{TreeFault}
 use Rattle.alias_ref.specs.Laws.{Flat}
 use Rattle.permutations.specs.Permutation.{Permutation, TokenSource}
+use Rattle.source_trees.specs.Laws.{OneFound}
 use Rattle.source_trees.specs.Merging.{IsMergedOf}
 use Rattle.source_trees.specs.Sources.{HomeAt, BreakAt, SourcesFound}
+use Rattle.source_trees.specs.View.{break_view}
 use Rattle.source_trees.specs.declared.merge.Merge.{Merge}
 use Rattle.source_trees.specs.declared.merge.Merge.TheVariants as merge
-use Rattle.source_trees.specs.declared.laying.Merged.TheVariants.{Tree}
+use Rattle.source_trees.specs.declared.laying.Merged.TheVariants.{Tree, Broken}
+use Rattle.source_trees.specs.declared.source.SourceBreak.{SourceBreak}
 use Rattle.token_tree.specs.declared.tree.Group.{Group as GroupCode}
-use Rattle.source_trees.proofs.OneMerge.{sources_one}
 use Rattle.transforms.specs.Config.{Settings}
 use Rattle.tk_io.specs.FilesData.{FilesData}
 use Rattle.token_cells.specs.Breaks.{token_reports, verdict}
 use Rattle.token_cells.specs.declared.token_cell.TokenCell.{TokenCell}
-use Rattle.build_plain.specs.Breaks.{home_of, first_file, tree_reports, InTree, InTrees, InSources}
+use Rattle.build_plain.specs.Breaks.{home_of, first_file, source_report, tree_reports, InTree, InTrees, InSources}
 use Rattle.build_plain.specs.Out.{perm_outputs, put_beside, Gives}
 use Rattle.build_plain.specs.Parts.{AreKept, AreKeptOf}
-use Rattle.build_plain.specs.inner.Making.{HasBreak}
-use Rattle.build_plain.proofs.Gives.{gives_tokens, gives_flat, gives_broken}
+use Rattle.build_plain.specs.inner.Making.{SourceHasBreak}
+use Rattle.build_plain.proofs.Gives.{gives_tokens, gives_flat, gives_broken, gives_source_break}
 
 module _ (files : FilesData) (settings : Settings) (p : Permutation) (before out : FilesData) where
   abbrev Found : Type 0
@@ -33,6 +35,13 @@ module _ (files : FilesData) (settings : Settings) (p : Permutation) (before out
   in_merged bs ts found none (cells, breaks, in_tree, made) =
       let first = first_file (home_of files) p.sources in
       (cells, breaks, (bs, ts, found, subst (λ (xs : List BreakAt). InTrees settings first xs ts cells breaks) (sym none) in_tree), made)
+
+  -- a break of a source
+  pub gives_source : (name : List ℕ) → name ≡ p.name → (b : SourceBreak) → IsMergedOf files (home_of files) p.sources (Broken b)
+      → out ≡ put_beside before (perm_outputs files name [] (Some (source_report (break_view b)))) → Found
+  gives_source name named b is made =
+      gives_source_break files settings p.name before out (home_of files) p.sources b refl is
+      (made ∙ ap (λ n. put_beside before (perm_outputs files n [] (Some (source_report (break_view b))))) named)
 
   -- the cells of a flat tree
   flat_kept : (bs : List BreakAt) (ts : List Group) (flat : Flat) (kept : Option (List TokenCell)) (cells : List TokenCell) → SourcesFound files (home_of files) p.sources bs ts
@@ -77,18 +86,18 @@ module _ (files : FilesData) (settings : Settings) (p : Permutation) where
 
   -- nothing is kept where a source breaks a rule
   broken_from : (bs : List BreakAt) (ts : List Group) (kept : Option (List TokenCell)) → SourcesFound files (home_of files) p.sources bs ts → AreKept settings bs ts None kept
-      → HasBreak files p.sources
+      → SourceHasBreak files p.sources
   broken_from [] ts kept found are = absurd are
   broken_from (b ∷ bs) ts kept found are = (b, bs, ts, found)
 
-  pub none_kept : (m : Option Merge) (kept : Option (List TokenCell)) → AreKeptOf settings files p m kept → m ≡ None → HasBreak files p.sources
+  pub none_kept : (m : Option Merge) (kept : Option (List TokenCell)) → AreKeptOf settings files p m kept → m ≡ None → SourceHasBreak files p.sources
   none_kept m kept (bs, ts, found, are) none = broken_from bs ts kept found (subst (λ (x : Option Merge). AreKept settings bs ts x kept) none are)
 
 -- sources of which one breaks a rule come to no tree
-pub no_tree : (files : FilesData) (home : HomeAt) (sources : List TokenSource) (g : GroupCode) → home ≡ home_of files → HasBreak files sources → IsMergedOf files home sources (Tree g) → ⊥
-no_tree files home sources g is (b, bs, ts, found) (cs, us, found_too, (none, laid)) =
+pub no_tree : OneFound → (files : FilesData) (home : HomeAt) (sources : List TokenSource) (g : GroupCode) → home ≡ home_of files → SourceHasBreak files sources → IsMergedOf files home sources (Tree g) → ⊥
+no_tree one files home sources g is (b, bs, ts, found) (cs, us, found_too, (none, laid)) =
     let at : SourcesFound files home sources (b ∷ bs) ts = subst (λ (h : HomeAt). SourcesFound files h sources (b ∷ bs) ts) (sym is) found in
-    not_none ((sources_one files home sources (b ∷ bs) cs ts us at found_too).0 ∙ none)
+    not_none ((one files home sources (b ∷ bs) cs ts us at found_too).0 ∙ none)
   where
     not_none : {x : BreakAt} {xs : List BreakAt} → x ∷ xs ≡ [] → ⊥
     not_none e = cc

@@ -1,16 +1,16 @@
-pub mod Answered
-pub mod EachBuilds
-pub mod Gives
-pub mod Kept
-pub mod KeptParts
-pub mod NoParts
-pub mod OneOutputs
-pub mod OutputsStand
-pub mod Perm
-pub mod Perms
-pub mod Planned
-pub mod SettingsAllowed
-pub mod Shapes
-pub mod Stands
-pub mod Trees
-pub mod Works
+mod Answered
+mod EachBuilds
+mod Gives
+mod Kept
+mod KeptParts
+mod NoParts
+mod OneOutputs
+mod OutputsStand
+mod Perm
+mod Perms
+mod Planned
+mod SettingsAllowed
+mod Shapes
+mod Stands
+mod Trees
+mod Works

@@ -11,8 +11,8 @@ use Rattle.permutations.specs.Permutation.{TokenSource, Permutation}
 use Rattle.file_plan.specs.InUse.{resolver_path}
 use Rattle.file_plan.specs.Laws.{OnePlan}
 use Rattle.file_plan.specs.Plan.{Planned, planned, refused}
+use Rattle.source_trees.specs.Laws.{OneFound}
 use Rattle.source_trees.specs.Sources.{BreakAt}
-use Rattle.source_trees.proofs.OneMerge.{sources_one}
 use Rattle.transforms.specs.Config.{Settings}
 use Rattle.transforms.specs.declared.config.ConfigFault.{ConfigFault}
 use Rattle.transforms.specs.declared.config.ConfigFault.TheVariants as config
@@ -25,8 +25,9 @@ use Rattle.build_plain.specs.Breaks.{home_of, first_file, tree_reports, InTokens
 use Rattle.build_plain.specs.Out.{put_beside, perm_outputs, refused_config, GivesOf, GivesFrom, OfPlan, BuildsUnder, Builds, settings_of}
 use Rattle.build_plain.specs.Work.{Work, work, added, TreeWork, TreesWork, PermWork, PermsWork, PlanWork, WorkUnder, IsWork}
 
--- the laws of trees that are needed
+-- the laws of sources and trees that are needed
 pub record TreeLaws : Type 0 where
+  pub found : OneFound
   pub flat : OneFlat
   pub broken : OneBreak
   pub sound : SoundIsUnbroken
@@ -58,7 +59,7 @@ module _ (trees : TreeLaws) (cells : OneCells) (settings : Settings) where
       → InSources settings files sources cs rs → InSources settings files sources ds ss → Same cs rs ds ss
   one_finding files sources cs ds rs ss (bs, ts, found, i) (bs', ts', found', j) =
       let first = first_file (home_of files) sources in
-      let same = sources_one files (home_of files) sources bs bs' ts ts' found found' in
+      let same = trees.found files (home_of files) sources bs bs' ts ts' found found' in
       one_trees first bs' ts' cs ds rs ss
       (subst (λ us. InTrees settings first bs' us cs rs) same.1 (subst (λ (xs : List BreakAt). InTrees settings first xs ts cs rs) same.0 i)) j
 
@@ -106,7 +107,7 @@ module _ (trees : TreeLaws) where
 
   one_perm_work : (files : FilesData) (p : Permutation) (v w : Work) → PermWork files p v → PermWork files p w → v ≡ w
   one_perm_work files p v w (bs, ts, found, i) (bs', ts', found', j) =
-      let same = sources_one files (home_of files) p.sources bs bs' ts ts' found found' in
+      let same = trees.found files (home_of files) p.sources bs bs' ts ts' found found' in
       one_trees_work bs' ts' v w
       (subst (λ us. TreesWork bs' us v) same.1 (subst (λ (xs : List BreakAt). TreesWork xs ts v) same.0 i)) j
 

@@ -9,7 +9,7 @@ use Rattle.std.specs.Ordering.{eq_by_cmp, is_eq}
 use Rattle.std.specs.Prelude.{◌==◌, ◌⊎◌, if◌then◌else◌}
 use Rattle.std.specs.declared.cmp.Ordering.{Ordering}
 use Rattle.std.specs.declared.cmp.Ordering.TheVariants.{Less, Equal, Greater}
-use Rattle.ring.specs.Routes.{In, AreApart}
+use Rattle.ring.specs.Lists.{In, AreApart}
 use Rattle.tk_io.specs.FilesData.{FilesData}
 use Rattle.tk_io.specs.Order.{text_cmp}
 use Rattle.permutations.specs.Permutation.{Permutation}

@@ -1,30 +1,37 @@
 -- The permutations of a plan, one after another: what is still to come, beside what is there.
-use Rattle.std.proofs.Common.{◌≡◌, List, [], ◌∷◌, refl, sym, ap, ◌∙◌, subst}
+use Rattle.std.proofs.Common.{◌≡◌, List, [], ◌∷◌, Ok, refl, sym, ap, ◌∙◌, subst}
 use Rattle.std.specs.FinMap as finite
 use Rattle.permutations.specs.Permutation.{Permutation}
+use Rattle.file_plan.specs.InUse.{resolver_path}
+use Rattle.file_plan.specs.Plan.{planned, Plans}
 use Rattle.transforms.specs.Config.{Settings}
 use Rattle.tk_io.specs.FilesData.{FilesData}
-use Rattle.build_plain.specs.Out.{GivesOf, GivesFrom}
-use Rattle.build_plain.specs.Work.{Work, work, added, PermWork, PermsWork, RiseBy, RiseWithin, IsWithin}
+use Rattle.build_plain.specs.Out.{BuildsUnder, GivesOf, GivesFrom}
+use Rattle.build_plain.specs.Work.{Work, work, added, PermWork, PermsWork, RiseBy, RiseWithin, IsAtMost}
+use Rattle.build_plain.specs.inner.Outcomes.{Given}
 use Rattle.build_plain.proofs.Works.{added_none, added_more, same_within, within_trans, within_added, more_within}
 
 -- Outputs.
 
 module _ (settings : Settings) (files : FilesData) (all : List Permutation) where
-  -- what the rest gives beside the outputs so far is what all give
-  abbrev pub Given : List Permutation → FilesData → Type 0
-  Given rest now = (out : FilesData) → GivesFrom settings files rest now out → GivesFrom settings files all finite.empty out
-
-  pub given_start : (now : FilesData) → now ≡ finite.empty → Given all now
+  pub given_start : (now : FilesData) → now ≡ finite.empty → Given settings files all all now
   given_start now none = λ out i. subst (λ (m : FilesData). GivesFrom settings files all m out) none i
 
-  pub given_next : (rest : List Permutation) (p : Permutation) (ps : List Permutation) (now next : FilesData) → rest ≡ p ∷ ps → Given rest now
-      → GivesOf settings files p now next → Given ps next
-  given_next rest p ps now next is given gives = λ out i.
-      given out (subst (λ (r : List Permutation). GivesFrom settings files r now out) (sym is) (next, gives, i))
+  pub given_more : (p : Permutation) (ps : List Permutation) (now next : FilesData) → Given settings files all (p ∷ ps) now → GivesOf settings files p now next
+      → Given settings files all ps next
+  given_more p ps now next given gives = λ out i. given out (next, gives, i)
 
-  pub given_end : (rest : List Permutation) (now : FilesData) → rest ≡ [] → Given rest now → GivesFrom settings files all finite.empty now
+  pub given_next : (rest : List Permutation) (p : Permutation) (ps : List Permutation) (now next : FilesData) → rest ≡ p ∷ ps → Given settings files all rest now
+      → GivesOf settings files p now next → Given settings files all ps next
+  given_next rest p ps now next is given gives = given_more p ps now next (subst (λ (r : List Permutation). Given settings files all r now) is given) gives
+
+  pub given_end : (rest : List Permutation) (now : FilesData) → rest ≡ [] → Given settings files all rest now → GivesFrom settings files all finite.empty now
   given_end rest now is given = given now (subst (λ (r : List Permutation). GivesFrom settings files r now now) (sym is) refl)
+
+-- .. so where none is left, the outputs are those of the plan
+pub given_ends : (settings : Settings) (files : FilesData) (perms : List Permutation) (out : FilesData)
+    → Plans (finite.get files resolver_path) (planned perms) → Given settings files perms [] out → BuildsUnder files (Ok settings) out
+given_ends settings files perms out plans given = (planned perms, plans, given out refl)
 
 -- Work.
 
@@ -46,7 +53,7 @@ module _ (files : FilesData) (all : List Permutation) (start : Work) where
 
   -- what is done so far, and the work of the rest, is within that of all
   abbrev pub Most : List Permutation → Work → Type 0
-  Most rest now = (v : Work) → PermsWork files all v → (w : Work) × PermsWork files rest w × IsWithin (added now w) (added start v)
+  Most rest now = (v : Work) → PermsWork files all v → (w : Work) × PermsWork files rest w × IsAtMost (added now w) (added start v)
 
   pub most_next : (rest : List Permutation) (p : Permutation) (ps : List Permutation) (now next : Work) → rest ≡ p ∷ ps → Most rest now
       → RiseWithin (PermWork files p) now next → Most ps next

@@ -1,15 +1,15 @@
 -- What is built of files by their plan and by their configuration.
-use Rattle.std.proofs.Common.{◌≡◌, ℕ, ◌+◌, ◌≤◌, Bool, true, false, cond, List, [], ◌∷◌, Option, Some, None, option_map, Result, Ok, Err, refl, sym, subst, ap, ◌∙◌, arith, codes}
+use Rattle.std.proofs.Common.{◌≡◌, ◌≢◌, ℕ, ◌+◌, ◌≤◌, Bool, true, false, cond, List, [], ◌∷◌, Option, Some, None, option_map, Result, Ok, Err, refl, sym, subst, ap, ◌∙◌, arith, codes}
 use Rattle.std.specs.Cmp.Lexicographic.{nat_list_cmp_total}
 use Rattle.std.specs.FinMap as finite
 use Rattle.std.specs.Prelude.{length, is_some}
 use Rattle.tk_io.specs.Order.{text_cmp}
 use Rattle.json_span.specs.Flaw.{equal_names, too_deep}
 use Rattle.permutations.specs.Permutation.{Permutation}
-use Rattle.file_plan.specs.InUse.{resolver_path, resolver_in, beside, with_named, in_use_by, names_of, files_in_use}
+use Rattle.file_plan.specs.InUse.{resolver_path, resolver_in, beside, with_named, in_use_by, file_names, files_in_use}
 use Rattle.file_plan.specs.Laws.{OnePlan}
 use Rattle.file_plan.specs.Plan.{PlanBreak, planned, refused, Plans, stopped, has_flaw, breaks, too_many, too_many_sources, text_count}
-use Rattle.file_plan.specs.View.{IsRefusal}
+use Rattle.file_plan.specs.View.{IsPlanRefusal}
 use Rattle.file_plan.specs.declared.refusal.PlanRefusal.{PlanRefusal}
 use Rattle.file_plan.specs.declared.refusal.PlanRefusal.TheVariants as refusal
 use Rattle.transforms.specs.Config.{Settings}
@@ -17,9 +17,9 @@ use Rattle.transforms.specs.declared.config.ConfigFault.{ConfigFault}
 use Rattle.transforms.specs.declared.config.ConfigFault.TheVariants.{Toml, Key, NoMemory}
 use Rattle.tk_io.specs.FilesData.{FilesData}
 use Rattle.refusals.specs.Planning.{break_of, plan_report}
-use Rattle.refusals.specs.Refusal.{report_text, text_at}
+use Rattle.refusals.specs.Refusal.{report_text, file_text}
 use Rattle.build_plain.specs.Out.{one_output, GivesFrom, Builds, BuildsUnder, config_path, config_reports, refused_config, settings_of}
-use Rattle.build_plain.specs.Work.{Work, work, added, PermsWork, PlanWork, WorkUnder, IsWork, RiseBy, RiseWithin, IsWithin}
+use Rattle.build_plain.specs.Work.{Work, work, added, PermsWork, PlanWork, WorkUnder, IsWork, RiseBy, RiseWithin, IsAtMost}
 use Rattle.build_plain.specs.inner.Making.{IsConfigFault}
 use Rattle.build_plain.proofs.Works.{work_same, at_rest, rise_so, within_so}
 
@@ -31,42 +31,52 @@ some_same x y e = cc
 
 -- Of a plan that is refused.
 
+-- the rule that it breaks, where memory does not run out
+pub record IsBreak (claim : PlanBreak → Type 0) (found : Option PlanBreak) : Type 0 where
+  pub broken : PlanBreak
+  pub is : claim broken
+  pub same : found ≡ Some broken
+
+pub some_break : (text : Option (List ℕ)) (r : PlanRefusal) → IsPlanRefusal (Plans text) r → is_some (break_of r) ≡ true → IsBreak (λ b. Plans text (refused b)) (break_of r)
+some_break text (refusal.Syntax at) plans some = record { broken = stopped at; is = plans; same = refl }
+some_break text (refusal.Duplicate start end) plans some = record { broken = has_flaw (equal_names start end); is = plans; same = refl }
+some_break text (refusal.Depth start end) plans some = record { broken = has_flaw (too_deep start end); is = plans; same = refl }
+some_break text (refusal.Broken rule start end ring) plans some = record { broken = breaks (record { rule = rule; start = start; end = end }) ring; is = plans; same = refl }
+some_break text (refusal.TooMany start end count) plans some = record { broken = too_many start end count; is = plans; same = refl }
+some_break text (refusal.TooManySources start end count) plans some = record { broken = too_many_sources start end count; is = plans; same = refl }
+some_break text refusal.NoMemory plans some = cc
+
+abbrev told : FilesData → PlanBreak → FilesData
+told files broken = one_output (codes "REFUSED") (report_text files (plan_report broken))
+
+pub has_break : (files : FilesData) (r : PlanRefusal) (o : FilesData) → option_map (told files) (break_of r) ≡ Some o → is_some (break_of r) ≡ true
+has_break files r o is = some_of (break_of r) is
+  where
+    some_of : (b : Option PlanBreak) → option_map (told files) b ≡ Some o → is_some b ≡ true
+    some_of None e = cc
+    some_of (Some b) e = refl
+
 module _ (files : FilesData) (settings : Settings) where
-  abbrev told : PlanBreak → FilesData
-  told broken = one_output (codes "REFUSED") (report_text files (plan_report broken))
-
-  under_break : (broken : PlanBreak) (o : FilesData) → Plans (finite.get files resolver_path) (refused broken) → Some (told broken) ≡ Some o → BuildsUnder files (Ok settings) o
-  under_break broken o plans is = (refused broken, plans, some_same o (told broken) (sym is))
-
-  pub under_refusal : (r : PlanRefusal) (o : FilesData) → IsRefusal (Plans (finite.get files resolver_path)) r → option_map told (break_of r) ≡ Some o → BuildsUnder files (Ok settings) o
-  under_refusal (refusal.Syntax at) o plans is = under_break (stopped at) o plans is
-  under_refusal (refusal.Duplicate start end) o plans is = under_break (has_flaw (equal_names start end)) o plans is
-  under_refusal (refusal.Depth start end) o plans is = under_break (has_flaw (too_deep start end)) o plans is
-  under_refusal (refusal.Broken rule start end ring) o plans is = under_break (breaks (record { rule = rule; start = start; end = end }) ring) o plans is
-  under_refusal (refusal.TooMany start end count) o plans is = under_break (too_many start end count) o plans is
-  under_refusal (refusal.TooManySources start end count) o plans is = under_break (too_many_sources start end count) o plans is
-  under_refusal refusal.NoMemory o plans is = cc
+  pub under_refusal : (r : PlanRefusal) (o : FilesData) → IsPlanRefusal (Plans (finite.get files resolver_path)) r → option_map (told files) (break_of r) ≡ Some o → BuildsUnder files (Ok settings) o
+  under_refusal r o plans is =
+      let b = some_break (finite.get files resolver_path) r plans (has_break files r o is) in
+      (refused b.broken, b.is, some_same o (told files b.broken) (sym is ∙ ap (option_map (told files)) b.same))
 
   pub under_plan : (perms : List Permutation) (o : FilesData) → Plans (finite.get files resolver_path) (planned perms) → GivesFrom settings files perms finite.empty o → BuildsUnder files (Ok settings) o
   under_plan perms o plans gives = (planned perms, plans, gives)
 
   -- .. whose document alone is read
 
-  pub refused_work : (broken : PlanBreak) (m n e c : ℕ) → Plans (finite.get files resolver_path) (refused broken) → c ≡ text_count (finite.get files resolver_path) → n ≡ m + c
-      → (merges : ℕ) → RiseBy (WorkUnder files (Ok settings)) (work m merges e) (work n merges e)
-  refused_work broken m n e c plans is step merges =
-      (work (text_count (finite.get files resolver_path)) 0 0, (refused broken, plans, refl), work_same (step ∙ ap (λ k. m + k) is) (omega arith) (omega arith))
+  refused_work : (broken : PlanBreak) (m n merges e : ℕ) → Plans (finite.get files resolver_path) (refused broken) → n ≡ m + text_count (finite.get files resolver_path)
+      → RiseBy (WorkUnder files (Ok settings)) (work m merges e) (work n merges e)
+  refused_work broken m n merges e plans step =
+      (work (text_count (finite.get files resolver_path)) 0 0, (refused broken, plans, refl), work_same step (omega arith) (omega arith))
 
-  pub refusal_work : (r : PlanRefusal) (o : FilesData) (m n merges e c : ℕ) → IsRefusal (Plans (finite.get files resolver_path)) r → option_map told (break_of r) ≡ Some o
-      → c ≡ text_count (finite.get files resolver_path) → n ≡ m + c → RiseBy (WorkUnder files (Ok settings)) (work m merges e) (work n merges e)
-  refusal_work (refusal.Syntax at) o m n merges e c plans is count step = refused_work (stopped at) m n e c plans count step merges
-  refusal_work (refusal.Duplicate start end) o m n merges e c plans is count step = refused_work (has_flaw (equal_names start end)) m n e c plans count step merges
-  refusal_work (refusal.Depth start end) o m n merges e c plans is count step = refused_work (has_flaw (too_deep start end)) m n e c plans count step merges
-  refusal_work (refusal.Broken rule start end ring) o m n merges e c plans is count step =
-      refused_work (breaks (record { rule = rule; start = start; end = end }) ring) m n e c plans count step merges
-  refusal_work (refusal.TooMany start end count) o m n merges e c plans is c_is step = refused_work (too_many start end count) m n e c plans c_is step merges
-  refusal_work (refusal.TooManySources start end count) o m n merges e c plans is c_is step = refused_work (too_many_sources start end count) m n e c plans c_is step merges
-  refusal_work refusal.NoMemory o m n merges e c plans is count step = cc
+  pub refusal_work : (r : PlanRefusal) → IsPlanRefusal (Plans (finite.get files resolver_path)) r → (m n merges e : ℕ) → is_some (break_of r) ≡ true
+      → n ≡ m + text_count (finite.get files resolver_path) → RiseBy (WorkUnder files (Ok settings)) (work m merges e) (work n merges e)
+  refusal_work r is m n merges e some step =
+      let b = some_break (finite.get files resolver_path) r is some in
+      refused_work b.broken m n merges e b.is step
 
   -- Of one that is not: each file in use is read.
 
@@ -89,7 +99,7 @@ module _ (files : FilesData) (settings : Settings) where
   planned_within one perms p r q m n e f plans first steps most w (other, plans_too, is) =
       of_plan (subst (λ x. PlanWork files x w) (one (finite.get files resolver_path) other (planned perms) plans_too plans) is)
     where
-      of_plan : PlanWork files (planned perms) w → IsWithin (work q n f) (added (work p m e) w)
+      of_plan : PlanWork files (planned perms) w → IsAtMost (work q n f) (added (work p m e) w)
       of_plan (v, is_v, same) =
           let within = most v is_v in
           let all = finite.len (files_in_use files perms) in
@@ -144,7 +154,7 @@ steps_at_most files p q n steps = omega (arith, steps, resolver_count files)
 
 -- so many files are read at least
 pub counted_first : (files : FilesData) (perms : List Permutation) → text_count (finite.get files resolver_path) ≤ finite.len (files_in_use files perms)
-counted_first files perms = omega (arith, resolver_count files, in_use_more files (resolver_in files) (names_of perms))
+counted_first files perms = omega (arith, resolver_count files, in_use_more files (resolver_in files) (file_names perms))
 
 -- where memory runs out at the resolver document
 pub resolver_within : (files : FilesData) (settings : Settings) (p q m e : ℕ) → q ≤ p + text_count (finite.get files resolver_path)
@@ -167,7 +177,7 @@ module _ (files : FilesData) where
   pub built : (settings : Settings) (o : FilesData) → settings_of files ≡ Ok settings → BuildsUnder files (Ok settings) o → Builds files o
   built settings o same made = of_config (Ok settings) o same made
 
-  pub built_config : (broken : ConfigFault) (o : FilesData) → IsConfigFault files broken → refused_config files (config_reports (length (text_at files config_path)) broken) o → Builds files o
+  pub built_config : (broken : ConfigFault) (o : FilesData) → IsConfigFault files broken → refused_config files (config_reports (length (file_text files config_path)) broken) o → Builds files o
   built_config Toml o is made = of_config (Err Toml) o is made
   built_config (Key key) o is made = of_config (Err (Key key)) o is made
   built_config NoMemory o is made = absurd made
@@ -184,8 +194,15 @@ module _ (files : FilesData) where
   pub worked_within : (settings : Settings) (a b : Work) → settings_of files ≡ Ok settings → RiseWithin (WorkUnder files (Ok settings)) a b → RiseWithin (IsWork files) a b
   worked_within settings a b same r = within_so (WorkUnder files (Ok settings)) (IsWork files) a b (λ w. of_work (Ok settings) w same) r
 
-  pub nothing_done : (broken : ConfigFault) (o : FilesData) (v : Work) → IsConfigFault files broken → refused_config files (config_reports (length (text_at files config_path)) broken) o
-      → RiseBy (IsWork files) v v
-  nothing_done Toml o v is made = at_rest (IsWork files) v (work_of (Err Toml) (work 0 0 0) is refl)
-  nothing_done (Key key) o v is made = at_rest (IsWork files) v (work_of (Err (Key key)) (work 0 0 0) is refl)
-  nothing_done NoMemory o v is made = absurd made
+  pub is_refused : (broken : ConfigFault) → IsConfigFault files broken → broken ≢ NoMemory → settings_of files ≡ Err broken
+  is_refused Toml is some = is
+  is_refused (Key key) is some = is
+  is_refused NoMemory is some = absurd (some refl)
+
+  pub nothing_done : (broken : ConfigFault) (v : Work) → IsConfigFault files broken → broken ≢ NoMemory → RiseBy (IsWork files) v v
+  nothing_done broken v is some = at_rest (IsWork files) v (work_of (Err broken) (work 0 0 0) (is_refused broken is some) refl)
+
+  pub told_fault : (broken : ConfigFault) (o : FilesData) → refused_config files (config_reports (length (file_text files config_path)) broken) o → broken ≢ NoMemory
+  told_fault Toml o told = λ e. cc
+  told_fault (Key key) o told = λ e. cc
+  told_fault NoMemory o told = absurd told

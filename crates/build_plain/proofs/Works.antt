@@ -2,23 +2,23 @@
 use Rattle.std.proofs.Common.{◌≡◌, ◌≢◌, ℕ, ◌+◌, ◌≤◌, List, [], Result, Ok, Err, inl, inr, refl, sym, ap, subst, arith}
 use Rattle.std.specs.FinMap as finite
 use Rattle.std.specs.Prelude.{length, OnOk, IfOk}
-use Rattle.token_tree.specs.Shown.{group_view}
+use Rattle.token_tree.specs.View.{group_view}
 use Rattle.token_tree.specs.Tree.{Group}
 use Rattle.token_tree.specs.declared.tree.Group.{Group as GroupCode}
 use Rattle.group_inherit.specs.Answer.{IsSound, IsFlat, IsTreeBreak}
+use Rattle.group_inherit.specs.Laws.{OneFlat, SoundIsUnbroken}
 use Rattle.group_inherit.specs.declared.fault.TreeFault.{TreeFault}
 use Rattle.group_inherit.specs.declared.fault.TreeFault.TheVariants as fault
 use Rattle.alias_ref.specs.Laws.{Flat}
 use Rattle.permutations.specs.Permutation.{Permutation}
+use Rattle.source_trees.specs.Laws.{OneFound}
 use Rattle.source_trees.specs.Merging.{IsMergedOf}
 use Rattle.source_trees.specs.Sources.{HomeAt, BreakAt, SourcesFound}
 use Rattle.source_trees.specs.declared.laying.Merged.TheVariants.{Tree, Broken}
 use Rattle.source_trees.specs.declared.source.SourceBreak.{SourceBreak}
-use Rattle.source_trees.proofs.OneMerge.{sources_one}
 use Rattle.tk_io.specs.FilesData.{FilesData}
 use Rattle.build_plain.specs.Breaks.{home_of}
-use Rattle.build_plain.specs.Work.{Work, work, added, TreeWork, TreesWork, PermWork, RiseBy, RiseWithin, IsWithin}
-use Rattle.build_plain.proofs.OneOutputs.{TreeLaws}
+use Rattle.build_plain.specs.Work.{Work, work, added, TreeWork, TreesWork, PermWork, RiseBy, RiseWithin, IsAtMost}
 
 -- Sums of work.
 
@@ -31,20 +31,20 @@ added_none v = work_same {p = v.parses} {m = v.merges} {e = v.evals} (omega arit
 pub added_more : (u v w : Work) → added u (added v w) ≡ added (added u v) w
 added_more u v w = work_same (omega arith) (omega arith) (omega arith)
 
-pub same_within : {v w : Work} → v ≡ w → IsWithin v w
+pub same_within : {v w : Work} → v ≡ w → IsAtMost v w
 same_within e = record { parses = omega (arith, ap (λ x. x.parses) e); merges = omega (arith, ap (λ x. x.merges) e); evals = omega (arith, ap (λ x. x.evals) e) }
 
-pub within_trans : {u v w : Work} → IsWithin u v → IsWithin v w → IsWithin u w
+pub within_trans : {u v w : Work} → IsAtMost u v → IsAtMost v w → IsAtMost u w
 within_trans i j = record {
   parses = omega (arith, i.parses, j.parses);
   merges = omega (arith, i.merges, j.merges);
   evals = omega (arith, i.evals, j.evals);
 }
 
-pub within_added : (v w : Work) → IsWithin v (added v w)
+pub within_added : (v w : Work) → IsAtMost v (added v w)
 within_added v w = record { parses = omega arith; merges = omega arith; evals = omega arith }
 
-pub more_within : {u v : Work} (w : Work) → IsWithin u v → IsWithin (added u w) (added v w)
+pub more_within : {u v : Work} (w : Work) → IsAtMost u v → IsAtMost (added u w) (added v w)
 more_within w i = record { parses = omega (arith, i.parses); merges = omega (arith, i.merges); evals = omega (arith, i.evals) }
 
 -- what holds whatever is answered
@@ -59,6 +59,10 @@ on_ok_both (Err e) f p q = tt
 pub on_ok_if : {T E Q : Type 0} {P : T → Type 0} (r : Result T E) → ((x : T) → P x → Q) → IfOk r P → OnOk r Q
 on_ok_if (Ok x) f p = f x p
 on_ok_if (Err e) f p = tt
+
+pub if_ok_on : {T E Q : Type 0} {P R : T → Type 0} (r : Result T E) → (Q → (x : T) → P x → R x) → OnOk r Q → IfOk r P → IfOk r R
+if_ok_on (Ok x) f q p = f q x p
+if_ok_on (Err e) f q p = tt
 
 -- One claim by another.
 
@@ -94,11 +98,11 @@ module _ (tree : Group) where
   pub merged_only : (m n e : ℕ) → n ≡ m + 1 → RiseWithin (TreeWork tree) (work 0 m e) (work 0 n e)
   merged_only m n e step w is = record { parses = omega arith; merges = omega (arith, step, one_merge w is); evals = omega arith }
 
-  pub flat_within : (laws : TreeLaws) (flat : Flat) (m n e f : ℕ) → IsSound tree → IsFlat tree flat → n ≡ m + 1 → f ≤ e + length (finite.entries flat)
+  pub flat_within : (one : OneFlat) (unbroken : SoundIsUnbroken) (flat : Flat) (m n e f : ℕ) → IsSound tree → IsFlat tree flat → n ≡ m + 1 → f ≤ e + length (finite.entries flat)
       → RiseWithin (TreeWork tree) (work 0 m e) (work 0 n f)
-  flat_within laws flat m n e f sound is step most w (inl (broken, some, breaks, done)) = absurd (laws.sound tree broken sound some breaks)
-  flat_within laws flat m n e f sound is step most w (inr (other, sound_too, is_too, done)) =
-      let same : length (finite.entries flat) ≡ length (finite.entries other) = ap (λ (x : Flat). length (finite.entries x)) (laws.flat tree flat other is is_too) in
+  flat_within one unbroken flat m n e f sound is step most w (inl (broken, some, breaks, done)) = absurd (unbroken tree broken sound some breaks)
+  flat_within one unbroken flat m n e f sound is step most w (inr (other, sound_too, is_too, done)) =
+      let same : length (finite.entries flat) ≡ length (finite.entries other) = ap (λ (x : Flat). length (finite.entries x)) (one tree flat other is is_too) in
       record { parses = omega arith; merges = omega (arith, step, ap (λ x. x.merges) done); evals = omega (arith, most, same, ap (λ x. x.evals) done) }
 
 -- Of sources.
@@ -117,10 +121,10 @@ module _ (files : FilesData) (home : HomeAt) (p : Permutation) (is_home : home �
   tree_at g w (bs, ts, found, (none, is)) i =
       to_perm w (bs, ts, found, subst (λ (xs : List BreakAt). TreesWork xs ts w) (sym none) (subst (λ t. TreeWork t w) is i))
 
-  at_tree : (g : GroupCode) (w : Work) → IsMergedOf files home p.sources (Tree g) → PermWork files p w → TreeWork (group_view g) w
-  at_tree g w (bs, ts, found, (none, is)) i =
+  at_tree : (found : OneFound) (g : GroupCode) (w : Work) → IsMergedOf files home p.sources (Tree g) → PermWork files p w → TreeWork (group_view g) w
+  at_tree one g w (bs, ts, found, (none, is)) i =
       let (cs, us, found_too, j) = of_perm w i in
-      let same = sources_one files home p.sources cs bs us ts found_too found in
+      let same = one files home p.sources cs bs us ts found_too found in
       let j_bs : TreesWork bs ts w = subst (λ us. TreesWork bs us w) same.1 (subst (λ (xs : List BreakAt). TreesWork xs us w) same.0 j) in
       let j_none : TreesWork [] ts w = subst (λ (xs : List BreakAt). TreesWork xs ts w) none j_bs in
       subst (λ t. TreeWork t w) (sym is) j_none
@@ -128,8 +132,8 @@ module _ (files : FilesData) (home : HomeAt) (p : Permutation) (is_home : home �
   pub merged_work : (g : GroupCode) (a b : Work) → IsMergedOf files home p.sources (Tree g) → RiseBy (TreeWork (group_view g)) a b → RiseBy (PermWork files p) a b
   merged_work g a b is r = rise_so (TreeWork (group_view g)) (PermWork files p) a b (λ w. tree_at g w is) r
 
-  pub merged_within : (g : GroupCode) (a b : Work) → IsMergedOf files home p.sources (Tree g) → RiseWithin (TreeWork (group_view g)) a b → RiseWithin (PermWork files p) a b
-  merged_within g a b is r = within_so (TreeWork (group_view g)) (PermWork files p) a b (λ w. at_tree g w is) r
+  pub merged_within : (found : OneFound) (g : GroupCode) (a b : Work) → IsMergedOf files home p.sources (Tree g) → RiseWithin (TreeWork (group_view g)) a b → RiseWithin (PermWork files p) a b
+  merged_within found g a b is r = within_so (TreeWork (group_view g)) (PermWork files p) a b (λ w. at_tree found g w is) r
 
   pub unmerged_work : (b : SourceBreak) (v : Work) → IsMergedOf files home p.sources (Broken b) → RiseBy (PermWork files p) v v
   unmerged_work b v (bs, ts, found, (rest, is)) =

@@ -17,7 +17,7 @@ use Rattle.source_trees.specs.declared.source.SourceFault.{SourceFault}
 use Rattle.source_trees.specs.declared.source.SourceFault.TheVariants.{Missing, Syntax, Duplicate, Depth, Shape}
 use Rattle.transforms.specs.Config.{Settings}
 use Rattle.tk_io.specs.FilesData.{FilesData}
-use Rattle.refusals.specs.Refusal.{Report, report, text_at, lost_group, ring_group, counted}
+use Rattle.refusals.specs.Refusal.{Report, report, file_text, lost_group, ring_group, counted}
 use Rattle.refusals.specs.declared.rule.Rule.{Rule}
 use Rattle.refusals.specs.declared.rule.Rule.TheVariants as rule
 use Rattle.token_cells.specs.Breaks.{token_reports}
@@ -33,7 +33,7 @@ tokens_path = codes "tokens.json"
 -- The file that names the sources: the resolver document, or without one the token file itself, which is told at its
 -- own beginning where it is missing.
 abbrev pub home_by : FilesData → Option (List ℕ) → HomeAt
-home_by files None = record { file = tokens_path; text = text_at files tokens_path }
+home_by files None = record { file = tokens_path; text = file_text files tokens_path }
 home_by files (Some document) = record { file = resolver_path; text = document }
 
 abbrev pub home_of : FilesData → HomeAt

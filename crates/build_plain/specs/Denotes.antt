@@ -1,7 +1,7 @@
 -- What the outputs of files hold: for each permutation either four files that denote the values of its tokens, or the first rule that it breaks; and no other.
 use Rattle.std.specs.Prelude.{◌≡◌, ◌⊎◌, ℕ, List, [], ◌∷◌, ◌++◌, codes, Some, Ok}
 use Rattle.std.specs.FinMap as finite
-use Rattle.ring.specs.Routes.{In}
+use Rattle.ring.specs.Lists.{In}
 use Rattle.tk_io.specs.FilesData.{FilesData}
 use Rattle.permutations.specs.Permutation.{Permutation}
 use Rattle.file_plan.specs.InUse.{resolver_path}

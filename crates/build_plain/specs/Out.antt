@@ -9,7 +9,7 @@ use Rattle.permutations.specs.Permutation.{Permutation}
 use Rattle.file_plan.specs.InUse.{resolver_path}
 use Rattle.file_plan.specs.Plan.{Planned, planned, refused, Plans}
 use Rattle.refusals.specs.Planning.{plan_report}
-use Rattle.refusals.specs.Refusal.{Report, report, report_text, of_key, text_at}
+use Rattle.refusals.specs.Refusal.{Report, report, report_text, of_key, file_text}
 use Rattle.refusals.specs.declared.rule.Rule.TheVariants as rule
 use Rattle.token_cells.specs.Breaks.{verdict}
 use Rattle.token_cells.specs.Sheets.{sheet_for}
@@ -87,7 +87,7 @@ refused_config files (r ∷ rs) out = out ≡ one_output (codes "REFUSED") (repo
 
 abbrev pub BuildsUnder : FilesData → Result Settings ConfigFault → FilesData → Type 0
 BuildsUnder files (Ok settings) out = (p : Planned) × Plans (finite.get files resolver_path) p × OfPlan settings files p out
-BuildsUnder files (Err broken) out = refused_config files (config_reports (length (text_at files config_path)) broken) out
+BuildsUnder files (Err broken) out = refused_config files (config_reports (length (file_text files config_path)) broken) out
 
 -- The outputs of the files.
 abbrev pub Builds : FilesData → FilesData → Type 0

@@ -1,8 +1,9 @@
--- What is kept of a build: the trees of the files in use, what the sources of each permutation come to, and what its tokens come to.
+-- What is kept of a build: the trees of the files in use, what the sources of each permutation come to, and what its
+-- tokens come to.
 use Rattle.std.specs.Prelude.{◌≡◌, ℕ, List, [], ◌∷◌, map, Option, Some, None, Result, Ok, Err}
 use Rattle.std.specs.FinMap as finite
 use Rattle.std.specs.List.{AllByRecursion}
-use Rattle.ring.specs.Routes.{In}
+use Rattle.ring.specs.Lists.{In}
 use Rattle.token_tree.specs.Tree.{Group}
 use Rattle.group_inherit.specs.Merging.{merged_over, empty_group}
 use Rattle.permutations.specs.Permutation.{Permutation}
@@ -39,11 +40,16 @@ AreKept settings (b ∷ bs) trees kept cells = (kept ≡ None) × (cells ≡ Non
 
 abbrev pub AreKeptOf : Settings → FilesData → Permutation → Option Merge → Option (List TokenCell) → Type 0
 AreKeptOf settings files p kept cells =
-    (bs : List BreakAt) × (trees : List Group) × SourcesFound files (home_of files) p.sources bs trees × AreKept settings bs trees kept cells
+    (bs : List BreakAt) × (trees : List Group) × SourcesFound files (home_of files) p.sources bs trees
+    × AreKept settings bs trees kept cells
+
+-- .. under its name
+abbrev pub AreKeptIn : Settings → FilesData → Parts → Permutation → Type 0
+AreKeptIn settings files parts p =
+    AreKeptOf settings files p (finite.get parts.merges p.name) (finite.get parts.cells p.name)
 
 abbrev pub AreEachKept : Settings → FilesData → List Permutation → Parts → Type 0
-AreEachKept settings files perms parts =
-    AllByRecursion (λ p. AreKeptOf settings files p (finite.get parts.merges p.name) (finite.get parts.cells p.name)) perms
+AreEachKept settings files perms parts = AllByRecursion (AreKeptIn settings files parts) perms
 
 -- Of a plan: the trees are exactly those of the files in use, and the rest stands under the names of permutations alone.
 pub record AreParts (settings : Settings) (files : FilesData) (perms : List Permutation) (parts : Parts) : Type 0 where
@@ -63,7 +69,8 @@ ArePlanParts settings files (planned perms) parts = AreParts settings files perm
 ArePlanParts settings files (refused broken) parts = AreTrees (resolver_in files) parts
 
 abbrev pub ArePartsUnder : FilesData → Result Settings ConfigFault → Parts → Type 0
-ArePartsUnder files (Ok settings) parts = (p : Planned) × Plans (finite.get files resolver_path) p × ArePlanParts settings files p parts
+ArePartsUnder files (Ok settings) parts =
+    (p : Planned) × Plans (finite.get files resolver_path) p × ArePlanParts settings files p parts
 ArePartsUnder files (Err broken) parts = AreTrees finite.empty parts
 
 -- The parts are those of the files.

@@ -31,7 +31,7 @@ added v w = work (v.parses + w.parses) (v.merges + w.merges) (v.evals + w.evals)
 
 -- Of a permutation.
 
--- each token of a flat tree is evaluated, also behind a break
+-- each token of a flat tree is evaluated, also after a break
 abbrev pub TreeWork : Group → Work → Type 0
 TreeWork tree w =
     ((broken : TreeFault) × (broken ≢ fault.NoMemory) × IsTreeBreak tree broken × (w ≡ work 0 1 0))
@@ -70,10 +70,10 @@ IsWork files w = WorkUnder files (settings_of files) w
 abbrev pub RiseBy : (Work → Type 0) → Work → Work → Type 0
 RiseBy claim before after = (w : Work) × claim w × (after ≡ added before w)
 
-pub record IsWithin (v w : Work) : Type 0 where
+pub record IsAtMost (v w : Work) : Type 0 where
   pub parses : v.parses ≤ w.parses
   pub merges : v.merges ≤ w.merges
   pub evals : v.evals ≤ w.evals
 
 abbrev pub RiseWithin : (Work → Type 0) → Work → Work → Type 0
-RiseWithin claim before after = (w : Work) → claim w → IsWithin after (added before w)
+RiseWithin claim before after = (w : Work) → claim w → IsAtMost after (added before w)

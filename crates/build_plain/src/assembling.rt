@@ -1,7 +1,6 @@
 // Putting the outputs of files together from parts that are kept.
 ghost use Rattle.std.specs.Prelude.{◌≡◌, Ok, IfOk, OnOk};
 ghost use Rattle.std.specs.FinMap as map;
-ghost use Rattle.std.specs.List.{AllByRecursion};
 ghost use Rattle.file_plan.specs.InUse.{resolver_path};
 ghost use Rattle.file_plan.specs.Plan.{Plans, planned};
 ghost use Rattle.file_plan.specs.View.{plan_perm_view, plan_sources_view, plan_view};
@@ -10,8 +9,8 @@ ghost use Rattle.source_trees.specs.View.{home_view};
 ghost use Rattle.transforms.specs.Config.{Settings};
 ghost use Rattle.build_plain.specs.Breaks.{home_of};
 ghost use Rattle.build_plain.specs.Out.{Builds, BuildsUnder, GivesFrom, GivesOf};
-ghost use Rattle.build_plain.specs.Parts.{AreEachKept, AreKeptOf, AreParts, ArePartsOf, ArePartsUnder};
-ghost use Rattle.build_plain.specs.inner.Making.{HasBreak};
+ghost use Rattle.build_plain.specs.Parts.{AreEachKept, AreKeptIn, AreParts, ArePartsOf, ArePartsUnder};
+ghost use Rattle.build_plain.specs.inner.Making.{AllKnown, AllStand, SourceHasBreak};
 
 use crate::config::{config_of, refused_config};
 use crate::parts::Parts;
@@ -19,7 +18,9 @@ use crate::permutation::{put_source_break, put_tokens, put_tree_break};
 use crate::planning::refused_plan;
 use crate::sources::{RESOLVER, first_file, home_of};
 use file_plan::{Files, PlanPerm, file_plan_laws, in_use_laws, plan_of};
-use source_trees::{Home, Merge, Merged, Shapes, merged_sources, shapes_known, shapes_of};
+use source_trees::{
+    Home, Merge, Merged, Shapes, merged_sources, one_merge, shapes_known, shapes_of,
+};
 use std::alloc::Global;
 use tk_io::{NoMemory, Outputs};
 use transforms::Config;
@@ -36,9 +37,11 @@ fn assemble_broken<'s>(
     requires home { home_view home ≡ home_of files.now }
     requires stand { AllInlineStand home.text.now (plan_sources_view perm.now.sources) }
     requires known { AreKnown files.now shapes.now (plan_sources_view perm.now.sources) }
-    requires broken { HasBreak files.now (plan_sources_view perm.now.sources) }
-    ensures { (settings : Settings) → OnOk result (GivesOf settings files.now (plan_perm_view perm.now) outputs.old outputs.new) }
+    requires broken { SourceHasBreak files.now (plan_sources_view perm.now.sources) }
+    ensures { (settings : Settings) → OnOk result (GivesOf settings files.now
+        (plan_perm_view perm.now) outputs.old outputs.new) }
 {
+    one_merge();
     match merged_sources(alloc, shapes, home, perm.sources.as_slice())? {
         Merged::Tree(_) => unreachable!(),
         Merged::Broken(found) => {
@@ -61,8 +64,9 @@ fn assemble_perm<'s>(
     requires home { home_view home ≡ home_of files.now }
     requires stand { AllInlineStand home.text.now (plan_sources_view perm.now.sources) }
     requires known { AreKnown files.now shapes.now (plan_sources_view perm.now.sources) }
-    requires kept { AreKeptOf cfg.now files.now (plan_perm_view perm.now) (map.get parts.now.merges perm.now.name) (map.get parts.now.cells perm.now.name) }
-    ensures { OnOk result (GivesOf cfg.now files.now (plan_perm_view perm.now) outputs.old outputs.new) }
+    requires kept { AreKeptIn cfg.now files.now parts.now (plan_perm_view perm.now) }
+    ensures { OnOk result (GivesOf cfg.now files.now
+        (plan_perm_view perm.now) outputs.old outputs.new) }
 {
     let name = perm.name.as_str();
     match parts.merges.get(name) {
@@ -89,8 +93,8 @@ fn assemble_perms<'s>(
     plan: &[PlanPerm<'s>],
     parts: &Parts<'s>,
 ) -> Result<Outputs, NoMemory>
-    requires stand { AllByRecursion (λ p. AllInlineStand (home_of files.now).text p.sources) (plan_view plan.now) }
-    requires known { AllByRecursion (λ p. AreKnown files.now shapes.now p.sources) (plan_view plan.now) }
+    requires stand { AllStand files.now (plan_view plan.now) }
+    requires known { AllKnown files.now shapes.now (plan_view plan.now) }
     requires kept { AreEachKept cfg.now files.now (plan_view plan.now) parts.now }
     ensures { IfOk result (GivesFrom cfg.now files.now (plan_view plan.now) map.empty) }
 {

@@ -1,12 +1,12 @@
 // The configuration of files.
 ghost use Rattle.std.specs.Prelude.{◌≡◌, [], Ok, Err, IfOk, IfErr, length};
-ghost use Rattle.refusals.specs.Refusal.{text_at, report, report_text};
+ghost use Rattle.refusals.specs.Refusal.{file_text, report, report_text};
 ghost use Rattle.build_plain.specs.Out.{settings_of, config_path, config_reports, refused_config};
 ghost use Rattle.build_plain.specs.inner.Making.{IsConfigFault};
 
 use crate::output::one_output;
 use file_plan::Files;
-use refusals::{Rule, append_key, refuse, text_at};
+use refusals::{Rule, append_key, file_text, refuse};
 use std::alloc::Global;
 use tk_io::{Bytes, NoMemory, Outputs};
 use transforms::{Config, ConfigFault, read_config};
@@ -26,9 +26,16 @@ pub(crate) fn config_of(alloc: Global, files: &Files<'_>) -> Result<Config, Conf
 
 fn config_text(alloc: Global, files: &Files<'_>, rule: Rule) -> Result<Bytes, NoMemory>
     ensures { IfOk result (λ b. b ≡ report_text files.now
-        (report rule config_path 0 (length (text_at files.now config_path)) [])) }
+        (report rule config_path 0 (length (file_text files.now config_path)) [])) }
 {
-    refuse(alloc, files, rule, CONFIG, 0, text_at(files, CONFIG).len())
+    refuse(
+        alloc,
+        files,
+        rule,
+        CONFIG,
+        0,
+        file_text(files, CONFIG).len(),
+    )
 }
 
 /// The one output of files whose configuration is refused.
@@ -38,7 +45,7 @@ pub(crate) fn refused_config(
     fault: &ConfigFault,
 ) -> Result<Outputs, NoMemory>
     ensures { IfOk result (refused_config files.now
-        (config_reports (length (text_at files.now config_path)) fault.now)) }
+        (config_reports (length (file_text files.now config_path)) fault.now)) }
 {
     match fault {
         ConfigFault::Toml => {

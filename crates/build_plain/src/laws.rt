@@ -4,7 +4,7 @@ ghost use Rattle.build_plain.specs.Laws.{EachBuilds, EachWorks, OneBuild, OneWor
 
 use file_plan::{each_plan, file_plan_laws};
 use group_inherit::each_tree_answers;
-use source_trees::{each_merge, merged_tokens};
+use source_trees::{each_merge, merged_tokens, one_merge};
 use token_cells::{each_cell, one_cells, other_sheets_denote, sheets_denote};
 use transforms::config_laws;
 
@@ -15,6 +15,7 @@ pub fn one_build()
 {
     file_plan_laws();
     group_inherit::one_answer();
+    one_merge();
     one_cells();
 }
 
@@ -40,6 +41,7 @@ pub fn outputs_denote()
     ensures no_other { NoOtherStands }
 {
     group_inherit::one_answer();
+    one_merge();
     one_cells();
     file_plan_laws();
     merged_tokens();

@@ -6,6 +6,8 @@ mod building;
 mod config;
 mod keeping;
 mod laws;
+mod making;
+mod outcome;
 mod output;
 mod parts;
 mod permutation;

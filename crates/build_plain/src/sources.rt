@@ -5,7 +5,7 @@ ghost use Rattle.source_trees.specs.View.{home_view};
 ghost use Rattle.build_plain.specs.Breaks.{home_of, first_file, source_rule};
 
 use file_plan::{Files, PlanSource};
-use refusals::{Rule, text_at};
+use refusals::{Rule, file_text};
 use source_trees::{Home, SourceFault};
 
 const TOKENS: &str = "tokens.json";
@@ -24,7 +24,7 @@ pub(crate) fn home_of<'s>(files: &Files<'s>) -> Home<'s>
         },
         None => Home {
             file: TOKENS,
-            text: text_at(files, TOKENS),
+            text: file_text(files, TOKENS),
         },
     }
 }

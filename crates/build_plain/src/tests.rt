@@ -34,8 +34,13 @@ static TOO_HIGH: &str =
 
 static MISSING: &str = "rule file-missing\nfile tokens.json\nline 1 column 1\nbytes 0 0\n";
 
-static TOO_DEEP: &str =
-    "rule alias-depth\nfile tokens.json\nline 1 column 6730\nbytes 6729 6730\ntoken \"n0\"\nplace \"#/n256/$value\"\n";
+static TOO_DEEP: &str = r##"rule alias-depth
+file tokens.json
+line 1 column 6730
+bytes 6729 6730
+token "n0"
+place "#/n256/$value"
+"##;
 
 fn counted<L: Ledger, M: Ledger, N: Ledger>(
     alloc: Global,
@@ -243,19 +248,31 @@ static CONFIGS: [(&str, &str, &str); 5] = [
         ":root {\n  --a: var(--b);\n  --b: var(--c);\n  --c: 4px;\n}\n",
     ),
     (
-        "prefix = \"ds\"\nreferences = false\n",
+        r#"prefix = "ds"
+references = false
+"#,
         "default/tokens.css",
         ":root {\n  --ds-a: 4px;\n  --ds-b: 4px;\n  --ds-c: 4px;\n}\n",
     ),
     (
         "colour = 1\n",
         "REFUSED",
-        "rule config-key\nfile tokc.toml\nline 1 column 1\nbytes 0 11\nkey \"colour\"\n",
+        r#"rule config-key
+file tokc.toml
+line 1 column 1
+bytes 0 11
+key "colour"
+"#,
     ),
     (
         "rem_base = 0\n",
         "REFUSED",
-        "rule config-key\nfile tokc.toml\nline 1 column 1\nbytes 0 13\nkey \"rem_base\"\n",
+        r#"rule config-key
+file tokc.toml
+line 1 column 1
+bytes 0 13
+key "rem_base"
+"#,
     ),
     (
         "=",
@@ -284,17 +301,17 @@ fn append_number(text: &mut String, number: usize) -> Result<(), Fail> {
 
 /// Tokens each but the last of which is an alias of the next.
 fn chain(alloc: Global, last: usize) -> Result<String, Fail> {
-    let mut text = String::from_str(alloc, "{\"$type\":\"number\"")?;
+    let mut text = String::from_str(alloc, r#"{"$type":"number""#)?;
     for i in 0..last {
-        text.push_str(",\"n")?;
+        text.push_str(r#","n"#)?;
         append_number(&mut text, i)?;
-        text.push_str("\":{\"$value\":\"{n")?;
+        text.push_str(r#"":{"$value":"{n"#)?;
         append_number(&mut text, i + 1)?;
-        text.push_str("}\"}")?;
+        text.push_str(r#"}"}"#)?;
     }
-    text.push_str(",\"n")?;
+    text.push_str(r#","n"#)?;
     append_number(&mut text, last)?;
-    text.push_str("\":{\"$value\":1}}")?;
+    text.push_str(r#"":{"$value":1}}"#)?;
     Ok(text)
 }
 
@@ -316,21 +333,19 @@ fn the_longest_chain(rt: HostRuntime) -> Result<(), Fail> {
 /// Group `g0` with a token, and others that each have so many groups which extend the one before.
 fn extensions(alloc: Global, groups: usize, names: &[&str]) -> Result<String, Fail> {
     let mut text = String::new(alloc);
-    text.push_str(
-        "{\"g0\":{\"$type\":\"dimension\",\"t\":{\"$value\":{\"value\":1,\"unit\":\"px\"}}}",
-    )?;
+    text.push_str(r#"{"g0":{"$type":"dimension","t":{"$value":{"value":1,"unit":"px"}}}"#)?;
     for i in 1..groups {
         let mut buffer = Buffer::new();
-        text.push_str(",\"g")?;
+        text.push_str(r#","g"#)?;
         text.push_str(buffer.format(i))?;
-        text.push_str("\":{\"$description\":\"\"")?;
+        text.push_str(r#"":{"$description":"""#)?;
         for name in names {
             let mut before = Buffer::new();
-            text.push_str(",\"")?;
+            text.push_str(r#",""#)?;
             text.push_str(name)?;
-            text.push_str("\":{\"$extends\":\"{g")?;
+            text.push_str(r#"":{"$extends":"{g"#)?;
             text.push_str(before.format(i - 1))?;
-            text.push_str("}\"}")?;
+            text.push_str(r#"}"}"#)?;
         }
         text.push_str("}")?;
     }
@@ -368,16 +383,29 @@ static FOUR_FILES: [(&str, &str); 4] = [
     ("default/tokens.css", ":root {\n  --space-s: 4px;\n}\n"),
     (
         "default/tokens.json",
-        "{\n  \"space.s\": {\"$type\": \"dimension\", \"$value\": {\"value\": 4, \"unit\": \"px\"}}\n}\n",
+        r#"{
+  "space.s": {"$type": "dimension", "$value": {"value": 4, "unit": "px"}}
+}
+"#,
     ),
     (
         "default/tokens.xml",
-        "<?xml version=\"1.0\" encoding=\"utf-8\"?>\n<resources>\n  <dimen name=\"space_s\">4dp</dimen>\n</resources>\n",
+        r#"<?xml version="1.0" encoding="utf-8"?>
+<resources>
+  <dimen name="space_s">4dp</dimen>
+</resources>
+"#,
     ),
 ];
 
-static CLASH_ON_ANDROID: &str =
-    "rule name-clash\nfile tokens.json\nline 1 column 44\nbytes 43 72\ntoken \"a_b\"\nother \"a-b\"\nplatform android\n";
+static CLASH_ON_ANDROID: &str = r#"rule name-clash
+file tokens.json
+line 1 column 44
+bytes 43 72
+token "a_b"
+other "a-b"
+platform android
+"#;
 
 #[test]
 fn the_files_of_every_platform(rt: HostRuntime) -> Result<(), Fail> {

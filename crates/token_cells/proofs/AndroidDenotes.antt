@@ -7,12 +7,12 @@ use Rattle.name_path.specs.Names.{IsTokenPath}
 use Rattle.group_inherit.specs.Flattening.{TokenAt}
 use Rattle.alias_ref.specs.Laws.{Flat}
 use Rattle.composite_rules.specs.Laws.{ValuesKeep}
-use Rattle.transforms.specs.Clash.{Named, ShareNoName, NamesAreApart}
+use Rattle.transforms.specs.Clash.{NamedToken, ShareNoName, NamesAreApart}
 use Rattle.transforms.specs.Config.{Settings}
 use Rattle.transforms.specs.PlatformName.{is_identifier}
 use Rattle.transforms.specs.Sheet.{sheet_text}
 use Rattle.transforms.specs.declared.platform.Platform.TheVariants.{Android}
-use Rattle.css_out.specs.Lists.{In}
+use Rattle.ring.specs.Lists.{In}
 use Rattle.android_out.specs.Laws.{SheetsDenote}
 use Rattle.android_out.specs.Sheets.{Cell, android_frame, cell_text, cell_names, sheet_bytes, sheet_values, IsSheet, Denotes}
 use Rattle.android_out.specs.Spelling.{android_name}
@@ -50,7 +50,7 @@ module _ (flat : Flat) (settings : Settings) where
         sheet = cell ∷ rest.sheet;
         have = (record { path = refl; value = (here.links, here.value); named = here.gives.android_of.named }, rest.have);
         bodies = ap₂ (λ (x : List ℕ) (xs : List (List ℕ)). x ∷ xs) here.gives.android_of.body rest.bodies;
-        names = ap₂ (λ (ns : List (List ℕ)) (xs : List Named). record { path = t.0; names = ns } ∷ xs) here.gives.android_of.names rest.names;
+        names = ap₂ (λ (ns : List (List ℕ)) (xs : List NamedToken). record { path = t.0; names = ns } ∷ xs) here.gives.android_of.names rest.names;
       }
 
 pub android_denotes : ValuesKeep → NamesAreApart → SheetsDenote → AndroidCellsDenote

@@ -1,10 +1,10 @@
 -- What stands beside what, and names without a clash.
 use Rattle.std.proofs.Common.{◌≡◌, ℕ, List, [], ◌∷◌, ◌++◌, map, Option, Some, None, refl, sym, subst, inl, inr}
 use Rattle.std.specs.List.{AllZip}
-use Rattle.transforms.specs.Clash.{Taken, Named, AllAdded, first_taken, with_names}
+use Rattle.transforms.specs.Clash.{Taken, NamedToken, AllAdded, first_taken, with_names}
 use Rattle.transforms.specs.declared.platform.Platform.{Platform}
 use Rattle.transforms.specs.declared.platform.Platform.TheVariants.{Css, Android, Swift}
-use Rattle.css_out.specs.Lists.{In}
+use Rattle.ring.specs.Lists.{In}
 use Rattle.token_cells.specs.Breaks.{Celled, clash_reports, clashes_from, taken_behind, clashes_on, name_clashes, or_others}
 use Rattle.refusals.specs.Refusal.{Report}
 use Rattle.token_cells.specs.declared.token_cell.TokenCell.{TokenCell}
@@ -31,7 +31,7 @@ weaker R S f (x ∷ xs) (y ∷ ys) (r, z) = (f x y r, weaker R S f xs ys z)
 
 -- names without a clash
 
-abbrev pub named_by : (TokenCell → List (List ℕ)) → Celled → Named
+abbrev pub named_by : (TokenCell → List (List ℕ)) → Celled → NamedToken
 named_by names e = record { path = e.0.0; names = names e.1 }
 
 module _ (platform : Platform) (names : TokenCell → List (List ℕ)) where

@@ -10,7 +10,7 @@ use Rattle.group_inherit.specs.Flattening.{Flattened, TokenAt}
 use Rattle.alias_ref.specs.Answer.{in_walk, kind_missing}
 use Rattle.alias_ref.specs.Kinds.{KindOf, LinksAt, own_in, group_in}
 use Rattle.alias_ref.specs.Laws.{Flat, UnbrokenMeans, UnbrokenHasKind, UnbrokenHasLinks, MeaningsFit}
-use Rattle.alias_ref.specs.Visits.{walk_break, breaks, Break as RefBreak}
+use Rattle.alias_ref.specs.Visits.{walk_break, ref_break, RefBreak}
 use Rattle.alias_ref.specs.Written.{whole, written_in, is_written}
 use Rattle.alias_ref.specs.declared.fault.RefRule.TheVariants as reference
 use Rattle.type_rules.specs.Checked.{Checked}
@@ -124,7 +124,7 @@ module _ (laws : Laws) (flat : Flat) (settings : Settings) (defined : AreDefined
     unbroken_cell : walk_break (written_in flat) path ≡ None → (k : Option Kind)
         → KindOf (written_in flat) (own_in flat) (group_in flat) path k → HasCell flat settings path
     unbroken_cell unbroken None of =
-        let missing : RefBreak = breaks reference.NoType (whole path) in
+        let missing : RefBreak = ref_break reference.NoType (whole path) in
         (Refused (Ref reference.NoType) (whole path) [], by_reference missing (kind_missing unbroken of refl) refl)
     unbroken_cell unbroken (Some kind) of =
         let (meaning, means) = laws.meaning flat path written unbroken in

@@ -8,10 +8,10 @@ use Rattle.alias_ref.specs.Laws.{Flat}
 use Rattle.composite_rules.specs.Laws.{ValuesKeep}
 use Rattle.transforms.specs.Config.{Settings}
 use Rattle.transforms.specs.Sheet.{sheet_text}
-use Rattle.json_span.specs.Tree.{a_null, a_boolean, a_number, a_string, an_array, an_object, Members, Entry, under, Placed, placed, tree_of}
+use Rattle.json_span.specs.Tree.{a_null, a_boolean, a_number, a_string, an_array, an_object, Members, Entry, value_of_name, Placed, placed, tree_of}
 use Rattle.json_span.specs.Reading.{Shows}
 use Rattle.json_span.specs.Says.{plain_of}
-use Rattle.token_tree.specs.Answer.{AreMembers}
+use Rattle.token_tree.specs.Answer.{IsObjectOf}
 use Rattle.token_tree.specs.Shape.{slice_of, entries_at, is_token, extensions_of}
 use Rattle.token_tree.proofs.Keeps.{own_members}
 use Rattle.token_tree.proofs.Places.{under_part}
@@ -20,7 +20,7 @@ use Rattle.json_out.specs.Laws.{SheetsDenote, SlicesStay}
 use Rattle.json_out.specs.PlatformValue.{Json}
 use Rattle.json_out.specs.Properties.{HaveValue}
 use Rattle.json_out.specs.Reading.{number_in}
-use Rattle.json_out.specs.Sheets.{Cell, json_frame, cell_text, IsCell as IsJsonCell, sheet_bytes, sheet_members, Denotes}
+use Rattle.json_out.specs.Sheets.{Cell, json_frame, cell_text, IsJsonCell, sheet_bytes, sheet_members, Denotes}
 use Rattle.token_cells.specs.Cell.{TokenPath, AreCells, extras_of}
 use Rattle.token_cells.specs.Breaks.{cell_reports}
 use Rattle.token_cells.specs.Sheets.{bodies_for, sheet_for}
@@ -44,7 +44,7 @@ an_object_at (placed (a_string s) start end) e = absurd (cc)
 an_object_at (placed (an_array ns) start end) e = absurd (cc)
 an_object_at (placed (an_object ms) start end) e = (ms, refl)
 
-slice_value : SlicesStay → (source : List ℕ) (object : Placed) → Shows source object → (es : List Entry) → AreMembers object es → (u : Option Placed) → under (codes "$extensions") es ≡ u
+slice_value : SlicesStay → (source : List ℕ) (object : Placed) → Shows source object → (es : List Entry) → IsObjectOf object es → (u : Option Placed) → value_of_name (codes "$extensions") es ≡ u
     → (w : Option Json) × HaveValue (option_map (slice_of source) u) w
 slice_value slices source object shown es are None is = (None, tt)
 slice_value slices source object shown es are (Some n) is = (Some (plain_of number_in n), slices source object n shown (under_part object es (codes "$extensions") n are is))
@@ -54,7 +54,7 @@ have_extensions slices flat defs path f there =
     let d = defs path f there in
     let (ms, is) = an_object_at d.object d.token in
     let es = entries_at d.object in
-    let found = slice_value slices f.def.source d.object d.shown es (own_members d.object ms is) (under (codes "$extensions") es) refl in
+    let found = slice_value slices f.def.source d.object d.shown es (own_members d.object ms is) (value_of_name (codes "$extensions") es) refl in
     let same : f.def.extensions ≡ extensions_of f.def.source es = ap (λ x. x.extensions) d.same in
     (found.0, subst (λ o. HaveValue o found.0) (sym same) found.1)
 

@@ -1,17 +1,17 @@
-pub mod AndroidDenotes
-pub mod Beside
-pub mod Bodies
-pub mod CellsExist
-pub mod Comes
-pub mod Entries
-pub mod JsonDenotes
-pub mod LinkedTokens
-pub mod OneCells
-pub mod PlainPaths
-pub mod RealBreaks
-pub mod RealClashes
-pub mod SheetDenotes
-pub mod Sides
-pub mod SwiftDenotes
-pub mod TextsOfTokens
-pub mod ValuesFit
+mod AndroidDenotes
+mod Beside
+mod Bodies
+mod CellsExist
+mod Comes
+mod Entries
+mod JsonDenotes
+mod LinkedTokens
+mod OneCells
+mod PlainPaths
+mod RealBreaks
+mod RealClashes
+mod SheetDenotes
+mod Sides
+mod SwiftDenotes
+mod TextsOfTokens
+mod ValuesFit

@@ -4,7 +4,7 @@ use Rattle.std.proofs.lemmas.List.{append-nil}
 use Rattle.std.specs.FinMap as finite
 use Rattle.std.specs.Option.{option_and_then}
 use Rattle.std.specs.Prelude.{◌⊎◌}
-use Rattle.ring.specs.Routes.{In}
+use Rattle.ring.specs.Lists.{In}
 use Rattle.json_span.specs.PlainView.{Value}
 use Rattle.name_path.specs.declared.kind.Kind.{Kind}
 use Rattle.name_path.specs.declared.link.Link.{Link}

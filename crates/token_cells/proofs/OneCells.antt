@@ -7,7 +7,7 @@ use Rattle.group_inherit.specs.Flattening.{TokenAt, Flattened}
 use Rattle.alias_ref.specs.Answer.{IsFirstBreak, in_walk, kind_missing, OneFirstBreak}
 use Rattle.alias_ref.specs.Kinds.{own_in, group_in}
 use Rattle.alias_ref.specs.Laws.{Flat, OneMeaning, OneKind, OneLinks}
-use Rattle.alias_ref.specs.Visits.{Break as RefBreak}
+use Rattle.alias_ref.specs.Visits.{RefBreak}
 use Rattle.alias_ref.specs.Written.{whole, written_in}
 use Rattle.type_rules.specs.Checked.{Break as ValueBreak, Checked}
 use Rattle.composite_rules.specs.Value.{value_of}

@@ -5,7 +5,7 @@ use Rattle.std.specs.Option.{option_and_then}
 use Rattle.std.specs.Prelude.{if◌then◌else◌}
 use Rattle.std.specs.Str.{bytes_eq}
 use Rattle.json_span.specs.Plain.{plain_null, plain_boolean, plain_number, plain_string, plain_array, plain_object, plains_in, plain_entries_in}
-use Rattle.json_span.specs.PlainView.{Value, Entry}
+use Rattle.json_span.specs.PlainView.{Value, ValueEntry}
 use Rattle.alias_ref.specs.PlainParts.{plain_numbered, plain_under, plain_parts, plain_at}
 use Rattle.type_rules.specs.Forms.{named}
 use Rattle.type_rules.specs.Trails.{item_at, child, plain_at as part_at}
@@ -14,7 +14,7 @@ items : (s : List ℕ) (i : ℕ) (vs : List Value) → plain_under s (plain_numb
 items s i [] = refl
 items s i (v ∷ vs) = ap (λ o. if bytes_eq (decimal i) s then Some v else o) (items s (i + 1) vs)
 
-members : (s : List ℕ) (es : List Entry) → plain_under s es ≡ named s es
+members : (s : List ℕ) (es : List ValueEntry) → plain_under s es ≡ named s es
 members s [] = refl
 members s (e ∷ es) = ap (λ o. if bytes_eq e.name s then Some e.value else o) (members s es)
 

@@ -2,7 +2,7 @@
 use Rattle.std.proofs.Common.{◌≡◌, Some, Err, refl, sym, ap, subst, ◌∙◌}
 use Rattle.alias_ref.specs.Answer.{IsFirstBreak, in_walk, kind_missing}
 use Rattle.alias_ref.specs.Laws.{Flat, RingsAreReal, BreaksAreReal as RefBreaksAreReal}
-use Rattle.alias_ref.specs.Visits.{Break as RefBreak, walk_break, breaks}
+use Rattle.alias_ref.specs.Visits.{RefBreak, walk_break, ref_break}
 use Rattle.alias_ref.specs.Written.{whole, written_in}
 use Rattle.alias_ref.specs.declared.fault.RefRule.{RefRule}
 use Rattle.alias_ref.specs.declared.fault.RefRule.TheVariants as reference
@@ -27,7 +27,7 @@ module _ (rings : RingsAreReal) (told : RefBreaksAreReal) (flat : Flat) (path : 
     value = λ r is. cc;
   }
 
-  missing_real : IsReal flat path (of_reference (breaks reference.NoType (whole path)))
+  missing_real : IsReal flat path (of_reference (ref_break reference.NoType (whole path)))
   missing_real = record {
     cycle = λ is. cc;
     syntax = λ is. cc;

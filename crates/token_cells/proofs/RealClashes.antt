@@ -8,7 +8,7 @@ use Rattle.tk_io.specs.Order.{text_cmp}
 use Rattle.transforms.specs.Clash.{Taken, first_taken, with_names, is_among, ShareNoName, NamesAreApart}
 use Rattle.transforms.specs.declared.platform.Platform.{Platform}
 use Rattle.transforms.proofs.Taken.{get-with_names, same_name}
-use Rattle.css_out.specs.Lists.{In}
+use Rattle.ring.specs.Lists.{In}
 use Rattle.refusals.specs.Refusal.{Report}
 use Rattle.token_cells.specs.Cell.{TokenPath}
 use Rattle.token_cells.specs.Breaks.{Celled, names_on, clash_report, clash_reports, clashes_from, taken_behind, clashes_on}

@@ -30,13 +30,13 @@ use Rattle.composite_rules.specs.Parts.{part_at}
 use Rattle.composite_rules.specs.Sound.{kind_of}
 use Rattle.composite_rules.specs.Value.{value_of}
 use Rattle.composite_rules.specs.declared.typed.Typed.{Typed}
-use Rattle.transforms.specs.Clash.{Taken, Named, AllAdded, ShareNoName, NamesAreApart, first_taken, with_names}
+use Rattle.transforms.specs.Clash.{Taken, NamedToken, AllAdded, ShareNoName, NamesAreApart, first_taken, with_names}
 use Rattle.transforms.specs.Config.{Settings}
 use Rattle.transforms.specs.PlatformName.{is_property}
 use Rattle.transforms.specs.Sheet.{sheet_text}
 use Rattle.transforms.specs.declared.platform.Platform.TheVariants.{Css, Android, Swift}
 use Rattle.css_out.specs.Laws.{SheetsDenote, ReferencesDenote}
-use Rattle.css_out.specs.Lists.{In, Each}
+use Rattle.ring.specs.Lists.{In, Each}
 use Rattle.css_out.specs.Sheets.{Cell, css_frame, cell_name, cell_text, cell_names, sheet_bytes, sheet_values, LeadsTo, LinksLead, no_links, link_leads, IsSheet}
 use Rattle.css_out.specs.Sources.{HasRoom}
 use Rattle.css_out.specs.Rounds.{Denotes}
@@ -91,7 +91,7 @@ pub record Has (flat : Flat) (settings : Settings) (token : TokenAt) (c : Cell) 
   pub room : HasRoom c.typed
   pub named : IsTokenPath token.0 → is_property (cell_name settings c) ≡ true
 
-abbrev pub named_of : Celled → Named
+abbrev pub named_of : Celled → NamedToken
 named_of e = record { path = e.0.0; names = names_on Css e.1 }
 
 -- cells without a break are those of a sheet
@@ -114,7 +114,7 @@ module _ (flat : Flat) (settings : Settings) where
         sheet = cell ∷ rest.sheet;
         have = (record { path = refl; value = here.value; room = here.gives.css_of.room; named = here.gives.css_of.named }, rest.have);
         bodies = ap₂ (λ (x : List ℕ) (xs : List (List ℕ)). x ∷ xs) here.gives.css_of.body rest.bodies;
-        names = ap₂ (λ (ns : List (List ℕ)) (xs : List Named). record { path = t.0; names = ns } ∷ xs) here.gives.css_of.names rest.names;
+        names = ap₂ (λ (ns : List (List ℕ)) (xs : List NamedToken). record { path = t.0; names = ns } ∷ xs) here.gives.css_of.names rest.names;
       }
 
 -- names without a clash

@@ -7,12 +7,12 @@ use Rattle.std.proofs.lemmas.Bool.{and_from}
 use Rattle.std.proofs.lemmas.List.Elements.{recursion_from_All}
 use Rattle.json_span.specs.FitsIn.{FitsIn, MembersFitIn, SaidFits}
 use Rattle.json_span.specs.Laws.{ShowsSay}
-use Rattle.json_span.specs.Plain.{Plain}
+use Rattle.json_span.specs.Plain.{PlainValue}
 use Rattle.json_span.specs.Says.{SaysText, plain_of, plain_fields}
 use Rattle.json_span.specs.Spelling.{are_bytes}
-use Rattle.json_span.specs.Tree.{a_null, a_boolean, a_number, a_string, an_array, an_object, Placed, placed, Members, no_members, member, entries_in, tree_of, string_in, under}
+use Rattle.json_span.specs.Tree.{a_null, a_boolean, a_number, a_string, an_array, an_object, Placed, placed, Members, no_members, a_member, entries_in, tree_of, string_in, value_of_name}
 use Rattle.json_span.proofs.Utf8.{utf8_bytes}
-use Rattle.token_tree.specs.Shape.{entries_at, mark_in, mark_of, description_of, deprecated_of}
+use Rattle.token_tree.specs.Shape.{entries_at, mark_in, mark_of, said_description, said_deprecated}
 use Rattle.token_tree.specs.Tree.{Definition}
 use Rattle.token_tree.specs.declared.mark.Mark.{Mark}
 use Rattle.token_tree.specs.declared.mark.Mark.TheVariants.{No}
@@ -47,7 +47,7 @@ abbrev HasText : Option Mark → Type 0
 HasText m = IsText (reason_of (unwrap_or m No))
 
 -- a plain value of the shape of a placed one; of a number its length is kept
-abbrev plainly : Placed → Plain ℕ
+abbrev plainly : Placed → PlainValue ℕ
 plainly n = plain_of length n
 
 abbrev Fits : ℕ → Placed → Type 0
@@ -80,12 +80,12 @@ module _ (k : ℕ) where
   under_by true v n rest here later e = subst (Fits k) (some_is v n e) here
   under_by false v n rest here later e = later e
 
-  under_fits : (name : List ℕ) (ms : Members) (n : Placed) → MembersFitIn k (plain_fields length ms) → under name (entries_in ms) ≡ Some n → Fits k n
+  under_fits : (name : List ℕ) (ms : Members) (n : Placed) → MembersFitIn k (plain_fields length ms) → value_of_name name (entries_in ms) ≡ Some n → Fits k n
   under_fits name no_members n h e = absurd (let z : ⊥ = cc in z)
-  under_fits name (member s start end v ms) n (here, fits, rest) e =
-      under_by (bytes_eq s name) v n (under name (entries_in ms)) fits (λ e2. under_fits name ms n rest e2) e
+  under_fits name (a_member s start end v ms) n (here, fits, rest) e =
+      under_by (bytes_eq s name) v n (value_of_name name (entries_in ms)) fits (λ e2. under_fits name ms n rest e2) e
 
-  entry_fits : (name : List ℕ) (object n : Placed) → Fits k object → under name (entries_at object) ≡ Some n → Fits k n
+  entry_fits : (name : List ℕ) (object n : Placed) → Fits k object → value_of_name name (entries_at object) ≡ Some n → Fits k n
   entry_fits name (placed a_null start end) n h e = absurd (let z : ⊥ = cc in z)
   entry_fits name (placed (a_boolean b) start end) n h e = absurd (let z : ⊥ = cc in z)
   entry_fits name (placed (a_number d) start end) n h e = absurd (let z : ⊥ = cc in z)
@@ -95,21 +95,21 @@ module _ (k : ℕ) where
 
   -- what is said of an object that fits
   module _ (object : Placed) (fits : Fits k object) where
-    described : (u : Option Placed) → under (codes "$description") (entries_at object) ≡ u
+    described : (u : Option Placed) → value_of_name (codes "$description") (entries_at object) ≡ u
         → IsText (text_or_none (option_and_then (λ n. string_in (tree_of n)) u))
     described None is = refl
     described (Some n) is = text_bytes n (entry_fits (codes "$description") object n fits is)
 
-    marked : (u : Option Placed) → under (codes "$deprecated") (entries_at object) ≡ u
+    marked : (u : Option Placed) → value_of_name (codes "$deprecated") (entries_at object) ≡ u
         → HasText (option_and_then (λ n. mark_in (tree_of n)) u)
     marked None is = refl
     marked (Some n) is = mark_bytes n (entry_fits (codes "$deprecated") object n fits is)
 
-    description_bytes : IsText (text_or_none (description_of (entries_at object)))
-    description_bytes = described (under (codes "$description") (entries_at object)) refl
+    description_bytes : IsText (text_or_none (said_description (entries_at object)))
+    description_bytes = described (value_of_name (codes "$description") (entries_at object)) refl
 
-    deprecated_bytes : HasText (deprecated_of (entries_at object))
-    deprecated_bytes = marked (under (codes "$deprecated") (entries_at object)) refl
+    deprecated_bytes : HasText (said_deprecated (entries_at object))
+    deprecated_bytes = marked (value_of_name (codes "$deprecated") (entries_at object)) refl
 
 -- what JSON shows of the token beside its value
 pub record AreTexts (e : ExtrasData) : Type 0 where
@@ -121,8 +121,8 @@ extras_bytes say said path f h =
     let d = h.definition in
     let says : SaysText length f.def.source (plainly d.object) = say length f.def.source d.object d.shown in
     let fits : Fits (2 ^ 64) d.object = said length f.def.source (plainly d.object) (2 ^ 64) h.utf8 h.fits says in
-    let description : f.def.description ≡ description_of (entries_at d.object) = ap (λ (x : Definition). x.description) d.same in
-    let own : f.def.deprecated ≡ deprecated_of (entries_at d.object) = ap (λ (x : Definition). x.deprecated) d.same in
+    let description : f.def.description ≡ said_description (entries_at d.object) = ap (λ (x : Definition). x.description) d.same in
+    let own : f.def.deprecated ≡ said_deprecated (entries_at d.object) = ap (λ (x : Definition). x.deprecated) d.same in
     let told = description_bytes (2 ^ 64) d.object fits in
     let mark = deprecated_bytes (2 ^ 64) d.object fits in
     record {

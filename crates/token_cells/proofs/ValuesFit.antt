@@ -5,8 +5,8 @@ use Rattle.std.specs.List.{AllByRecursion, list_all}
 use Rattle.std.specs.Str.{IsUtf8, bytes_eq}
 use Rattle.std.proofs.lemmas.Bool.{and_from}
 use Rattle.json_span.specs.FitsIn.{FitsIn, ItemsFitIn, MembersFitIn}
-use Rattle.json_span.specs.Plain.{Plains, no_plains, plains, PlainMembers, no_plain_members, plain_members, plain_null, plain_boolean, plain_number, plain_string, plain_array, plain_object, plains_in, plain_entries_in}
-use Rattle.json_span.specs.PlainView.{Value, Entry}
+use Rattle.json_span.specs.Plain.{Plains, no_plains, plains, PlainMembers, no_plain_members, plain_members, plain_null, plain_boolean, plain_number, plain_string, plain_array, plain_object, plains_in, plain_entries_in, plain_string_in, plain_array_in, plain_object_in}
+use Rattle.json_span.specs.PlainView.{Value, ValueEntry}
 use Rattle.json_span.specs.Spelling.{are_bytes}
 use Rattle.json_span.proofs.Utf8.{utf8_bytes}
 use Rattle.name_path.specs.declared.kind.Kind.{Kind}
@@ -15,7 +15,7 @@ use Rattle.type_rules.specs.declared.fault.ValueRule.TheVariants.{ValueShape}
 use Rattle.type_rules.specs.declared.simple.Simple.{Simple}
 use Rattle.type_rules.specs.declared.simple.Simple.TheVariants as simple
 use Rattle.type_rules.specs.Checked.{Checked, or_broken, under}
-use Rattle.type_rules.specs.Forms.{string_in, array_in, object_in, number_in, text_in, members_in, some_items_in, if_text, named, member, each, some_in}
+use Rattle.type_rules.specs.Forms.{number_in, text_in, members_in, some_items_in, if_text, named, member, each, some_in}
 use Rattle.type_rules.specs.Value.{color_in, size_in, time_in, curve_in, families_in as read_families, weight_in, simple_value}
 use Rattle.type_rules.proofs.Keeping.{made, found, from_some, from_part}
 use Rattle.type_rules.proofs.Leading.{members_are, some_items_are}
@@ -36,11 +36,11 @@ module _ (n : ℕ) where
   items_fit (plains v vs) (h, hs) = (h, items_fit vs hs)
 
   members_fit : (ms : PlainMembers (List ℕ)) → MembersFitIn n ms
-      → AllByRecursion (λ (e : Entry). FitsIn n e.value) (plain_entries_in ms)
+      → AllByRecursion (λ (e : ValueEntry). FitsIn n e.value) (plain_entries_in ms)
   members_fit no_plain_members h = tt
   members_fit (plain_members name v ms) (here, h, hs) = (h, members_fit ms hs)
 
-  text_fits : (v : Value) (s : List ℕ) → FitsIn n v → string_in v ≡ Some s → IsUtf8 s
+  text_fits : (v : Value) (s : List ℕ) → FitsIn n v → plain_string_in v ≡ Some s → IsUtf8 s
   text_fits plain_null s h e = absurd (let k : ⊥ = cc in k)
   text_fits (plain_boolean b) s h e = absurd (let k : ⊥ = cc in k)
   text_fits (plain_number d) s h e = absurd (let k : ⊥ = cc in k)
@@ -52,7 +52,7 @@ module _ (n : ℕ) where
   abbrev Few : List Value → Type 0
   Few vs = (length vs ≤ n) × AllByRecursion (λ (v : Value). FitsIn n v) vs
 
-  array_fits : (v : Value) (vs : List Value) → FitsIn n v → array_in v ≡ Some vs → Few vs
+  array_fits : (v : Value) (vs : List Value) → FitsIn n v → plain_array_in v ≡ Some vs → Few vs
   array_fits plain_null vs h e = absurd (let k : ⊥ = cc in k)
   array_fits (plain_boolean b) vs h e = absurd (let k : ⊥ = cc in k)
   array_fits (plain_number d) vs h e = absurd (let k : ⊥ = cc in k)
@@ -60,10 +60,10 @@ module _ (n : ℕ) where
   array_fits (plain_array ws) vs (long, each) e = subst Few (some_is (plains_in ws) vs e) (long, items_fit ws each)
   array_fits (plain_object ms) vs h e = absurd (let k : ⊥ = cc in k)
 
-  abbrev EachFits : List Entry → Type 0
-  EachFits es = AllByRecursion (λ (e : Entry). FitsIn n e.value) es
+  abbrev EachFits : List ValueEntry → Type 0
+  EachFits es = AllByRecursion (λ (e : ValueEntry). FitsIn n e.value) es
 
-  object_fits : (v : Value) (es : List Entry) → FitsIn n v → object_in v ≡ Some es → EachFits es
+  object_fits : (v : Value) (es : List ValueEntry) → FitsIn n v → plain_object_in v ≡ Some es → EachFits es
   object_fits plain_null es h e = absurd (let k : ⊥ = cc in k)
   object_fits (plain_boolean b) es h e = absurd (let k : ⊥ = cc in k)
   object_fits (plain_number d) es h e = absurd (let k : ⊥ = cc in k)
@@ -77,14 +77,14 @@ module _ (n : ℕ) where
   named_by true v w rest here later e = subst (λ (z : Value). FitsIn n z) (some_is v w e) here
   named_by false v w rest here later e = later e
 
-  named_fits : (name : List ℕ) (es : List Entry) (w : Value) → EachFits es → named name es ≡ Some w → FitsIn n w
+  named_fits : (name : List ℕ) (es : List ValueEntry) (w : Value) → EachFits es → named name es ≡ Some w → FitsIn n w
   named_fits name [] w h e = absurd (let k : ⊥ = cc in k)
   named_fits name (x ∷ es) w (h, hs) e =
       named_by (bytes_eq x.name name) x.value w (named name es) h (λ k. named_fits name es w hs k) e
 
   -- a member keeps what its value keeps
   member_fits : {A : Type 0} (check : Value → Checked A) (P : A → Type 0)
-      (to : (v : Value) (x : A) → FitsIn n v → check v ≡ Ok x → P x) (name : List ℕ) (es : List Entry) (x : A)
+      (to : (v : Value) (x : A) → FitsIn n v → check v ≡ Ok x → P x) (name : List ℕ) (es : List ValueEntry) (x : A)
       → EachFits es → member check name es ≡ Ok x → P x
   unfolding member
   member_fits check P to name es x h e =
@@ -115,7 +115,7 @@ AreTexts fs = list_all are_bytes fs ≡ true
 
 text_read : (n : ℕ) (v : Value) (s : List ℕ) → FitsIn n v → text_in v ≡ Ok s → are_bytes s ≡ true
 unfolding text_in
-text_read n v s h e = utf8_bytes s (text_fits n v s h (from_some ValueShape (string_in v) s e))
+text_read n v s h e = utf8_bytes s (text_fits n v s h (from_some ValueShape (plain_string_in v) s e))
 
 texts_read : (n i : ℕ) (vs : List Value) (fs : List (List ℕ)) → AllByRecursion (λ (v : Value). FitsIn n v) vs
     → each text_in i vs ≡ Ok fs → AreTexts fs
@@ -127,7 +127,7 @@ texts_read n i (v ∷ vs) fs (h, hs) e =
     let others = texts_read n (i + 1) vs rest hs r in
     found AreTexts (f ∷ rest) fs e3 (and_from (are_bytes f) (list_all are_bytes rest) first others)))
 
-families_by : (n : ℕ) (o : Option (List ℕ)) (v : Value) (fs : List (List ℕ)) → FitsIn n v → string_in v ≡ o
+families_by : (n : ℕ) (o : Option (List ℕ)) (v : Value) (fs : List (List ℕ)) → FitsIn n v → plain_string_in v ≡ o
     → if_text o (λ family. Ok (family ∷ [])) (some_in text_in v) ≡ Ok fs → AreTexts fs
 unfolding some_in
 families_by n (Some family) v fs h is e =
@@ -137,7 +137,7 @@ families_by n None v fs h is e =
 
 families_read : (n : ℕ) (v : Value) (fs : List (List ℕ)) → FitsIn n v → read_families v ≡ Ok fs → AreTexts fs
 unfolding read_families
-families_read n v fs h e = families_by n (string_in v) v fs h refl e
+families_read n v fs h e = families_by n (plain_string_in v) v fs h refl e
 
 simple_read : (n : ℕ) (k : Kind) (v : Value) (s : Simple) → FitsIn n v → simple_value k v ≡ Ok s
     → AreTexts (simple_families s)
@@ -207,7 +207,7 @@ shadows_by None v items h e = made (members_in v) _ items e (λ es g e2. unless_
 
 shadows_few : (v : Value) (items : List ShadowItem) → FitsIn most v → shadows_in v ≡ Ok items → length items ≤ most
 unfolding shadows_in
-shadows_few v items h e = shadows_by (array_in v) v items h e
+shadows_few v items h e = shadows_by (plain_array_in v) v items h e
 
 gradients_few : (v : Value) (stops : List ColorStop) → FitsIn most v → gradient_in v ≡ Ok stops → length stops ≤ most
 unfolding gradient_in

@@ -21,7 +21,7 @@ use Rattle.alias_ref.specs.Answer.{IsFirstBreak}
 use Rattle.alias_ref.specs.Kinds.{KindOf, LinksAt, own_in, group_in}
 use Rattle.alias_ref.specs.Laws.{Flat}
 use Rattle.alias_ref.specs.Meaning.{Means}
-use Rattle.alias_ref.specs.Visits.{walk_break, Break as RefBreak}
+use Rattle.alias_ref.specs.Visits.{walk_break, RefBreak}
 use Rattle.alias_ref.specs.Written.{whole, written_in}
 use Rattle.type_rules.specs.Checked.{Break as ValueBreak}
 use Rattle.composite_rules.specs.Value.{value_of}

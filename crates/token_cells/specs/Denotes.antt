@@ -7,7 +7,7 @@ use Rattle.name_path.specs.Names.{IsTokenPath}
 use Rattle.group_inherit.specs.Flattening.{TokenAt}
 use Rattle.alias_ref.specs.Laws.{Flat}
 use Rattle.transforms.specs.Config.{Settings}
-use Rattle.css_out.specs.Lists.{In, Each}
+use Rattle.ring.specs.Lists.{In, Each}
 use Rattle.css_out.specs.Rounds.{Denotes}
 use Rattle.css_out.specs.Sheets.{Cell, cell_entries, sheet_values, Refers}
 use Rattle.token_cells.specs.Cell.{IsValueOf, AreCells}

@@ -3,7 +3,7 @@ use Rattle.std.specs.Prelude.{◌≡◌, ℕ, true, List, [], ◌∷◌, ◌++�
 use Rattle.json_span.specs.PlainView.{Value as Plain}
 use Rattle.name_path.specs.declared.kind.Kind.{Kind}
 use Rattle.name_path.specs.declared.place.Place.{Place}
-use Rattle.alias_ref.specs.Asking.{IsRing}
+use Rattle.alias_ref.specs.Asking.{IsRingOfPlaces}
 use Rattle.alias_ref.specs.Laws.{Flat}
 use Rattle.alias_ref.specs.Meaning.{Leads}
 use Rattle.alias_ref.specs.Written.{misspelled, is_reference, written_in}
@@ -11,7 +11,7 @@ use Rattle.alias_ref.specs.declared.fault.RefRule.TheVariants as reference
 use Rattle.type_rules.specs.declared.fault.ValueRule.{ValueRule}
 use Rattle.composite_rules.specs.Value.{value_of}
 use Rattle.group_inherit.specs.Flattening.{TokenAt}
-use Rattle.transforms.specs.Clash.{Named, ShareNoName}
+use Rattle.transforms.specs.Clash.{NamedToken, ShareNoName}
 use Rattle.transforms.specs.Config.{Settings}
 use Rattle.transforms.specs.declared.platform.Platform.{Platform}
 use Rattle.refusals.specs.Refusal.{Report}
@@ -32,7 +32,7 @@ pub record BreaksValue (flat : Flat) (path : TokenPath) (r : ValueRule) (place :
 -- the first. A wrong spelling stands at the place, a reference whose target is lost stands there and leads nowhere,
 -- and a rule of values is broken there by what the token means.
 pub record IsReal (flat : Flat) (path : TokenPath) (b : TokenBreak) : Type 0 where
-  pub cycle : b.rule ≡ Ref reference.Cycle → IsRing (written_in flat) b.ring
+  pub cycle : b.rule ≡ Ref reference.Cycle → IsRingOfPlaces (written_in flat) b.ring
   pub syntax : b.rule ≡ Ref reference.RefSyntax → written_in flat b.place ≡ Some misspelled
   pub target : b.rule ≡ Ref reference.RefTarget
       → (is_reference (written_in flat b.place) ≡ true) × ((q : Place) → Leads (written_in flat) b.place q → ⊥)
@@ -47,7 +47,7 @@ OneCells = (flat : Flat) (settings : Settings) (tokens : List TokenAt) (cells ot
     → AreCells flat settings tokens cells → AreCells flat settings tokens others → cells ≡ others
 
 -- a token's path, and its names on the platform
-abbrev pub named_on : Platform → Celled → Named
+abbrev pub named_on : Platform → Celled → NamedToken
 named_on platform e = record { path = e.0.0; names = names_on platform e.1 }
 
 -- no token has a name of an earlier one on the platform

@@ -9,7 +9,7 @@ use Rattle.alias_ref.specs.Laws.{Flat}
 use Rattle.alias_ref.specs.Unchanged.{AreDefinitions}
 use Rattle.transforms.specs.Config.{Settings}
 use Rattle.composite_rules.specs.declared.typed.Typed.{Typed}
-use Rattle.css_out.specs.Lists.{In}
+use Rattle.ring.specs.Lists.{In}
 use Rattle.android_out.specs.Sheets as android
 use Rattle.ios_out.specs.Sheets as swift
 use Rattle.json_out.specs.Properties.{ExtrasData}

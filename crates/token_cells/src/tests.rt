@@ -75,7 +75,10 @@ fn cell_of(alloc: Global, text: &str) -> Option<Bytes> {
 static TOKENS: [(&str, &str); 3] = [
     (
         r#"{"space":{"$deprecated":"Use gap.","$type":"dimension","s":{"$value":{"value":4,"unit":"px"}}}}"#,
-        "  --space-s: 4px;\n  <dimen name=\"space_s\">4dp</dimen>\n  public static let space_s: CGFloat = 4.0\n  \"space.s\": {\"$type\": \"dimension\", \"$value\": {\"value\": 4, \"unit\": \"px\"}, \"$deprecated\": \"Use gap.\"}",
+        r#"  --space-s: 4px;
+  <dimen name="space_s">4dp</dimen>
+  public static let space_s: CGFloat = 4.0
+  "space.s": {"$type": "dimension", "$value": {"value": 4, "unit": "px"}, "$deprecated": "Use gap."}"#,
     ),
     (
         r#"{"space":{"$type":"dimension","t":{"$value":"{space.u}"}}}"#,

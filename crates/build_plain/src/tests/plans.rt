@@ -69,7 +69,13 @@ pub static PLANS: [Case; 18] = [
             ("x.json", "{}"),
         ],
         "default/REFUSED",
-        "rule alias-target\nfile a.json\nline 1 column 36\nbytes 35 40\ntoken \"a\"\nplace \"#/a/$value\"\n",
+        r##"rule alias-target
+file a.json
+line 1 column 36
+bytes 35 40
+token "a"
+place "#/a/$value"
+"##,
         1,
     ),
     (
@@ -176,7 +182,13 @@ pub static PLANS: [Case; 18] = [
             ("tokens.json", "{}"),
         ],
         "REFUSED",
-        "rule plan-cycle\nfile resolver.json\nline 1 column 92\nbytes 91 101\nring \"#/sets/a\"\nring \"#/sets/b\"\n",
+        r##"rule plan-cycle
+file resolver.json
+line 1 column 92
+bytes 91 101
+ring "#/sets/a"
+ring "#/sets/b"
+"##,
         1,
     ),
     (
@@ -212,7 +224,12 @@ pub static PLANS: [Case; 18] = [
     (
         &[("tokc.toml", "colour = 1\n"), ("resolver.json", "{")],
         "REFUSED",
-        "rule config-key\nfile tokc.toml\nline 1 column 1\nbytes 0 11\nkey \"colour\"\n",
+        r#"rule config-key
+file tokc.toml
+line 1 column 1
+bytes 0 11
+key "colour"
+"#,
         1,
     ),
     (

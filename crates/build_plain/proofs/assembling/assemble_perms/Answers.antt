@@ -1,10 +1,9 @@
 use Rattle.std.proofs.Common.{◌+◌, drop, sym, subst}
-use Rattle.std.specs.List.{AllByRecursion}
 use Rattle.file_plan.specs.View.{plan_perm_view, plan_sources_view, plan_view}
-use Rattle.source_trees.specs.Merging.{AllInlineStand, AreKnown}
+use Rattle.source_trees.specs.Merging.{AllInlineStand}
 use Rattle.source_trees.specs.Sources.{HomeAt}
-use Rattle.build_plain.specs.Breaks.{home_of}
 use Rattle.build_plain.specs.Parts.{AreEachKept}
+use Rattle.build_plain.specs.inner.Making.{AllKnown, AllStand}
 use Rattle.source_trees.proofs.NamedTrees.{next_perms, no_perms}
 use Rattle.build_plain.proofs.Perms.{given_start, given_next, given_end}
 use Rattle.build_plain.proofs.assembling.assemble_perms.Goals as goal
@@ -16,8 +15,8 @@ assemble_perm-requires c =
     record {
       home = c.home_of-home.ensures;
       stand = subst (λ (h : HomeAt). AllInlineStand h.text (plan_sources_view c.perm-item.result.sources)) (sym c.home_of-home.ensures)
-          (subst (AllByRecursion (λ p. AllInlineStand (home_of files).text p.sources)) next c.loop-perm.invariant.stand).0;
-      known = (subst (AllByRecursion (λ p. AreKnown files c.args.shapes.now p.sources)) next c.loop-perm.invariant.known).0;
+          (subst (AllStand files) next c.loop-perm.invariant.stand).0;
+      known = (subst (AllKnown files c.args.shapes.now) next c.loop-perm.invariant.known).0;
       kept = (subst (λ ps. AreEachKept c.args.cfg.now files ps c.args.parts.now) next c.loop-perm.invariant.kept).0;
     }
 
@@ -37,8 +36,8 @@ loop-perm-preserved c =
     let p = c.perm-item.result in
     let next = next_perms plan i p c.loop-perm-test.true c.perm-item.is in
     record {
-      stand = (subst (AllByRecursion (λ p. AllInlineStand (home_of files).text p.sources)) next c.loop-perm.invariant.stand).1;
-      known = (subst (AllByRecursion (λ p. AreKnown files c.args.shapes.now p.sources)) next c.loop-perm.invariant.known).1;
+      stand = (subst (AllStand files) next c.loop-perm.invariant.stand).1;
+      known = (subst (AllKnown files c.args.shapes.now) next c.loop-perm.invariant.known).1;
       kept = (subst (λ ps. AreEachKept c.args.cfg.now files ps c.args.parts.now) next c.loop-perm.invariant.kept).1;
       given = given_next c.args.cfg.now files (plan_view plan) (plan_view (drop i plan)) (plan_perm_view p) (plan_view (drop (i + 1) plan)) c.loop-perm.outputs c.assemble_perm.new.outputs next
           c.loop-perm.invariant.given c.in_ok-assemble_perm.ensures;

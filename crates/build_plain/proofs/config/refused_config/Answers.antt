@@ -1,7 +1,7 @@
 use Rattle.std.proofs.Common.{◌∙◌, ◌∷◌, [], ap, codes, length}
 use Rattle.std.proofs.lemmas.Result.{IfOk-weaker}
 use Rattle.transforms.specs.declared.config.ConfigFault.TheVariants.{Key}
-use Rattle.refusals.specs.Refusal.{text_at, of_key, detail_line, report, report_text}
+use Rattle.refusals.specs.Refusal.{file_text, of_key, detail_line, report, report_text}
 use Rattle.build_plain.specs.Out.{config_path, config_reports, refused_config, one_output}
 use Rattle.refusals.specs.declared.rule.Rule.TheVariants as rule
 use Rattle.refusals.proofs.Reports.{told, one_more}
@@ -10,7 +10,7 @@ use Rattle.build_plain.proofs.config.refused_config.Goals as goal
 pub returns-in_ok-append_key-in-Key : goal.returns-in_ok-append_key-in-Key
 returns-in_ok-append_key-in-Key c =
     let files = c.args.files.now in
-    let end = length (text_at files config_path) in
+    let end = length (file_text files config_path) in
     let b = c.in_ok-body-in-Key.body in
     let key = c.as_slice.result.now in
     let text = told files rule.ConfigKey config_path 0 end b c.append_key.new.out (of_key key ∷ []) c.in_ok-body-in-Key.ensures (one_more b c.append_key.new.out (detail_line (of_key key)) c.in_ok-append_key-in-Key.ensures)

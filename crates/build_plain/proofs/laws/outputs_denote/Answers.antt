@@ -16,7 +16,7 @@ returns-clause-each c = each_is_answered (record {
 })
 
 pub returns-clause-either : goal.returns-clause-either
-returns-clause-either c = never_both (record { flat = c.one_answer.ensures.flat; broken = c.one_answer.ensures.broken; sound = c.one_answer.ensures.sound }) c.one_cells.ensures
+returns-clause-either c = never_both (record { found = c.one_merge.ensures.found; flat = c.one_answer.ensures.flat; broken = c.one_answer.ensures.broken; sound = c.one_answer.ensures.sound }) c.one_cells.ensures
 
 pub returns-clause-no_other : goal.returns-clause-no_other
 returns-clause-no_other c = no_other_stands c.file_plan_laws.ensures.one

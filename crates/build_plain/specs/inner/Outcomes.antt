@@ -1,0 +1,47 @@
+-- What a permutation comes to, and what is made of the permutations of a plan, one after another.
+use Rattle.std.specs.Prelude.{List, Option, Some, None}
+use Rattle.std.specs.FinMap as finite
+use Rattle.token_tree.specs.Tree.{Group}
+use Rattle.tk_io.specs.FilesData.{FilesData}
+use Rattle.permutations.specs.Permutation.{Permutation}
+use Rattle.source_trees.specs.Merges.{IsMergeOf}
+use Rattle.source_trees.specs.Merging.{IsMergedOf}
+use Rattle.source_trees.specs.declared.laying.Merged.TheVariants.{Broken}
+use Rattle.source_trees.specs.declared.merge.Merge.{Merge}
+use Rattle.source_trees.specs.declared.merge.Merge.TheVariants as merge
+use Rattle.transforms.specs.Config.{Settings}
+use Rattle.token_cells.specs.declared.token_cell.TokenCell.{TokenCell}
+use Rattle.build_plain.specs.Breaks.{home_of}
+use Rattle.build_plain.specs.Out.{GivesFrom}
+use Rattle.build_plain.specs.Parts.{AreCellsFor, AreKeptOf}
+use Rattle.build_plain.specs.declared.outcome.Outcome.{Outcome}
+use Rattle.build_plain.specs.declared.outcome.Outcome.TheVariants.{Tokens, TreeBreak, SourceBreak}
+
+-- what is kept of it: the merge and the cells
+
+abbrev pub merge_in : Outcome → Option Merge
+merge_in (Tokens flat cells) = Some (merge.Flat flat)
+merge_in (TreeBreak fault) = Some (merge.Broken fault)
+merge_in (SourceBreak b) = None
+
+abbrev pub cells_in : Outcome → Option (List TokenCell)
+cells_in (Tokens flat cells) = Some cells
+cells_in (TreeBreak fault) = None
+cells_in (SourceBreak b) = None
+
+-- what a merged tree comes to
+abbrev pub IsTreeOutcome : Settings → Group → Outcome → Type 0
+IsTreeOutcome settings tree (Tokens flat cells) = IsMergeOf tree (merge.Flat flat) × AreCellsFor settings (merge.Flat flat) (Some cells)
+IsTreeOutcome settings tree (TreeBreak fault) = IsMergeOf tree (merge.Broken fault)
+IsTreeOutcome settings tree (SourceBreak b) = ⊥
+
+-- what a permutation comes to
+abbrev pub IsOutcome : Settings → FilesData → Permutation → Outcome → Type 0
+IsOutcome settings files p (Tokens flat cells) = AreKeptOf settings files p (Some (merge.Flat flat)) (Some cells)
+IsOutcome settings files p (TreeBreak fault) = AreKeptOf settings files p (Some (merge.Broken fault)) None
+IsOutcome settings files p (SourceBreak b) = IsMergedOf files (home_of files) p.sources (Broken b)
+
+-- what the rest gives beside these outputs is what all give
+abbrev pub Given : Settings → FilesData → List Permutation → List Permutation → FilesData → Type 0
+Given settings files all rest now =
+    (out : FilesData) → GivesFrom settings files rest now out → GivesFrom settings files all finite.empty out
