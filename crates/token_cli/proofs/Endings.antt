@@ -13,9 +13,9 @@ use Rattle.edit_script.specs.Delta.{Delta}
 use Rattle.edit_script.specs.Stream.{line_text}
 use Rattle.edit_script.specs.declared.line.Line.TheVariants.{Done}
 use Rattle.edit_script.proofs.Written.{front_of_part, part_after}
-use Rattle.token_cli.specs.Ending.{Writes}
+use Rattle.token_cli.specs.inner.Ending.{Writes}
 use Rattle.token_cli.specs.Headline.{AreCommits, WroteWhole, WrotePart, is_refused}
-use Rattle.token_cli.specs.inner.Step.{State, Leads, Fails}
+use Rattle.token_cli.specs.inner.Step.{State, IsCommitted, Fails}
 use Rattle.token_cli.specs.Told.{commit_text, commits_so_far, head_line, whole_text}
 use Rattle.token_cli.specs.declared.telling.Telling.{Telling}
 use Rattle.token_cli.specs.declared.stop.Stop.{Stop}
@@ -33,13 +33,13 @@ le_split zero (suc n) h = inl (omega arith)
 le_split (suc m) zero h = absurd (omega (arith, h))
 le_split (suc m) (suc n) h = next (le_split m n (omega (arith, h)))
 
--- a front of what stands before the end is less than all
+-- a prefix of what stands before the end is less than all
 less_than_all : (old new : Option (List ℕ)) (all first last : List ℕ) → AppendsFront old new first → all ≡ first ++ last → 0 < length last → AppendsPart old new all
 less_than_all old new all first last front e some =
     let (done, rest, split, appended) = front in
     (done, rest ++ last, e ∙ (ap (λ l. l ++ last) split ∙ append_assoc done rest last), omega (arith, some, length-append rest last), appended)
 
--- a front of what some commits gave is a part of the stream
+-- a prefix of what some commits gave is a part of the stream
 pub part_is : (told : Telling) (es : List EventData) (held : List FilesData) (deltas : List Delta) (old new : Option (List ℕ)) → AreCommits es held deltas → AppendsFront old new (commits_so_far told deltas) → WrotePart told es old new
 part_is told es held deltas old new commits front =
     elim (le_split (length held) (commit_count es) commits.count) [
@@ -60,7 +60,7 @@ part_standing told es i s old now stands =
     part_is told es stands.held stands.deltas old now stands.commits (so_far, [], sym (append-nil so_far), stands.text)
 
 -- and so is what was written of the next commit
-pub part_commit : (told : Telling) (es : List EventData) (i : ℕ) (s : State) (old now new : Option (List ℕ)) (next : FilesData) (d : Delta) → (stands : Stands told es i s old now) → slice_get es i ≡ Some commit → Leads s next d → AppendsPart now new (commit_text told (s.commits + 1) d) → WrotePart told es old new
+pub part_commit : (told : Telling) (es : List EventData) (i : ℕ) (s : State) (old now new : Option (List ℕ)) (next : FilesData) (d : Delta) → (stands : Stands told es i s old now) → slice_get es i ≡ Some commit → IsCommitted s next d → AppendsPart now new (commit_text told (s.commits + 1) d) → WrotePart told es old new
 part_commit told es i s old now new next d stands here leads part =
     let ds = stands.deltas in
     let text = one_more_text told ds d s.commits (sym (as_many map.empty stands.held ds stands.commits.changes ∙ stands.length)) in

@@ -1,13 +1,14 @@
-pub mod Edits
-pub mod Endings
-pub mod Lists
-pub mod Once
-pub mod Outcomes
-pub mod Pieces
-pub mod Places
-pub mod Records
-pub mod Refusals
-pub mod Standing
-pub mod Stops
-pub mod Streams
-pub mod Told
+mod Edits
+mod Endings
+mod JobEnds
+mod Lists
+mod Once
+mod Outcomes
+mod Pieces
+mod Places
+mod Records
+mod Refusals
+mod Standing
+mod Stops
+mod Streams
+mod Told

@@ -7,65 +7,45 @@ use Rattle.edit_script.specs.Script.{EventData, IsScript}
 use Rattle.edit_script.proofs.Readings.{one_reading}
 use Rattle.command_words.specs.declared.command.Command.{Command}
 use Rattle.command_words.specs.declared.command.Command.TheVariants.{Build, Replay, Stats, Gen}
-use Rattle.token_cli.specs.Ending.{Scripted, status_of, whole_status}
+use Rattle.token_cli.specs.inner.Ending.{Scripted, place_of, status_of}
 use Rattle.token_cli.specs.Headline.{IsLeftBy, IsScriptOf, OfBytes, OfEvents, events_for, most_bytes, reads_source, telling_of}
+use Rattle.token_cli.specs.Report.{whole_status}
 use Rattle.token_cli.specs.declared.stop.Stop.{Stop}
 use Rattle.token_cli.specs.declared.stop.Stop.TheVariants as stop
+use Rattle.token_cli.specs.declared.status.Status.{Status}
 use Rattle.token_cli.specs.declared.status.Status.TheVariants as status
 use Rattle.token_cli.specs.declared.telling.Telling.{Telling}
 
 abbrev Ended : Type 0
 Ended = Result Bool Stop
 
-pub is_done : (r : Ended) → status_of r ≡ status.Done → r ≡ Ok false
-is_done (Ok false) e = refl
-is_done (Ok true) e = absurd (cc)
-is_done (Err stop.Usage) e = absurd (cc)
-is_done (Err stop.NoMemory) e = absurd (cc)
-is_done (Err stop.WriteFault) e = absurd (cc)
-is_done (Err (stop.BadScript at)) e = absurd (cc)
-is_done (Err stop.ReadFault) e = absurd (cc)
-is_done (Err stop.TooLong) e = absurd (cc)
+-- the answer that a status and a place come from
+abbrev pub ended_of : Status → ℕ → Ended
+ended_of status.Done at = Ok false
+ended_of status.Refused at = Ok true
+ended_of status.Usage at = Err stop.Usage
+ended_of status.BadScript at = Err (stop.BadScript at)
+ended_of status.ReadFault at = Err stop.ReadFault
+ended_of status.WriteFault at = Err stop.WriteFault
+ended_of status.NoMemory at = Err stop.NoMemory
+ended_of status.TooLong at = Err stop.TooLong
 
-pub is_refusal : (r : Ended) → status_of r ≡ status.Refused → r ≡ Ok true
-is_refusal (Ok true) e = refl
-is_refusal (Ok false) e = absurd (cc)
-is_refusal (Err stop.Usage) e = absurd (cc)
-is_refusal (Err stop.NoMemory) e = absurd (cc)
-is_refusal (Err stop.WriteFault) e = absurd (cc)
-is_refusal (Err (stop.BadScript at)) e = absurd (cc)
-is_refusal (Err stop.ReadFault) e = absurd (cc)
-is_refusal (Err stop.TooLong) e = absurd (cc)
+ended_back : (r : Ended) → r ≡ ended_of (status_of r) (place_of r)
+ended_back (Ok false) = refl
+ended_back (Ok true) = refl
+ended_back (Err stop.Usage) = refl
+ended_back (Err (stop.BadScript at)) = refl
+ended_back (Err stop.ReadFault) = refl
+ended_back (Err stop.WriteFault) = refl
+ended_back (Err stop.NoMemory) = refl
+ended_back (Err stop.TooLong) = refl
 
-pub is_bad : (r : Ended) → status_of r ≡ status.BadScript → (at : ℕ) × (r ≡ Err (stop.BadScript at))
-is_bad (Err (stop.BadScript at)) e = (at, refl)
-is_bad (Ok true) e = absurd (cc)
-is_bad (Ok false) e = absurd (cc)
-is_bad (Err stop.Usage) e = absurd (cc)
-is_bad (Err stop.NoMemory) e = absurd (cc)
-is_bad (Err stop.WriteFault) e = absurd (cc)
-is_bad (Err stop.ReadFault) e = absurd (cc)
-is_bad (Err stop.TooLong) e = absurd (cc)
+pub said_by : (r : Ended) (s : Status) → status_of r ≡ s → r ≡ ended_of s (place_of r)
+said_by r s e = ended_back r ∙ ap (λ x. ended_of x (place_of r)) e
 
-pub is_read : (r : Ended) → status_of r ≡ status.ReadFault → r ≡ Err stop.ReadFault
-is_read (Err stop.ReadFault) e = refl
-is_read (Ok true) e = absurd (cc)
-is_read (Ok false) e = absurd (cc)
-is_read (Err stop.Usage) e = absurd (cc)
-is_read (Err (stop.BadScript at)) e = absurd (cc)
-is_read (Err stop.WriteFault) e = absurd (cc)
-is_read (Err stop.NoMemory) e = absurd (cc)
-is_read (Err stop.TooLong) e = absurd (cc)
-
-pub is_long : (r : Ended) → status_of r ≡ status.TooLong → r ≡ Err stop.TooLong
-is_long (Err stop.TooLong) e = refl
-is_long (Ok true) e = absurd (cc)
-is_long (Ok false) e = absurd (cc)
-is_long (Err stop.Usage) e = absurd (cc)
-is_long (Err (stop.BadScript at)) e = absurd (cc)
-is_long (Err stop.ReadFault) e = absurd (cc)
-is_long (Err stop.WriteFault) e = absurd (cc)
-is_long (Err stop.NoMemory) e = absurd (cc)
+pub stopped_as : (r : Ended) (s : Status) → s ≡ status_of r → (r ≡ Err stop.Usage) ⊎ (r ≡ Err stop.NoMemory) → (s ≡ status.Usage) ⊎ (s ≡ status.NoMemory)
+stopped_as r s e (inl usage) = inl (e ∙ ap status_of usage)
+stopped_as r s e (inr memory) = inr (e ∙ ap status_of memory)
 
 -- the answers but for those that are ruled out
 pub all_written : (r : Ended) → (r ≡ Err stop.ReadFault → ⊥) → (r ≡ Err stop.WriteFault → ⊥) → (r ≡ Err stop.TooLong → ⊥) → (r ≡ Err stop.Usage → ⊥) → ((at : ℕ) → r ≡ Err (stop.BadScript at) → ⊥) → (status_of r ≡ status.Done) ⊎ ((status_of r ≡ status.Refused) ⊎ (status_of r ≡ status.NoMemory))

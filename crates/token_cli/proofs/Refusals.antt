@@ -5,7 +5,7 @@ use Rattle.std.specs.Bool.{nat_eq}
 use Rattle.std.specs.List.{ends_with, list_any, slice_get}
 use Rattle.std.specs.Str.{bytes_eq}
 use Rattle.token_cli.specs.Headline.{is_refusal}
-use Rattle.tk_io.specs.Shown.{shown_by}
+use Rattle.tk_io.specs.View.{entries_view}
 use Rattle.token_cli.proofs.Places.{all_listed, at_listed, plus_one}
 
 abbrev pub Entry : Type 0
@@ -40,8 +40,8 @@ none_behind (x ∷ es) zero h = absurd (omega (arith, h))
 none_behind (x ∷ es) (suc i) h = none_behind es i (omega (arith, h))
 
 -- what stands at a place of the listed outputs
-pub shown_at : {K : Type 0} (key : K → List ℕ) (xs : List (K × List ℕ)) (es : List Entry) (i : ℕ) (x : K × List ℕ) → shown_by key (λ v. v) xs ≡ es → i < length xs → x ≡ get_or xs i x → slice_get es i ≡ Some (key x.0, x.1)
+pub shown_at : {K : Type 0} (key : K → List ℕ) (xs : List (K × List ℕ)) (es : List Entry) (i : ℕ) (x : K × List ℕ) → entries_view key (λ v. v) xs ≡ es → i < length xs → x ≡ get_or xs i x → slice_get es i ≡ Some (key x.0, x.1)
 shown_at key xs es i x e h is = at_listed xs (λ y. (key y.0, y.1)) es i x e h is
 
-pub all_shown : {K : Type 0} (key : K → List ℕ) (xs : List (K × List ℕ)) (es : List Entry) (i : ℕ) → shown_by key (λ v. v) xs ≡ es → length xs ≤ i → length es ≤ i
+pub all_shown : {K : Type 0} (key : K → List ℕ) (xs : List (K × List ℕ)) (es : List Entry) (i : ℕ) → entries_view key (λ v. v) xs ≡ es → length xs ≤ i → length es ≤ i
 all_shown key xs es i e h = all_listed xs (λ y. (key y.0, y.1)) es i e h

@@ -13,7 +13,7 @@ use Rattle.edit_script.specs.Stream.{line_text}
 use Rattle.edit_script.proofs.Deltas.{one_more_delta}
 use Rattle.edit_script.proofs.Standing.{empty_files, put_files, del_files, commit_files, up_to_here, count_parts}
 use Rattle.token_cli.specs.Headline.{AreCommits, BuildsAt, last_held}
-use Rattle.token_cli.specs.inner.Step.{State, Follows, Leads}
+use Rattle.token_cli.specs.inner.Step.{State, IsEventTold, IsCommitted}
 use Rattle.token_cli.specs.Told.{all_commits, commit_text, commits_so_far, head_line}
 use Rattle.token_cli.specs.declared.telling.Telling.{Telling}
 use Rattle.token_cli.proofs.Lists.{split_here, take_more, at_pushed, last_pushed}
@@ -81,7 +81,7 @@ count_below es i e =
     let before = take i es in
     omega (arith, ap commit_count (split_here es i commit e), count_parts before (commit ∷ drop (suc i) es))
 
-pub commits_more : (told : Telling) (es : List EventData) (i : ℕ) (s : State) (old now : Option (List ℕ)) (next : FilesData) (d : Delta) → (stands : Stands told es i s old now) → slice_get es i ≡ Some commit → Leads s next d → AreCommits es (stands.held ++ (next ∷ [])) (stands.deltas ++ (d ∷ []))
+pub commits_more : (told : Telling) (es : List EventData) (i : ℕ) (s : State) (old now : Option (List ℕ)) (next : FilesData) (d : Delta) → (stands : Stands told es i s old now) → slice_get es i ≡ Some commit → IsCommitted s next d → AreCommits es (stands.held ++ (next ∷ [])) (stands.deltas ++ (d ∷ []))
 commits_more told es i s old now next d stands e leads =
     let held = stands.held in
     let many : length held ≡ commit_count (take i es) = stands.length ∙ stands.count in
@@ -94,7 +94,7 @@ commits_more told es i s old now next d stands e leads =
     }
 
 -- one event more
-pub stands_more : (told : Telling) (es : List EventData) (i : ℕ) (e : EventData) (s t : State) (old now new : Option (List ℕ)) → slice_get es i ≡ Some e → Stands told es i s old now → Follows told e s t now new → Stands told es (i + 1) t old new
+pub stands_more : (told : Telling) (es : List EventData) (i : ℕ) (e : EventData) (s t : State) (old now new : Option (List ℕ)) → slice_get es i ≡ Some e → Stands told es i s old now → IsEventTold told e s t now new → Stands told es (i + 1) t old new
 stands_more told es i (put p text) s t old now new e stands follows =
     let (files, held, commits, written) = follows in
     let more = take_more es i (put p text) e in

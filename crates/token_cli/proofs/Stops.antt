@@ -6,7 +6,7 @@ use Rattle.tk_io.specs.FilesData.{FilesData}
 use Rattle.build_plain.specs.Out.{Builds}
 use Rattle.token_cli.specs.declared.stop.Stop.{Stop}
 use Rattle.token_cli.specs.declared.stop.Stop.TheVariants as stop
-use Rattle.token_cli.specs.Ending.{Writes}
+use Rattle.token_cli.specs.inner.Ending.{Writes}
 use Rattle.token_cli.specs.inner.Step.{State, Cuts, Fails}
 use Rattle.token_cli.specs.declared.telling.Telling.{Telling}
 

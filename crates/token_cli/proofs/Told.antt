@@ -4,7 +4,7 @@ use Rattle.std.specs.FinMap as map
 use Rattle.std.specs.List.{flat_map}
 use Rattle.edit_script.specs.Delta.{ChangeData, Delta}
 use Rattle.edit_script.specs.View.{Lined, with_line}
-use Rattle.edit_script.specs.Stats.{bare, short_line, short_lines}
+use Rattle.edit_script.specs.Stats.{without_lines, short_line, short_lines}
 use Rattle.edit_script.specs.Stream.{commits_text, line_text, record_of}
 use Rattle.edit_script.specs.declared.line.Line.TheVariants.{Commit, Done}
 use Rattle.edit_script.proofs.Deltas.{no_commits, more_commits, stream_is}
@@ -53,11 +53,11 @@ no_longer Counts n k ds = fewer_lines n k ds
 pub some_last : (n : ℕ) → 0 < length (line_text (Done n))
 some_last n = omega arith
 
-bare_lines : (cs : List ChangeData) → bare (map_list with_line cs) ≡ cs
+bare_lines : (cs : List ChangeData) → without_lines (map_list with_line cs) ≡ cs
 bare_lines [] = refl
 bare_lines (c ∷ cs) = ap (λ l. c ∷ l) (bare_lines cs)
 
 -- what is told of a commit is told of the listed changes
 pub told_of_changes : (told : Telling) (k : ℕ) (d : Delta) (changes : List Lined) → changes ≡ map_list with_line (map.entries d) → commit_text told k d ≡ changes_text told k changes
 told_of_changes Records k d changes e = ap (λ l. line_text (Commit k) ++ l) (sym (ap records_of e ∙ with_lines (map.entries d)))
-told_of_changes Counts k d changes e = ap (λ cs. line_text (short_line k cs)) (sym (ap bare e ∙ bare_lines (map.entries d)))
+told_of_changes Counts k d changes e = ap (λ cs. line_text (short_line k cs)) (sym (ap without_lines e ∙ bare_lines (map.entries d)))

@@ -13,7 +13,7 @@ use Rattle.tk_io.specs.Reading.{TakesExactly}
 use Rattle.tk_io.specs.Writing.{AppendsFront, AppendsPart}
 use Rattle.tk_io.specs.FilesData.{FilesData}
 use Rattle.edit_script.specs.Script.{EventData, IsScript, IsScriptStop}
-use Rattle.edit_script.specs.Files.{AreFilesAt, commit_count, whole}
+use Rattle.edit_script.specs.Files.{AreFilesAt, commit_count, as_one_commit}
 use Rattle.edit_script.specs.Delta.{Delta, AreDeltas, held_at}
 use Rattle.build_plain.specs.Out.{Builds}
 use Rattle.command_words.specs.Words.{command_of}
@@ -41,7 +41,7 @@ telling_of (Gen seed size) = Counts
 
 -- the events that a command acts on: for `build` as if every commit were taken out and one stood at the end
 abbrev pub events_for : Command → List EventData → List EventData
-events_for Build es = whole es
+events_for Build es = as_one_commit es
 events_for Replay es = es
 events_for Stats es = es
 events_for (Gen seed size) es = es
@@ -75,7 +75,7 @@ WroteWhole told es refused old new =
     (held : List FilesData) × (deltas : List Delta) × AreCommits es held deltas × (length held ≡ commit_count es)
     × (is_refused (last_held held) ≡ refused) × Appends old new (whole_text told deltas)
 
--- a part was written, and not all: a front of what some of the commits gave, or less than the whole of what all gave
+-- a part was written, and not all: a prefix of what some of the commits gave, or less than the whole of what all gave
 abbrev pub WrotePart : Telling → List EventData → Option (List ℕ) → Option (List ℕ) → Type 0
 WrotePart told es old new =
     (held : List FilesData) × (deltas : List Delta) × AreCommits es held deltas

@@ -1,11 +1,16 @@
--- What is said on the error sink, and the numbers of the statuses.
-use Rattle.std.specs.Prelude.{◌⊎◌, ℕ, List, [], ◌++◌, codes, Option}
+-- How a run ends: its status and the number of that, and what is said on the error sink.
+use Rattle.std.specs.Prelude.{◌⊎◌, ℕ, Bool, List, [], ◌++◌, codes, Option}
 use Rattle.std.specs.Fmt.{decimal}
 use Rattle.std.specs.Io.KnownBytes.{Appends}
 use Rattle.tk_io.specs.Causes.{Rose}
 use Rattle.tk_io.specs.Writing.{AppendsPart}
 use Rattle.token_cli.specs.declared.status.Status.{Status}
 use Rattle.token_cli.specs.declared.status.Status.TheVariants as status
+
+-- where all was written, with or without a refusal held at the end
+abbrev pub whole_status : Bool → Status
+whole_status Bool.true = status.Refused
+whole_status Bool.false = status.Done
 
 -- the text of each status; a script that is refused is said with the byte at which it is
 abbrev pub error_text : Status → ℕ → List ℕ
@@ -19,15 +24,15 @@ error_text status.NoMemory at = codes "tokc: out of memory\n"
 error_text status.TooLong at = codes "tokc: script too long\n"
 
 -- the number that the program ends with
-abbrev pub number_of : Status → ℕ
-number_of status.Done = 0
-number_of status.Refused = 1
-number_of status.Usage = 2
-number_of status.BadScript = 3
-number_of status.ReadFault = 4
-number_of status.WriteFault = 5
-number_of status.NoMemory = 6
-number_of status.TooLong = 7
+abbrev pub status_number : Status → ℕ
+status_number status.Done = 0
+status_number status.Refused = 1
+status_number status.Usage = 2
+status_number status.BadScript = 3
+status_number status.ReadFault = 4
+status_number status.WriteFault = 5
+status_number status.NoMemory = 6
+status_number status.TooLong = 7
 
 -- the text was appended whole, or a part of it, and not all, was and the count rose
 abbrev pub Reports : Option (List ℕ) → Option (List ℕ) → ℕ → ℕ → List ℕ → Type 0

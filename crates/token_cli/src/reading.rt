@@ -10,7 +10,7 @@ use std::str;
 ///
 /// # Errors
 /// `BadScript` exactly where the bytes are no script: at the first byte that is not UTF-8, and in a text at the end of its
-/// longest front that is a script, or at 0 where none is. `NoMemory`.
+/// longest prefix that is a script, or at 0 where none is. `NoMemory`.
 pub fn read_events(alloc: Global, script: &[u8]) -> Result<Events<'_>, ScriptStop>
     ensures ok { IfOk result (λ es. IsScript script.now es) }
     ensures bad { (at : ℕ) → result ≡ Err (ScriptStop.BadScript at) → IsScriptStop script.now at }

@@ -1,8 +1,8 @@
 // Writing what a command tells of a script's events.
 ghost use Rattle.std.specs.Prelude.{◌≡◌, ◌≤◌, [], ◌∷◌, ◌++◌, IfOk, OnOk};
-ghost use Rattle.edit_script.specs.Files.{whole, without_commits};
+ghost use Rattle.edit_script.specs.Files.{as_one_commit, without_commits};
 ghost use Rattle.edit_script.specs.View.{event_view};
-ghost use Rattle.token_cli.specs.Ending.{Writes};
+ghost use Rattle.token_cli.specs.inner.Ending.{Writes};
 ghost use Rattle.token_cli.specs.Headline.{events_for, telling_of};
 ghost use Rattle.token_cli.specs.Told.{head_line};
 
@@ -27,7 +27,7 @@ fn add_edit<'s>(edits: &mut Events<'s>, event: &Event<'s>) -> Result<(), NoMemor
 
 // The events but for their commits, and one commit at the end.
 fn whole<'s>(alloc: Global, events: &Events<'s>) -> Result<Events<'s>, NoMemory>
-    ensures { IfOk result (λ es. es ≡ whole events.now) }
+    ensures { IfOk result (λ es. es ≡ as_one_commit events.now) }
 {
     let mut all = Events::new(alloc);
     for event in events.as_slice() {

@@ -4,7 +4,7 @@ ghost use Rattle.std.specs.Fmt.{decimal};
 ghost use Rattle.std.specs.Io.KnownBytes.{Appends};
 ghost use Rattle.tk_io.specs.Causes.{HasCause};
 ghost use Rattle.tk_io.specs.Writing.{AppendsPart};
-ghost use Rattle.token_cli.specs.Ending.{status_of, place_of, stop_text};
+ghost use Rattle.token_cli.specs.inner.Ending.{status_of, place_of, stop_text};
 ghost use Rattle.token_cli.specs.Report.{error_text, Reports};
 
 use crate::stop::Stop;

@@ -1,14 +1,17 @@
 // Running the words of the command line.
-ghost use Rattle.std.specs.Prelude.{Some, None, Err, List, ◌⊎◌, ◌≡◌, ◌≢◌, ◌≤◌, ◌<◌, ℕ, Bool, true, Ok, length};
+ghost use Rattle.std.specs.Prelude.{Some, None, Err, List, ◌⊎◌, ◌≡◌, ◌≢◌, ◌≤◌, ◌<◌, ℕ, Bool, true};
+ghost use Rattle.std.specs.Prelude.{length};
 ghost use Rattle.tk_io.specs.Causes.{Rose};
 ghost use Rattle.tk_io.specs.Reading.{TakesAtMost};
 ghost use Rattle.edit_script.specs.Script.{EventData, IsScript};
 ghost use Rattle.command_words.specs.declared.command.Command.{Command as CommandData};
 ghost use Rattle.generated_script.specs.Script.{script_of};
 ghost use Rattle.generated_script.specs.declared.script.TheConstants.{MOST_TOKENS};
-ghost use Rattle.token_cli.specs.Ending.{Scripted, whole_status};
-ghost use Rattle.token_cli.specs.Headline.{FailsToRead, FailsToWrite, IsScriptOf, RefusesScript, RunsOut, TakesTooMuch, WroteAll, WroteWhole, asked_by, events_for, most_bytes, reads_source, telling_of};
-ghost use Rattle.token_cli.specs.Report.{error_text, Reports};
+ghost use Rattle.token_cli.specs.inner.Ending.{Ends, Scripted, course};
+ghost use Rattle.token_cli.specs.Headline.{FailsToRead, FailsToWrite, IsScriptOf, RefusesScript};
+ghost use Rattle.token_cli.specs.Headline.{RunsOut, TakesTooMuch, WroteAll, WroteWhole, asked_by};
+ghost use Rattle.token_cli.specs.Headline.{events_for, most_bytes, reads_source, telling_of};
+ghost use Rattle.token_cli.specs.Report.{error_text, Reports, whole_status};
 
 use crate::reading::read_events;
 use crate::replaying::write_events;
@@ -46,21 +49,9 @@ fn tell_source<S: Source, K: Sink>(
     out: &mut K,
 ) -> Result<bool, Stop>
     requires { reads_source command ≡ true }
-    ensures wrote { (refused : Bool) → result ≡ Ok refused → WroteAll (Some command)
-        (S.left src.old) (S.left src.new) refused (K.written out.old) (K.written out.new) }
-    ensures words { result ≡ Err Stop.Usage → ⊥ }
-    ensures bad_script { (at : ℕ) → result ≡ Err (Stop.BadScript at)
-        → RefusesScript (S.left src.old) (S.left src.new)
-        (K.written out.old) (K.written out.new) at }
-    ensures read_fault { result ≡ Err Stop.ReadFault → FailsToRead
-        (S.faults src.old) (S.faults src.new) (K.written out.old) (K.written out.new) }
-    ensures write_fault { result ≡ Err Stop.WriteFault → FailsToWrite (Some command)
-        (S.left src.old) (S.left src.new) (K.faults out.old) (K.faults out.new)
-        (K.written out.old) (K.written out.new) }
-    ensures memory { result ≡ Err Stop.NoMemory → RunsOut (Some command)
-        (S.left src.old) (S.left src.new) (K.written out.old) (K.written out.new) }
-    ensures too_long { result ≡ Err Stop.TooLong → TakesTooMuch
-        (S.left src.old) (S.left src.new) (K.written out.old) (K.written out.new) }
+    ensures ends { Ends result (Some command) (course (S.left src.old) (S.left src.new)
+        (S.faults src.old) (S.faults src.new) (K.written out.old) (K.written out.new)
+        (K.faults out.old) (K.faults out.new)) }
     ensures taken { (result ≡ Err Stop.TooLong → ⊥)
         → TakesAtMost most_bytes (S.left src.old) (S.left src.new) }
 {
@@ -87,27 +78,15 @@ fn main_job<S: Source, K: Sink>(
     src: &mut S,
     out: &mut K,
 ) -> Result<bool, Stop>
-    ensures wrote { (refused : Bool) → result ≡ Ok refused → WroteAll (asked_by words.now)
-        (S.left src.old) (S.left src.new) refused (K.written out.old) (K.written out.new) }
-    ensures usage { result ≡ Err Stop.Usage → asked_by words.now ≡ None }
+    ensures ends { Ends result (asked_by words.now) (course (S.left src.old) (S.left src.new)
+        (S.faults src.old) (S.faults src.new) (K.written out.old) (K.written out.new)
+        (K.faults out.old) (K.faults out.new)) }
     ensures words { asked_by words.now ≡ None
         → ((result ≡ Err Stop.Usage) ⊎ (result ≡ Err Stop.NoMemory))
         × (src.new ≡ src.old) × (K.written out.new ≡ K.written out.old) }
     ensures generated { (seed size : ℕ) → asked_by words.now ≡ Some (Command.Gen seed size)
         → (src.new ≡ src.old) × ((at : ℕ) → result ≡ Err (Stop.BadScript at) → ⊥)
         × (result ≢ Err Stop.ReadFault) × (result ≢ Err Stop.TooLong) }
-    ensures bad_script { (at : ℕ) → result ≡ Err (Stop.BadScript at)
-        → RefusesScript (S.left src.old) (S.left src.new)
-        (K.written out.old) (K.written out.new) at }
-    ensures read_fault { result ≡ Err Stop.ReadFault → FailsToRead
-        (S.faults src.old) (S.faults src.new) (K.written out.old) (K.written out.new) }
-    ensures write_fault { result ≡ Err Stop.WriteFault → FailsToWrite (asked_by words.now)
-        (S.left src.old) (S.left src.new) (K.faults out.old) (K.faults out.new)
-        (K.written out.old) (K.written out.new) }
-    ensures memory { result ≡ Err Stop.NoMemory → RunsOut (asked_by words.now)
-        (S.left src.old) (S.left src.new) (K.written out.old) (K.written out.new) }
-    ensures too_long { result ≡ Err Stop.TooLong → TakesTooMuch
-        (S.left src.old) (S.left src.new) (K.written out.old) (K.written out.new) }
     ensures taken { (result ≡ Err Stop.TooLong → ⊥)
         → TakesAtMost most_bytes (S.left src.old) (S.left src.new) }
 {

@@ -1,7 +1,7 @@
 // How a run ends.
 ghost use Rattle.std.specs.Prelude.{◌≡◌};
-ghost use Rattle.token_cli.specs.Ending.{status_of};
-ghost use Rattle.token_cli.specs.Report.{number_of};
+ghost use Rattle.token_cli.specs.inner.Ending.{status_of};
+ghost use Rattle.token_cli.specs.Report.{status_number};
 
 use crate::stop::Stop;
 
@@ -29,7 +29,7 @@ pub enum Status {
 impl Status {
     /// The number that the program ends with.
     pub fn number(self) -> u8
-        ensures { result ≡ number_of self }
+        ensures { result ≡ status_number self }
     {
         match self {
             Status::Done => 0,

@@ -1,7 +1,8 @@
 // Why a run ends before all is written.
 ghost use Rattle.std.specs.Prelude.{◌≡◌};
-ghost use Rattle.token_cli.specs.declared.stop.Stop.TheVariants.{NoMemory as OutOfMemory, WriteFault as Faulted};
-ghost use Rattle.token_cli.specs.Causes.{of_read, of_script, of_words};
+ghost use Rattle.token_cli.specs.declared.stop.Stop.TheVariants.{NoMemory as OutOfMemory};
+ghost use Rattle.token_cli.specs.declared.stop.Stop.TheVariants.{WriteFault as Faulted};
+ghost use Rattle.token_cli.specs.inner.Causes.{of_read, of_script, of_words};
 
 use command_words::WordStop;
 use edit_script::ScriptStop;

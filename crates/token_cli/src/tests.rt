@@ -1,280 +1,15 @@
 //! Runs of the command line: what is written, what is said of a failure, and how it ends.
+
+mod stops;
+mod table;
+
+use self::stops::STOPS;
+use self::table::{CASES, Case};
 use crate::{Status, run, run_clean};
 use std::alloc::Global;
 use std::process::Abort;
 use std::test::Fail;
 use tk_io::{CleanSource, MemSink, MemSource};
-
-/// A run without a failing call: the words, the script, and what is written, what is said and how it ends.
-struct Case {
-    words: &'static str,
-    script: &'static [u8],
-    written: &'static str,
-    said: &'static str,
-    status: Status,
-}
-
-static CASES: [Case; 37] = [
-    Case {
-        words: "build",
-        script: b"tokc-script 1\nput tokens.json 70\n{\"space\":{\"$type\":\"dimension\",\"s\":{\"$value\":{\"value\":4,\"unit\":\"px\"}}}}\n",
-        written: "tokc-stream 1\ncommit 1\nfile default/Tokens.swift 80\nimport UIKit\n\npublic enum Tokens {\n  public static let space_s: CGFloat = 4.0\n}\n\nfile default/tokens.css 28\n:root {\n  --space-s: 4px;\n}\n\nfile default/tokens.json 78\n{\n  \"space.s\": {\"$type\": \"dimension\", \"$value\": {\"value\": 4, \"unit\": \"px\"}}\n}\n\nfile default/tokens.xml 100\n<?xml version=\"1.0\" encoding=\"utf-8\"?>\n<resources>\n  <dimen name=\"space_s\">4dp</dimen>\n</resources>\n\ndone 1\n",
-        said: "",
-        status: Status::Done,
-    },
-    Case {
-        words: "replay",
-        script: b"tokc-script 1\n",
-        written: "tokc-stream 1\ndone 0\n",
-        said: "",
-        status: Status::Done,
-    },
-    Case {
-        words: "replay",
-        script: b"tokc-script 1\ncommit\ncommit\n",
-        written: "tokc-stream 1\ncommit 1\nfile default/REFUSED 61\nrule file-missing\nfile tokens.json\nline 1 column 1\nbytes 0 0\n\ncommit 2\ndone 2\n",
-        said: "",
-        status: Status::Refused,
-    },
-    Case {
-        words: "build",
-        script: b"tokc-script 1\nput tokens.json 0\n\n",
-        written: "tokc-stream 1\ncommit 1\nfile default/REFUSED 60\nrule json-syntax\nfile tokens.json\nline 1 column 1\nbytes 0 0\n\ndone 1\n",
-        said: "",
-        status: Status::Refused,
-    },
-    Case {
-        words: "build",
-        script: b"tokc-script 1\nput tokens.json 2\n{}\n",
-        written: "tokc-stream 1\ncommit 1\nfile default/Tokens.swift 37\nimport UIKit\n\npublic enum Tokens {\n}\n\nfile default/tokens.css 10\n:root {\n}\n\nfile default/tokens.json 4\n{\n}\n\nfile default/tokens.xml 64\n<?xml version=\"1.0\" encoding=\"utf-8\"?>\n<resources>\n</resources>\n\ndone 1\n",
-        said: "",
-        status: Status::Done,
-    },
-    Case {
-        words: "build",
-        script: b"tokc-script 1\nput a.json 5\n{}\n",
-        written: "",
-        said: "tokc: bad script at byte 14\n",
-        status: Status::BadScript,
-    },
-    Case {
-        words: "replay",
-        script: b"tokc-script 1\ncommit\nput a.json 02\n{}\n",
-        written: "",
-        said: "tokc: bad script at byte 21\n",
-        status: Status::BadScript,
-    },
-    Case {
-        words: "replay",
-        script: b"tokc-script 1\ncommit\n\xff\n",
-        written: "",
-        said: "tokc: bad script at byte 21\n",
-        status: Status::BadScript,
-    },
-    Case {
-        words: "build",
-        script: b"tokc-script 1\nput tokens.json 5\n\xef\xbb\xbf{}\n",
-        written: "tokc-stream 1\ncommit 1\nfile default/REFUSED 60\nrule json-syntax\nfile tokens.json\nline 1 column 1\nbytes 0 0\n\ndone 1\n",
-        said: "",
-        status: Status::Refused,
-    },
-    Case {
-        words: "build",
-        script: b"tokc-script 1\nput tokens.json 15\n{\"a\":\"\\ud800x\"}\n",
-        written: "tokc-stream 1\ncommit 1\nfile default/REFUSED 63\nrule json-syntax\nfile tokens.json\nline 1 column 13\nbytes 12 12\n\ndone 1\n",
-        said: "",
-        status: Status::Refused,
-    },
-    Case {
-        words: "build",
-        script: b"tokc-script 1\nput tokens.json 13\n{\"a\":1,\"a\":2}\n",
-        written: "tokc-stream 1\ncommit 1\nfile default/REFUSED 64\nrule json-duplicate\nfile tokens.json\nline 1 column 8\nbytes 7 10\n\ndone 1\n",
-        said: "",
-        status: Status::Refused,
-    },
-    Case {
-        words: "build",
-        script: b"tokc-script 1\nput tokens.json 1\n{\n",
-        written: "tokc-stream 1\ncommit 1\nfile default/REFUSED 60\nrule json-syntax\nfile tokens.json\nline 1 column 2\nbytes 1 1\n\ndone 1\n",
-        said: "",
-        status: Status::Refused,
-    },
-    Case {
-        words: "build",
-        script: b"tokc-script 1\nput tokens.json 130\n[[[[[[[[[[[[[[[[[[[[[[[[[[[[[[[[[[[[[[[[[[[[[[[[[[[[[[[[[[[[[[[[[]]]]]]]]]]]]]]]]]]]]]]]]]]]]]]]]]]]]]]]]]]]]]]]]]]]]]]]]]]]]]]]]]\n",
-        written: "tokc-stream 1\ncommit 1\nfile default/REFUSED 62\nrule json-depth\nfile tokens.json\nline 1 column 65\nbytes 64 65\n\ndone 1\n",
-        said: "",
-        status: Status::Refused,
-    },
-    Case {
-        words: "build",
-        script: b"tokc-script 1\nput tokens.json 4\n{} x\n",
-        written: "tokc-stream 1\ncommit 1\nfile default/REFUSED 60\nrule json-syntax\nfile tokens.json\nline 1 column 4\nbytes 3 3\n\ndone 1\n",
-        said: "",
-        status: Status::Refused,
-    },
-    Case {
-        words: "replay",
-        script: b"tokc-script 1\nput tokens.json 70\n{\"space\":{\"$type\":\"dimension\",\"s\":{\"$value\":{\"value\":4,\"unit\":\"px\"}}}}\ncommit\nput tokens.json 70\n{\"space\":{\"$type\":\"dimension\",\"s\":{\"$value\":{\"value\":4,\"unit\":\"px\"}}}}\nput other.json 2\n{}\ncommit\ndel tokens.json\ndel tokens.json\ncommit\nput tokens.json 73\n{\"space\":{\"$type\":\"dimension\",\"s\":{\"$value\":{\"value\":1.50,\"unit\":\"px\"}}}}\ncommit\n",
-        written: "tokc-stream 1\ncommit 1\nfile default/Tokens.swift 80\nimport UIKit\n\npublic enum Tokens {\n  public static let space_s: CGFloat = 4.0\n}\n\nfile default/tokens.css 28\n:root {\n  --space-s: 4px;\n}\n\nfile default/tokens.json 78\n{\n  \"space.s\": {\"$type\": \"dimension\", \"$value\": {\"value\": 4, \"unit\": \"px\"}}\n}\n\nfile default/tokens.xml 100\n<?xml version=\"1.0\" encoding=\"utf-8\"?>\n<resources>\n  <dimen name=\"space_s\">4dp</dimen>\n</resources>\n\ncommit 2\ncommit 3\nfile default/REFUSED 61\nrule file-missing\nfile tokens.json\nline 1 column 1\nbytes 0 0\n\ngone default/Tokens.swift\ngone default/tokens.css\ngone default/tokens.json\ngone default/tokens.xml\ncommit 4\ngone default/REFUSED\nfile default/Tokens.swift 80\nimport UIKit\n\npublic enum Tokens {\n  public static let space_s: CGFloat = 1.5\n}\n\nfile default/tokens.css 30\n:root {\n  --space-s: 1.5px;\n}\n\nfile default/tokens.json 80\n{\n  \"space.s\": {\"$type\": \"dimension\", \"$value\": {\"value\": 1.5, \"unit\": \"px\"}}\n}\n\nfile default/tokens.xml 102\n<?xml version=\"1.0\" encoding=\"utf-8\"?>\n<resources>\n  <dimen name=\"space_s\">1.5dp</dimen>\n</resources>\n\ndone 4\n",
-        said: "",
-        status: Status::Done,
-    },
-    Case {
-        words: "build",
-        script: b"tokc-script 1\nput tokens.json 2\n{}\ncommit\ndel tokens.json\ncommit\nput tokens.json 73\n{\"space\":{\"$type\":\"dimension\",\"s\":{\"$value\":{\"value\":1.50,\"unit\":\"px\"}}}}\n",
-        written: "tokc-stream 1\ncommit 1\nfile default/Tokens.swift 80\nimport UIKit\n\npublic enum Tokens {\n  public static let space_s: CGFloat = 1.5\n}\n\nfile default/tokens.css 30\n:root {\n  --space-s: 1.5px;\n}\n\nfile default/tokens.json 80\n{\n  \"space.s\": {\"$type\": \"dimension\", \"$value\": {\"value\": 1.5, \"unit\": \"px\"}}\n}\n\nfile default/tokens.xml 102\n<?xml version=\"1.0\" encoding=\"utf-8\"?>\n<resources>\n  <dimen name=\"space_s\">1.5dp</dimen>\n</resources>\n\ndone 1\n",
-        said: "",
-        status: Status::Done,
-    },
-    Case {
-        words: "replay",
-        script: b"tokc-script 1\nput tokens.json 102\n{\"a\":{\"$value\":\"{b}\"},\"b\":{\"$value\":\"{c}\"},\"c\":{\"$type\":\"dimension\",\"$value\":{\"value\":4,\"unit\":\"px\"}}}\ncommit\nput tokens.json 102\n{\"a\":{\"$value\":\"{b}\"},\"b\":{\"$value\":\"{c}\"},\"c\":{\"$type\":\"dimension\",\"$value\":{\"value\":5,\"unit\":\"px\"}}}\ncommit\nput tokc.toml 14\nprefix = \"ds\"\n\ncommit\nput tokc.toml 11\ncolour = 1\n\ncommit\n",
-        written: "tokc-stream 1\ncommit 1\nfile default/Tokens.swift 148\nimport UIKit\n\npublic enum Tokens {\n  public static let a: CGFloat = 4.0\n  public static let b: CGFloat = 4.0\n  public static let c: CGFloat = 4.0\n}\n\nfile default/tokens.css 56\n:root {\n  --a: var(--b);\n  --b: var(--c);\n  --c: 4px;\n}\n\nfile default/tokens.json 210\n{\n  \"a\": {\"$type\": \"dimension\", \"$value\": {\"value\": 4, \"unit\": \"px\"}},\n  \"b\": {\"$type\": \"dimension\", \"$value\": {\"value\": 4, \"unit\": \"px\"}},\n  \"c\": {\"$type\": \"dimension\", \"$value\": {\"value\": 4, \"unit\": \"px\"}}\n}\n\nfile default/tokens.xml 154\n<?xml version=\"1.0\" encoding=\"utf-8\"?>\n<resources>\n  <dimen name=\"a\">4dp</dimen>\n  <dimen name=\"b\">4dp</dimen>\n  <dimen name=\"c\">4dp</dimen>\n</resources>\n\ncommit 2\nfile default/Tokens.swift 148\nimport UIKit\n\npublic enum Tokens {\n  public static let a: CGFloat = 5.0\n  public static let b: CGFloat = 5.0\n  public static let c: CGFloat = 5.0\n}\n\nfile default/tokens.css 56\n:root {\n  --a: var(--b);\n  --b: var(--c);\n  --c: 5px;\n}\n\nfile default/tokens.json 210\n{\n  \"a\": {\"$type\": \"dimension\", \"$value\": {\"value\": 5, \"unit\": \"px\"}},\n  \"b\": {\"$type\": \"dimension\", \"$value\": {\"value\": 5, \"unit\": \"px\"}},\n  \"c\": {\"$type\": \"dimension\", \"$value\": {\"value\": 5, \"unit\": \"px\"}}\n}\n\nfile default/tokens.xml 154\n<?xml version=\"1.0\" encoding=\"utf-8\"?>\n<resources>\n  <dimen name=\"a\">5dp</dimen>\n  <dimen name=\"b\">5dp</dimen>\n  <dimen name=\"c\">5dp</dimen>\n</resources>\n\ncommit 3\nfile default/Tokens.swift 157\nimport UIKit\n\npublic enum Tokens {\n  public static let ds_a: CGFloat = 5.0\n  public static let ds_b: CGFloat = 5.0\n  public static let ds_c: CGFloat = 5.0\n}\n\nfile default/tokens.css 71\n:root {\n  --ds-a: var(--ds-b);\n  --ds-b: var(--ds-c);\n  --ds-c: 5px;\n}\n\nfile default/tokens.xml 163\n<?xml version=\"1.0\" encoding=\"utf-8\"?>\n<resources>\n  <dimen name=\"ds_a\">5dp</dimen>\n  <dimen name=\"ds_b\">5dp</dimen>\n  <dimen name=\"ds_c\">5dp</dimen>\n</resources>\n\ncommit 4\nfile REFUSED 71\nrule config-key\nfile tokc.toml\nline 1 column 1\nbytes 0 11\nkey \"colour\"\n\ngone default/Tokens.swift\ngone default/tokens.css\ngone default/tokens.json\ngone default/tokens.xml\ndone 4\n",
-        said: "",
-        status: Status::Refused,
-    },
-    Case {
-        words: "replay",
-        script: b"tokc-script 1\nput tokens.json 60\n{\"a\":{\"$type\":\"dimension\",\"$value\":{\"value\":4,\"unit\":\"em\"}}}\ncommit\nput tokens.json 61\n {\"a\":{\"$type\":\"dimension\",\"$value\":{\"value\":4,\"unit\":\"em\"}}}\ncommit\n",
-        written: "tokc-stream 1\ncommit 1\nfile default/REFUSED 100\nrule dimension-unit\nfile tokens.json\nline 1 column 54\nbytes 53 57\ntoken \"a\"\nplace \"#/a/$value/unit\"\n\ncommit 2\nfile default/REFUSED 100\nrule dimension-unit\nfile tokens.json\nline 1 column 55\nbytes 54 58\ntoken \"a\"\nplace \"#/a/$value/unit\"\n\ndone 2\n",
-        said: "",
-        status: Status::Refused,
-    },
-    Case {
-        words: "replay",
-        script: b"tokc-script 1\nput tokens.json 64\n{\"a\":{\"$value\":\"{b}\"},\"b\":{\"$value\":\"{c}\"},\"c\":{\"$value\":\"{a}\"}}\ncommit\n",
-        written: "tokc-stream 1\ncommit 1\nfile default/REFUSED 146\nrule alias-cycle\nfile tokens.json\nline 1 column 16\nbytes 15 20\ntoken \"a\"\nplace \"#/a/$value\"\nring \"#/a/$value\"\nring \"#/b/$value\"\nring \"#/c/$value\"\n\ndone 1\n",
-        said: "",
-        status: Status::Refused,
-    },
-    Case {
-        words: "build",
-        script: b"tokc-script 1\nput tokens.json 30\n{\"a\":{\"b\":{\"$extends\":\"{a}\"}}}\n",
-        written: "tokc-stream 1\ncommit 1\nfile default/REFUSED 89\nrule extends-cycle\nfile tokens.json\nline 1 column 23\nbytes 22 27\nring \"#/a\"\nring \"#/a/b\"\n\ndone 1\n",
-        said: "",
-        status: Status::Refused,
-    },
-    Case {
-        words: "replay",
-        script: b"tokc-script 1\nput tokens.json 2\n{}\ncommit\nput resolver.json 2\n{}\ncommit\n",
-        written: "tokc-stream 1\ncommit 1\nfile default/Tokens.swift 37\nimport UIKit\n\npublic enum Tokens {\n}\n\nfile default/tokens.css 10\n:root {\n}\n\nfile default/tokens.json 4\n{\n}\n\nfile default/tokens.xml 64\n<?xml version=\"1.0\" encoding=\"utf-8\"?>\n<resources>\n</resources>\n\ncommit 2\nfile REFUSED 63\nrule plan-version\nfile resolver.json\nline 1 column 1\nbytes 0 2\n\ngone default/Tokens.swift\ngone default/tokens.css\ngone default/tokens.json\ngone default/tokens.xml\ndone 2\n",
-        said: "",
-        status: Status::Refused,
-    },
-    Case {
-        words: "replay",
-        script: b"tokc-script 1\nput tokens.json 86\n{\"a\":{\"$type\":\"number\",\"$value\":1,\"$description\":\"x\",\"$extensions\":{\"k\": 1},\"$foo\":2}}\ncommit\nput tokens.json 86\n{\"a\":{\"$type\":\"number\",\"$value\":1,\"$description\":\"x\",\"$extensions\":{\"k\": 1},\"$foo\":2}}\ncommit\n",
-        written: "tokc-stream 1\ncommit 1\nfile default/Tokens.swift 73\nimport UIKit\n\npublic enum Tokens {\n  public static let a: Double = 1.0\n}\n\nfile default/tokens.css 20\n:root {\n  --a: 1;\n}\n\nfile default/tokens.json 90\n{\n  \"a\": {\"$type\": \"number\", \"$value\": 1, \"$description\": \"x\", \"$extensions\": {\"k\": 1}}\n}\n\nfile default/tokens.xml 118\n<?xml version=\"1.0\" encoding=\"utf-8\"?>\n<resources>\n  <item type=\"dimen\" format=\"float\" name=\"a\">1</item>\n</resources>\n\ncommit 2\ndone 2\n",
-        said: "",
-        status: Status::Done,
-    },
-    Case {
-        words: "stats",
-        script: b"tokc-script 1\nput tokens.json 86\n{\"a\":{\"$type\":\"number\",\"$value\":1,\"$description\":\"x\",\"$extensions\":{\"k\": 1},\"$foo\":2}}\ncommit\nput tokens.json 86\n{\"a\":{\"$type\":\"number\",\"$value\":1,\"$description\":\"x\",\"$extensions\":{\"k\": 1},\"$foo\":2}}\ncommit\n",
-        written: "tokc-stats 1\ncommit 1 written 4 gone 0\ncommit 2 written 0 gone 0\ndone 2\n",
-        said: "",
-        status: Status::Done,
-    },
-    Case {
-        words: "replay",
-        script: b"tokc-script 1\nput resolver.json 148\n{\"version\":\"2025.10\",\"modifiers\":{\"theme\":{\"contexts\":{\"light\":[],\"dark\":[{\"$ref\":\"dark.json\"}]}}},\"resolutionOrder\":[{\"$ref\":\"#/modifiers/theme\"}]}\nput dark.json 2\n{}\ncommit\nput dark.json 7\n{\"a\":1}\ncommit\n",
-        written: "tokc-stream 1\ncommit 1\nfile theme=dark/Tokens.swift 37\nimport UIKit\n\npublic enum Tokens {\n}\n\nfile theme=dark/tokens.css 10\n:root {\n}\n\nfile theme=dark/tokens.json 4\n{\n}\n\nfile theme=dark/tokens.xml 64\n<?xml version=\"1.0\" encoding=\"utf-8\"?>\n<resources>\n</resources>\n\nfile theme=light/Tokens.swift 37\nimport UIKit\n\npublic enum Tokens {\n}\n\nfile theme=light/tokens.css 10\n:root {\n}\n\nfile theme=light/tokens.json 4\n{\n}\n\nfile theme=light/tokens.xml 64\n<?xml version=\"1.0\" encoding=\"utf-8\"?>\n<resources>\n</resources>\n\ncommit 2\nfile theme=dark/REFUSED 59\nrule shape-member\nfile dark.json\nline 1 column 6\nbytes 5 6\n\ngone theme=dark/Tokens.swift\ngone theme=dark/tokens.css\ngone theme=dark/tokens.json\ngone theme=dark/tokens.xml\ndone 2\n",
-        said: "",
-        status: Status::Refused,
-    },
-    Case {
-        words: "stats",
-        script: b"tokc-script 1\nput resolver.json 148\n{\"version\":\"2025.10\",\"modifiers\":{\"theme\":{\"contexts\":{\"light\":[],\"dark\":[{\"$ref\":\"dark.json\"}]}}},\"resolutionOrder\":[{\"$ref\":\"#/modifiers/theme\"}]}\nput dark.json 2\n{}\ncommit\nput dark.json 7\n{\"a\":1}\ncommit\n",
-        written: "tokc-stats 1\ncommit 1 written 8 gone 0\ncommit 2 written 1 gone 4\ndone 2\n",
-        said: "",
-        status: Status::Refused,
-    },
-    Case {
-        words: "stats",
-        script: b"tokc-script 1\nput resolver.json 148\n{\"version\":\"2025.10\",\"modifiers\":{\"theme\":{\"contexts\":{\"light\":[],\"dark\":[{\"$ref\":\"dark.json\"}]}}},\"resolutionOrder\":[{\"$ref\":\"#/modifiers/theme\"}]}\nput dark.json 2\n{}\ncommit\nput dark.json 7\n{\"a\":1}\ncommit\nput dark.json 2\n{}\ncommit\n",
-        written: "tokc-stats 1\ncommit 1 written 8 gone 0\ncommit 2 written 1 gone 4\ncommit 3 written 4 gone 1\ndone 3\n",
-        said: "",
-        status: Status::Done,
-    },
-    Case {
-        words: "stats",
-        script: b"tokc-script 1\n",
-        written: "tokc-stats 1\ndone 0\n",
-        said: "",
-        status: Status::Done,
-    },
-    Case {
-        words: "stats",
-        script: b"tokc-script 1\nput tokens.json 35\n{\"a\":{\"$type\":\"number\",\"$value\":1}}\ncommit\ncommit\ncommit\ncommit\ncommit\ncommit\ncommit\ncommit\ncommit\ncommit\ncommit\ncommit\n",
-        written: "tokc-stats 1\ncommit 1 written 4 gone 0\ncommit 2 written 0 gone 0\ncommit 3 written 0 gone 0\ncommit 4 written 0 gone 0\ncommit 5 written 0 gone 0\ncommit 6 written 0 gone 0\ncommit 7 written 0 gone 0\ncommit 8 written 0 gone 0\ncommit 9 written 0 gone 0\ncommit 10 written 0 gone 0\ncommit 11 written 0 gone 0\ncommit 12 written 0 gone 0\ndone 12\n",
-        said: "",
-        status: Status::Done,
-    },
-    Case {
-        words: "stats",
-        script: b"tokc-script 1\ncommit\nput a.json 02\n{}\n",
-        written: "",
-        said: "tokc: bad script at byte 21\n",
-        status: Status::BadScript,
-    },
-    Case {
-        words: "gen 7 12",
-        script: b"tokc-script 1\n",
-        written: "tokc-stats 1\ncommit 1 written 16 gone 0\ncommit 2 written 16 gone 0\ncommit 3 written 16 gone 0\ncommit 4 written 16 gone 0\ncommit 5 written 16 gone 0\ncommit 6 written 16 gone 0\ncommit 7 written 16 gone 0\ncommit 8 written 16 gone 0\ncommit 9 written 16 gone 0\ncommit 10 written 16 gone 0\ncommit 11 written 16 gone 0\ncommit 12 written 16 gone 0\ncommit 13 written 16 gone 0\ncommit 14 written 16 gone 0\ncommit 15 written 16 gone 0\ncommit 16 written 16 gone 0\ncommit 17 written 16 gone 0\ncommit 18 written 16 gone 0\ncommit 19 written 16 gone 0\ncommit 20 written 16 gone 0\ncommit 21 written 16 gone 0\ndone 21\n",
-        said: "",
-        status: Status::Done,
-    },
-    Case {
-        words: "build x",
-        script: b"tokc-script 1\n",
-        written: "",
-        said: "usage: tokc build | replay | stats | gen SEED SIZE\n",
-        status: Status::Usage,
-    },
-    Case {
-        words: "",
-        script: b"tokc-script 1\n",
-        written: "",
-        said: "usage: tokc build | replay | stats | gen SEED SIZE\n",
-        status: Status::Usage,
-    },
-    Case {
-        words: "gen 7",
-        script: b"tokc-script 1\n",
-        written: "",
-        said: "usage: tokc build | replay | stats | gen SEED SIZE\n",
-        status: Status::Usage,
-    },
-    Case {
-        words: "gen 07 1",
-        script: b"tokc-script 1\n",
-        written: "",
-        said: "usage: tokc build | replay | stats | gen SEED SIZE\n",
-        status: Status::Usage,
-    },
-    Case {
-        words: "gen 7 0",
-        script: b"tokc-script 1\n",
-        written: "",
-        said: "usage: tokc build | replay | stats | gen SEED SIZE\n",
-        status: Status::Usage,
-    },
-    Case {
-        words: "gen 7 4001",
-        script: b"tokc-script 1\n",
-        written: "",
-        said: "usage: tokc build | replay | stats | gen SEED SIZE\n",
-        status: Status::Usage,
-    },
-    Case {
-        words: "--help",
-        script: b"tokc-script 1\n",
-        written: "",
-        said: "usage: tokc build | replay | stats | gen SEED SIZE\n",
-        status: Status::Usage,
-    },
-];
 
 // Words that stand between blanks.
 fn words_of(alloc: Global, line: &str) -> Result<Vec<String>, Fail> {
@@ -311,6 +46,14 @@ fn runs_write_and_say_what_their_words_ask_for(rt: HostRuntime) -> Result<(), Fa
     for case in &CASES {
         check(&rt, rt.alloc(), case, &[], &[])?;
         assert_eq!(&rt; case.status.number() == 0, case.status == Status::Done);
+    }
+    Ok(())
+}
+
+#[test]
+fn runs_that_stop_write_nothing_and_say_why(rt: HostRuntime) -> Result<(), Fail> {
+    for case in &STOPS {
+        check(&rt, rt.alloc(), case, &[], &[])?;
     }
     Ok(())
 }
@@ -379,7 +122,10 @@ static PIECES: [(u64, &str); 23] = [
     (12, "file default/tokens.xml 64\n"),
     (
         13,
-        "<?xml version=\"1.0\" encoding=\"utf-8\"?>\n<resources>\n</resources>\n",
+        r#"<?xml version="1.0" encoding="utf-8"?>
+<resources>
+</resources>
+"#,
     ),
     (14, "\n"),
     (15, "commit 2\n"),

@@ -8,7 +8,7 @@ ghost use Rattle.tk_io.specs.Writing.{AppendsPart};
 ghost use Rattle.edit_script.specs.Delta.{Delta, IsDelta};
 ghost use Rattle.edit_script.specs.Script.{commit as commit_event};
 ghost use Rattle.edit_script.specs.View.{Lined, event_view, with_line};
-ghost use Rattle.token_cli.specs.inner.Step.{Follows, Fails, Cuts, changes_text, records_of};
+ghost use Rattle.token_cli.specs.inner.Step.{IsEventTold, Fails, Cuts, changes_text, records_of};
 ghost use Rattle.token_cli.specs.Told.{commit_text};
 ghost use Rattle.token_cli.specs.inner.View.{workspace_view};
 
@@ -105,7 +105,8 @@ fn write_commit<K: Sink>(
 impl<'s> Workspace<'s> {
     /// No file, no output and no commit.
     pub fn new(alloc: Global) -> Workspace<'s>
-        ensures { workspace_view result ≡ record { files = map.empty; held = map.empty; commits = 0 } }
+        ensures { workspace_view result
+            ≡ record { files = map.empty; held = map.empty; commits = 0 } }
     {
         Workspace {
             files: Files::new(alloc),
@@ -117,10 +118,11 @@ impl<'s> Workspace<'s> {
     // Builds the files, and tells the commit.
     fn commit<K: Sink>(&mut self, alloc: Global, telling: Telling, out: &mut K) -> Result<(), Stop>
         requires { self.now.commits < 2 ^ 64 - 1 }
-        ensures ok { OnOk result (Follows telling commit_event (workspace_view self.old) (workspace_view self.new)
-            (K.written out.old) (K.written out.new)) }
-        ensures err { IfErr result (λ stop. Fails telling stop commit_event (workspace_view self.old)
-            (K.written out.old) (K.written out.new) (K.faults out.old) (K.faults out.new)) }
+        ensures ok { OnOk result (IsEventTold telling commit_event (workspace_view self.old)
+            (workspace_view self.new) (K.written out.old) (K.written out.new)) }
+        ensures err { IfErr result (λ stop. Fails telling stop commit_event
+            (workspace_view self.old) (K.written out.old) (K.written out.new)
+            (K.faults out.old) (K.faults out.new)) }
         ensures later { K.faults out.old ≤ K.faults out.new }
     {
         let outputs = build_files(alloc, &self.files)?;
@@ -139,10 +141,12 @@ impl<'s> Workspace<'s> {
         out: &mut K,
     ) -> Result<(), Stop>
         requires { self.now.commits < 2 ^ 64 - 1 }
-        ensures ok { OnOk result (Follows telling (event_view event.now) (workspace_view self.old)
-            (workspace_view self.new) (K.written out.old) (K.written out.new)) }
-        ensures err { IfErr result (λ stop. Fails telling stop (event_view event.now) (workspace_view self.old)
-            (K.written out.old) (K.written out.new) (K.faults out.old) (K.faults out.new)) }
+        ensures ok { OnOk result (IsEventTold telling (event_view event.now)
+            (workspace_view self.old) (workspace_view self.new)
+            (K.written out.old) (K.written out.new)) }
+        ensures err { IfErr result (λ stop. Fails telling stop (event_view event.now)
+            (workspace_view self.old) (K.written out.old) (K.written out.new)
+            (K.faults out.old) (K.faults out.new)) }
         ensures later { K.faults out.old ≤ K.faults out.new }
     {
         match event {

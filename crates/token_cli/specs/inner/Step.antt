@@ -9,7 +9,7 @@ use Rattle.edit_script.specs.Script.{EventData, put, del, commit}
 use Rattle.tk_io.specs.FilesData.{FilesData}
 use Rattle.edit_script.specs.Delta.{Delta, IsDelta}
 use Rattle.edit_script.specs.View.{Lined}
-use Rattle.edit_script.specs.Stats.{bare, short_line}
+use Rattle.edit_script.specs.Stats.{without_lines, short_line}
 use Rattle.edit_script.specs.Stream.{line_text, record_of}
 use Rattle.edit_script.specs.declared.line.Line.TheVariants.{Commit}
 use Rattle.build_plain.specs.Out.{Builds}
@@ -32,18 +32,18 @@ records_of changes = flat_map (λ change. record_of change.0) changes
 -- what is written at the commit with this number and these changes
 abbrev pub changes_text : Telling → ℕ → List Lined → List ℕ
 changes_text Records k changes = line_text (Commit k) ++ records_of changes
-changes_text Counts k changes = line_text (short_line k (bare changes))
+changes_text Counts k changes = line_text (short_line k (without_lines changes))
 
 -- a commit of these files and outputs leads to these outputs by this delta
-abbrev pub Leads : State → FilesData → Delta → Type 0
-Leads s held delta = Builds s.files held × IsDelta s.held held delta
+abbrev pub IsCommitted : State → FilesData → Delta → Type 0
+IsCommitted s held delta = Builds s.files held × IsDelta s.held held delta
 
-abbrev pub Follows : Telling → EventData → State → State → Option (List ℕ) → Option (List ℕ) → Type 0
-Follows told (put path text) s t old new = (t.files ≡ map.insert s.files path text) × (t.held ≡ s.held) × (t.commits ≡ s.commits) × (new ≡ old)
-Follows told (del path) s t old new = (t.files ≡ map.remove s.files path) × (t.held ≡ s.held) × (t.commits ≡ s.commits) × (new ≡ old)
-Follows told commit s t old new =
+abbrev pub IsEventTold : Telling → EventData → State → State → Option (List ℕ) → Option (List ℕ) → Type 0
+IsEventTold told (put path text) s t old new = (t.files ≡ map.insert s.files path text) × (t.held ≡ s.held) × (t.commits ≡ s.commits) × (new ≡ old)
+IsEventTold told (del path) s t old new = (t.files ≡ map.remove s.files path) × (t.held ≡ s.held) × (t.commits ≡ s.commits) × (new ≡ old)
+IsEventTold told commit s t old new =
     (t.files ≡ s.files) × (t.commits ≡ s.commits + 1)
-    × ((delta : Delta) × Leads s t.held delta × Appends old new (commit_text told (s.commits + 1) delta))
+    × ((delta : Delta) × IsCommitted s t.held delta × Appends old new (commit_text told (s.commits + 1) delta))
 
 -- why the commit of this number isn't written whole, and what was written of it
 abbrev pub Cuts : Telling → Stop → FilesData → FilesData → ℕ → Option (List ℕ) → Option (List ℕ) → ℕ → ℕ → Type 0
@@ -58,7 +58,7 @@ Cuts told stop.TooLong held next k old new before now = ⊥
 abbrev pub Fails : Telling → Stop → EventData → State → Option (List ℕ) → Option (List ℕ) → ℕ → ℕ → Type 0
 Fails told stop.NoMemory e s old new before now = new ≡ old
 Fails told stop.WriteFault e s old new before now =
-    (e ≡ commit) × Rose before now × ((held : FilesData) × (delta : Delta) × Leads s held delta × AppendsPart old new (commit_text told (s.commits + 1) delta))
+    (e ≡ commit) × Rose before now × ((held : FilesData) × (delta : Delta) × IsCommitted s held delta × AppendsPart old new (commit_text told (s.commits + 1) delta))
 Fails told stop.Usage e s old new before now = ⊥
 Fails told (stop.BadScript at) e s old new before now = ⊥
 Fails told stop.ReadFault e s old new before now = ⊥

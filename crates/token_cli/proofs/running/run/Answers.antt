@@ -1,71 +1,111 @@
-use Rattle.std.proofs.Common.{◌≡◌, ◌∙◌, ◌⊎◌, inl, inr, ◌≤◌, ℕ, Bool, true, false, List, length, ap, sym, subst, arith}
+use Rattle.std.proofs.Common.{◌≡◌, ◌∙◌, ◌⊎◌, inl, inr, ◌≤◌, ℕ, Bool, true, false, List, length, Ok, Err, ap, sym, subst, arith}
 use Rattle.edit_script.specs.Script.{EventData, IsScriptStop}
 use Rattle.command_words.specs.declared.command.Command.TheVariants.{Gen}
-use Rattle.token_cli.specs.Ending.{status_of, place_of}
+use Rattle.token_cli.specs.inner.Ending.{status_of, place_of}
 use Rattle.token_cli.specs.Headline.{WroteWhole, WrotePart, asked_by, events_for, most_bytes, telling_of}
 use Rattle.token_cli.specs.Report.{error_text, Reports}
+use Rattle.token_cli.specs.declared.stop.Stop.TheVariants as stop
 use Rattle.token_cli.specs.declared.status.Status.{Status}
 use Rattle.token_cli.specs.declared.status.Status.TheVariants as status
 use Rattle.token_cli.specs.declared.telling.Telling.{Telling}
-use Rattle.token_cli.proofs.Outcomes.{Made, is_done, is_refusal, is_bad, is_read, is_long, all_written, not_read, too_many, taken, at_some, no_command, of_script, of_events, whole_said, no_stop, said}
+use Rattle.token_cli.proofs.JobEnds.{ends_as}
+use Rattle.token_cli.proofs.Outcomes.{Made, said_by, stopped_as, all_written, not_read, too_many, taken, at_some, no_command, of_script, of_events, whole_said, no_stop, said}
 use Rattle.token_cli.proofs.Once.{part_or_whole, none_or_whole, one_end}
 use Rattle.token_cli.proofs.running.run.Goals as goal
 
 pub returns-clause-done : goal.returns-clause-done
-returns-clause-done g c e = c.main_job-ended.ensures.wrote false (is_done c.main_job-ended.result (sym c.status_of.ensures ∙ e))
+returns-clause-done g c e =
+    let r = c.main_job-ended.result in
+    ends_as r _ _ c.main_job-ended.ensures.ends (Ok false) (said_by r status.Done (sym c.status_of.ensures ∙ e))
 
 pub returns-clause-refused : goal.returns-clause-refused
-returns-clause-refused g c e = c.main_job-ended.ensures.wrote true (is_refusal c.main_job-ended.result (sym c.status_of.ensures ∙ e))
+returns-clause-refused g c e =
+    let r = c.main_job-ended.result in
+    ends_as r _ _ c.main_job-ended.ensures.ends (Ok true) (said_by r status.Refused (sym c.status_of.ensures ∙ e))
+
+pub returns-clause-usage : goal.returns-clause-usage
+returns-clause-usage g c e =
+    let r = c.main_job-ended.result in
+    ends_as r _ _ c.main_job-ended.ensures.ends (Err stop.Usage) (said_by r status.Usage (sym c.status_of.ensures ∙ e))
+
+pub returns-clause-words : goal.returns-clause-words
+returns-clause-words g c none =
+    let (stopped, unread, unwritten) = c.main_job-ended.ensures.words none in
+    (stopped_as c.main_job-ended.result c.status_of.result c.status_of.ensures stopped, unread, unwritten)
 
 pub returns-clause-bad_script : goal.returns-clause-bad_script
 returns-clause-bad_script g c e =
     let r = c.main_job-ended.result in
-    let (at, is) = is_bad r (sym c.status_of.ensures ∙ e) in
-    let P : Status → ℕ → Type 0 = λ s n. Reports (g.E.Sink.written c.args.err.now) (g.E.Sink.written c.report.new.err) (g.E.Sink.faults c.args.err.now) (g.E.Sink.faults c.report.new.err) (error_text s n) in
-    let Q : Status → Type 0 = λ s. P s at in
-    let R : ℕ → Type 0 = λ n. P (status_of r) n in
-    (at, c.main_job-ended.ensures.bad_script at is, subst Q (sym c.status_of.ensures) (subst R (ap place_of is) c.report.ensures))
+    let at = place_of r in
+    let is = said_by r status.BadScript (sym c.status_of.ensures ∙ e) in (
+      at,
+      ends_as r _ _ c.main_job-ended.ensures.ends (Err (stop.BadScript at)) is,
+      subst (λ (s : Status). Reports (g.E.Sink.written c.args.err.now) (g.E.Sink.written c.report.new.err) (g.E.Sink.faults c.args.err.now) (g.E.Sink.faults c.report.new.err) (error_text s at)) (sym c.status_of.ensures) c.report.ensures,
+    )
+
+pub returns-clause-read_fault : goal.returns-clause-read_fault
+returns-clause-read_fault g c e =
+    let r = c.main_job-ended.result in
+    ends_as r _ _ c.main_job-ended.ensures.ends (Err stop.ReadFault) (said_by r status.ReadFault (sym c.status_of.ensures ∙ e))
+
+pub returns-clause-write_fault : goal.returns-clause-write_fault
+returns-clause-write_fault g c e =
+    let r = c.main_job-ended.result in
+    ends_as r _ _ c.main_job-ended.ensures.ends (Err stop.WriteFault) (said_by r status.WriteFault (sym c.status_of.ensures ∙ e))
+
+pub returns-clause-memory : goal.returns-clause-memory
+returns-clause-memory g c e =
+    let r = c.main_job-ended.result in
+    ends_as r _ _ c.main_job-ended.ensures.ends (Err stop.NoMemory) (said_by r status.NoMemory (sym c.status_of.ensures ∙ e))
+
+pub returns-clause-too_long : goal.returns-clause-too_long
+returns-clause-too_long g c e =
+    let r = c.main_job-ended.result in
+    ends_as r _ _ c.main_job-ended.ensures.ends (Err stop.TooLong) (said_by r status.TooLong (sym c.status_of.ensures ∙ e))
+
+pub returns-clause-taken : goal.returns-clause-taken
+returns-clause-taken g c not_long = c.main_job-ended.ensures.taken (λ e. not_long (c.status_of.ensures ∙ ap status_of e))
 
 pub returns-clause-generated : goal.returns-clause-generated
 returns-clause-generated g c seed size which =
     let r = c.main_job-ended.result in
     let (same, bad, read, long) = c.main_job-ended.ensures.generated seed size which in (
       same,
-      λ e. let (at, is) = is_bad r (sym c.status_of.ensures ∙ e) in bad at is,
-      λ e. read (is_read r (sym c.status_of.ensures ∙ e)),
-      λ e. long (is_long r (sym c.status_of.ensures ∙ e)),
+      λ e. bad (place_of r) (said_by r status.BadScript (sym c.status_of.ensures ∙ e)),
+      λ e. read (said_by r status.ReadFault (sym c.status_of.ensures ∙ e)),
+      λ e. long (said_by r status.TooLong (sym c.status_of.ensures ∙ e)),
     )
 
 pub returns-clause-complete : goal.returns-clause-complete
 returns-clause-complete g c command script es which given told short reads no_read no_write =
-    let h = c.main_job-ended.ensures in
+    let h = ends_as c.main_job-ended.result _ _ c.main_job-ended.ensures.ends in
     let left = g.S.Source.left c.args.src.now in
     let Bad : ℕ → List ℕ → Type 0 = λ at s. (length s ≤ most_bytes) × IsScriptStop s at in
     let P : Status → Type 0 = λ s. (s ≡ status.Done) ⊎ ((s ≡ status.Refused) ⊎ (s ≡ status.NoMemory)) in
     subst P (sym c.status_of.ensures)
     (all_written c.main_job-ended.result
-    (λ e. no_read (h.read_fault e).0)
-    (λ e. no_write (h.write_fault e).0)
-    (λ e. let long = taken 67108865 script left (g.S.Source.left c.main_job-ended.new.src) told (h.too_long e).0 in omega (arith, long, short))
-    (λ e. no_command (asked_by c.args.words.now) command which (h.usage e))
-    (λ at e. (at_some script left (Bad at) told (h.bad_script at e).1.1).1.none es reads))
+    (λ e. no_read (h (Err stop.ReadFault) e).0)
+    (λ e. no_write (h (Err stop.WriteFault) e).0)
+    (λ e. let long = taken 67108865 script left (g.S.Source.left c.main_job-ended.new.src) told (h (Err stop.TooLong) e).0 in omega (arith, long, short))
+    (λ e. no_command (asked_by c.args.words.now) command which (h (Err stop.Usage) e))
+    (λ at e. (at_some script left (Bad at) told (h (Err (stop.BadScript at)) e).1.1).1.none es reads))
 
 pub returns-clause-generates : goal.returns-clause-generates
 returns-clause-generates g c seed size which no_write =
-    let h = c.main_job-ended.ensures in
-    let (same, bad, read, long) = h.generated seed size which in
+    let h = ends_as c.main_job-ended.result _ _ c.main_job-ended.ensures.ends in
+    let (same, bad, read, long) = c.main_job-ended.ensures.generated seed size which in
     let P : Status → Type 0 = λ s. (s ≡ status.Done) ⊎ ((s ≡ status.Refused) ⊎ (s ≡ status.NoMemory)) in
     subst P (sym c.status_of.ensures)
     (all_written c.main_job-ended.result
     read
-    (λ e. no_write (h.write_fault e).0)
+    (λ e. no_write (h (Err stop.WriteFault) e).0)
     long
-    (λ e. no_command (asked_by c.args.words.now) (Gen seed size) which (h.usage e))
+    (λ e. no_command (asked_by c.args.words.now) (Gen seed size) which (h (Err stop.Usage) e))
     bad)
 
 pub returns-clause-unread : goal.returns-clause-unread
 returns-clause-unread g c command script which given told short none no_read =
-    let h = c.main_job-ended.ensures in
+    let h = ends_as c.main_job-ended.result _ _ c.main_job-ended.ensures.ends in
     let left = g.S.Source.left c.args.src.now in
     let rest = g.S.Source.left c.main_job-ended.new.src in
     let words = asked_by c.args.words.now in
@@ -76,15 +116,15 @@ returns-clause-unread g c command script which given told short none no_read =
     let P : Status → Type 0 = λ s. (s ≡ status.BadScript) ⊎ (s ≡ status.NoMemory) in
     subst P (sym c.status_of.ensures)
     (not_read c.main_job-ended.result
-    (λ refused e. let (some, (es, is, holds)) = of_script words left rest (Whole refused) command script which given told (h.wrote refused e) in none es is)
-    (λ e. no_read (h.read_fault e).0)
-    (λ e. let (some, (es, is, holds)) = of_script words left rest Part command script which given told (h.write_fault e).1 in none es is)
-    (λ e. let long = taken 67108865 script left rest told (h.too_long e).0 in omega (arith, long, short))
-    (λ e. no_command words command which (h.usage e)))
+    (λ refused e. let (some, (es, is, holds)) = of_script words left rest (Whole refused) command script which given told (h (Ok refused) e) in none es is)
+    (λ e. no_read (h (Err stop.ReadFault) e).0)
+    (λ e. let (some, (es, is, holds)) = of_script words left rest Part command script which given told (h (Err stop.WriteFault) e).1 in none es is)
+    (λ e. let long = taken 67108865 script left rest told (h (Err stop.TooLong) e).0 in omega (arith, long, short))
+    (λ e. no_command words command which (h (Err stop.Usage) e)))
 
 pub returns-clause-endless : goal.returns-clause-endless
 returns-clause-endless g c command script which given told long no_read =
-    let h = c.main_job-ended.ensures in
+    let h = ends_as c.main_job-ended.result _ _ c.main_job-ended.ensures.ends in
     let left = g.S.Source.left c.args.src.now in
     let rest = g.S.Source.left c.main_job-ended.new.src in
     let words = asked_by c.args.words.now in
@@ -96,15 +136,15 @@ returns-clause-endless g c command script which given told long no_read =
     let P : Status → Type 0 = λ s. (s ≡ status.TooLong) ⊎ (s ≡ status.NoMemory) in
     subst P (sym c.status_of.ensures)
     (too_many c.main_job-ended.result
-    (λ refused e. let (short, holds) = of_script words left rest (Whole refused) command script which given told (h.wrote refused e) in omega (arith, short, long))
-    (λ e. no_read (h.read_fault e).0)
-    (λ e. let (short, holds) = of_script words left rest Part command script which given told (h.write_fault e).1 in omega (arith, short, long))
-    (λ e. no_command words command which (h.usage e))
-    (λ at e. let short = (at_some script left (Bad at) told (h.bad_script at e).1.1).0 in omega (arith, short, long)))
+    (λ refused e. let (short, holds) = of_script words left rest (Whole refused) command script which given told (h (Ok refused) e) in omega (arith, short, long))
+    (λ e. no_read (h (Err stop.ReadFault) e).0)
+    (λ e. let (short, holds) = of_script words left rest Part command script which given told (h (Err stop.WriteFault) e).1 in omega (arith, short, long))
+    (λ e. no_command words command which (h (Err stop.Usage) e))
+    (λ at e. let short = (at_some script left (Bad at) told (h (Err (stop.BadScript at)) e).1.1).0 in omega (arith, short, long)))
 
 pub returns-clause-all : goal.returns-clause-all
 returns-clause-all g c command script es before refused which is reads holds wrote =
-    let h = c.main_job-ended.ensures in
+    let h = ends_as c.main_job-ended.result _ _ c.main_job-ended.ensures.ends in
     let r = c.main_job-ended.result in
     let one = c.one_build.ensures.outputs in
     let left = g.S.Source.left c.args.src.now in
@@ -118,5 +158,5 @@ returns-clause-all g c command script es before refused which is reads holds wro
     let Part : Telling → List EventData → Type 0 = λ t xs. WrotePart t xs old new in
     let none : new ≡ old → ⊥ = λ same. none_or_whole told events refused old new before holds same wrote in
     let part : Made words left rest Part → ⊥ = λ p. part_or_whole told one events refused old new before holds (of_events words left rest Part command script es which is reads p) wrote in
-    c.status_of.ensures ∙ (whole_said r refused (λ x e. one_end told one events x refused old new (of_events words left rest (Whole x) command script es which is reads (h.wrote x e)) wrote) (no_stop r (λ e. no_command words command which (h.usage e)) (λ at e. none (h.bad_script at e).0) (λ e. none (h.read_fault e).1) (λ e. part (h.write_fault e).1) (λ e. elim (h.memory e) [ inl same ↦ none same | inr p ↦ part p ]) (λ e. none (h.too_long e).1))
+    c.status_of.ensures ∙ (whole_said r refused (λ x e. one_end told one events x refused old new (of_events words left rest (Whole x) command script es which is reads (h (Ok x) e)) wrote) (no_stop r (λ e. no_command words command which (h (Err stop.Usage) e)) (λ at e. none (h (Err (stop.BadScript at)) e).0) (λ e. none (h (Err stop.ReadFault) e).1) (λ e. part (h (Err stop.WriteFault) e).1) (λ e. elim (h (Err stop.NoMemory) e) [ inl same ↦ none same | inr p ↦ part p ]) (λ e. none (h (Err stop.TooLong) e).1))
     ∙ said refused)

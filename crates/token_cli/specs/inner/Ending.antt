@@ -1,10 +1,10 @@
 -- How a run ends, by what its main job answers.
-use Rattle.std.specs.Prelude.{◌≡◌, ◌⊎◌, ℕ, Bool, List, Option, Result, Ok, Err}
+use Rattle.std.specs.Prelude.{◌≡◌, ◌⊎◌, ℕ, Bool, List, Option, None, Result, Ok, Err}
 use Rattle.tk_io.specs.Causes.{Rose}
 use Rattle.edit_script.specs.Script.{EventData, IsScript, IsScriptStop}
 use Rattle.command_words.specs.declared.command.Command.{Command}
 use Rattle.token_cli.specs.Report.{error_text}
-use Rattle.token_cli.specs.Headline.{events_for, telling_of, WroteWhole, WrotePart}
+use Rattle.token_cli.specs.Headline.{events_for, telling_of, WroteWhole, WrotePart, WroteAll, RefusesScript, FailsToRead, FailsToWrite, RunsOut, TakesTooMuch}
 use Rattle.token_cli.specs.declared.telling.Telling.{Telling}
 use Rattle.token_cli.specs.declared.stop.Stop.{Stop}
 use Rattle.token_cli.specs.declared.stop.Stop.TheVariants as stop
@@ -31,11 +31,6 @@ status_of (Err stop.WriteFault) = status.WriteFault
 status_of (Err stop.NoMemory) = status.NoMemory
 status_of (Err stop.TooLong) = status.TooLong
 
--- .. where all was written, with or without a refusal held at the end
-abbrev pub whole_status : Bool → Status
-whole_status Bool.true = status.Refused
-whole_status Bool.false = status.Done
-
 -- the byte at which a script is refused
 abbrev pub place_of : Result Bool Stop → ℕ
 place_of (Err (stop.BadScript at)) = at
@@ -50,12 +45,52 @@ place_of (Ok refused) = 0
 abbrev pub stop_text : Stop → List ℕ
 stop_text s = error_text (status_of (Err s)) (place_of (Err s))
 
+-- some events of which the script tells, as a command acts on them, of which this holds
+abbrev pub OfScript : Command → List ℕ → (List EventData → Type 0) → Type 0
+OfScript c script claim = (es : List EventData) × IsScript script es × claim (events_for c es)
+
 -- what was made of the bytes of a script when it ends so
 abbrev pub Scripted : Result Bool Stop → Command → List ℕ → Option (List ℕ) → Option (List ℕ) → ℕ → ℕ → Type 0
-Scripted (Ok refused) c script old new before now = (es : List EventData) × IsScript script es × WroteWhole (telling_of c) (events_for c es) refused old new
-Scripted (Err stop.NoMemory) c script old new before now = (new ≡ old) ⊎ ((es : List EventData) × IsScript script es × WrotePart (telling_of c) (events_for c es) old new)
-Scripted (Err stop.WriteFault) c script old new before now = Rose before now × ((es : List EventData) × IsScript script es × WrotePart (telling_of c) (events_for c es) old new)
+Scripted (Ok refused) c script old new before now =
+    OfScript c script (λ es. WroteWhole (telling_of c) es refused old new)
+Scripted (Err stop.NoMemory) c script old new before now =
+    (new ≡ old) ⊎ OfScript c script (λ es. WrotePart (telling_of c) es old new)
+Scripted (Err stop.WriteFault) c script old new before now =
+    Rose before now × OfScript c script (λ es. WrotePart (telling_of c) es old new)
 Scripted (Err (stop.BadScript at)) c script old new before now = (new ≡ old) × IsScriptStop script at
 Scripted (Err stop.Usage) c script old new before now = ⊥
 Scripted (Err stop.ReadFault) c script old new before now = ⊥
 Scripted (Err stop.TooLong) c script old new before now = ⊥
+
+-- what a source had left before and after, what a sink held, and the counts of their faults
+pub record Course : Type 0 where
+  pub left : Option (List ℕ)
+  pub rest : Option (List ℕ)
+  pub reads : ℕ
+  pub reads_now : ℕ
+  pub old : Option (List ℕ)
+  pub new : Option (List ℕ)
+  pub writes : ℕ
+  pub writes_now : ℕ
+
+abbrev pub course : Option (List ℕ) → Option (List ℕ) → ℕ → ℕ → Option (List ℕ) → Option (List ℕ) → ℕ → ℕ → Course
+course left rest reads reads_now old new writes writes_now = record {
+  left = left;
+  rest = rest;
+  reads = reads;
+  reads_now = reads_now;
+  old = old;
+  new = new;
+  writes = writes;
+  writes_now = writes_now;
+}
+
+-- how the main job ends: all was written, or why not
+abbrev pub Ends : Result Bool Stop → Option Command → Course → Type 0
+Ends (Ok refused) command t = WroteAll command t.left t.rest refused t.old t.new
+Ends (Err stop.Usage) command t = command ≡ None
+Ends (Err (stop.BadScript at)) command t = RefusesScript t.left t.rest t.old t.new at
+Ends (Err stop.ReadFault) command t = FailsToRead t.reads t.reads_now t.old t.new
+Ends (Err stop.WriteFault) command t = FailsToWrite command t.left t.rest t.writes t.writes_now t.old t.new
+Ends (Err stop.NoMemory) command t = RunsOut command t.left t.rest t.old t.new
+Ends (Err stop.TooLong) command t = TakesTooMuch t.left t.rest t.old t.new
