@@ -1,0 +1,82 @@
+// The parts of many tokens, kept and put together.
+ghost use Rattle.std.specs.Prelude.{◌≡◌, ◌<◌};
+
+use build_plain::{assemble, build, parts_of};
+use file_plan::Files;
+use itoa::Buffer;
+use std::alloc::Global;
+use std::marker::Brand;
+use std::str;
+use std::sync::ledger::{Blank, Ledger};
+use tk_io::{Bytes, NoMemory, Outputs, Steps};
+
+/// The tokens are lengths of as many pixels as their numbers say, from the first number to the last.
+const FIRST: usize = 10_000;
+
+const LAST: usize = 25_999;
+
+/// The outputs of these tokens, and how many bytes each has, by an independent compiler's rules.
+const OUTPUTS: [(&str, usize); 4] = [
+    ("default/Tokens.swift", 768_037),
+    ("default/tokens.css", 368_010),
+    ("default/tokens.json", 1_280_003),
+    ("default/tokens.xml", 656_064),
+];
+
+fn text(alloc: Global) -> Result<Bytes, NoMemory> {
+    let mut text = Bytes::new(alloc);
+    text.append(br#"{"g":{"$type":"dimension""#)?;
+    for number in FIRST..=LAST {
+        let mut buffer = Buffer::new();
+        let digits = buffer.format(number).as_bytes();
+        text.append(br#","t"#)?;
+        text.append(digits)?;
+        text.append(br#"":{"$value":{"value":"#)?;
+        text.append(digits)?;
+        text.append(br#","unit":"px"}}"#)?;
+    }
+    text.append(b"}}")?;
+    Ok(text)
+}
+
+// Whether these are the outputs that are wanted, and the others the same.
+fn are_alike(built: &Outputs, assembled: &Outputs) -> bool {
+    for (path, len) in OUTPUTS {
+        let body = built.get(path);
+        if body.map(|bytes| bytes.len()) != Some(len) || assembled.get(path) != body {
+            return false;
+        }
+    }
+    built.len() == 4 && assembled.len() == 4
+}
+
+fn counted<L: Ledger, M: Ledger, N: Ledger>(
+    alloc: Global,
+    files: &Files<'_>,
+    parses: Blank,
+    merges: Blank,
+    evals: Blank,
+) -> Result<bool, NoMemory>
+    requires parses { (parses.name ≡ L.name) × (parses.parts ≡ L.parts) × (0 < L.parts) }
+    requires merges { (merges.name ≡ M.name) × (merges.parts ≡ M.parts) × (0 < M.parts) }
+    requires evals { (evals.name ≡ N.name) × (evals.parts ≡ N.parts) × (0 < N.parts) }
+{
+    let mut parses: Steps<L> = Steps::new(parses);
+    let mut merges: Steps<M> = Steps::new(merges);
+    let mut evals: Steps<N> = Steps::new(evals);
+    let parts = parts_of(alloc, files, &mut parses, &mut merges, &mut evals)?;
+    let assembled = assemble(alloc, files, &parts)?;
+    let built = build(alloc, files, &mut parses, &mut merges, &mut evals)?;
+    Ok(are_alike(&built, &assembled))
+}
+
+/// Whether the tokens, built from nothing and put together from their parts, come to the same outputs.
+pub fn are_assembled(alloc: Global) -> Result<bool, NoMemory> {
+    let bytes = text(alloc)?;
+    let Ok(text) = str::from_utf8(bytes.as_slice()) else {
+        return Ok(false);
+    };
+    let mut files = Files::new(alloc);
+    files.put("tokens.json", text)?;
+    counted::<Brand, Brand, Brand>(alloc, &files, Blank::new(1), Blank::new(1), Blank::new(1))
+}
