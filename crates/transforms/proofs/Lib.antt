@@ -1,5 +1,6 @@
 pub mod Spelled
 mod Names
+mod TwoMaps
 pub mod Taken
 mod FirstRefused
 mod Added

@@ -12,7 +12,9 @@ mod laws;
 mod name;
 mod platform;
 mod quoted;
+mod rising;
 mod scaling;
+mod scattered;
 mod sheet;
 #[cfg(test)]
 mod tests;

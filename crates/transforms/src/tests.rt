@@ -166,6 +166,8 @@ fn clashes_name_the_first(rt: HostRuntime) -> Result<(), Fail> {
     assert!(rt; is_at(&both, &["a", "b"]));
     let not_added = clash.add(&path(alloc, "c")?, &names(alloc, &["w"])?)?;
     assert!(rt; not_added.is_none());
+    let out_of_order = clash.add(&path(alloc, "d")?, &names(alloc, &["zz", "w"])?)?;
+    assert!(rt; is_at(&out_of_order, &["c"]));
     Ok(())
 }
 
