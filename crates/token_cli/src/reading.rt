@@ -4,7 +4,6 @@ ghost use Rattle.edit_script.specs.Script.{IsScript, IsScriptStop};
 
 use edit_script::{Events, ScriptStop, read_script};
 use std::alloc::Global;
-use std::str;
 
 /// The events of a script.
 ///
@@ -15,7 +14,7 @@ pub fn read_events(alloc: Global, script: &[u8]) -> Result<Events<'_>, ScriptSto
     ensures ok { IfOk result (λ es. IsScript script.now es) }
     ensures bad { (at : ℕ) → result ≡ Err (ScriptStop.BadScript at) → IsScriptStop script.now at }
 {
-    match str::from_utf8(script) {
+    match simdutf8::compat::from_utf8(script) {
         Ok(text) => read_script(alloc, text),
         Err(error) => Err(ScriptStop::BadScript(error.valid_up_to())),
     }
