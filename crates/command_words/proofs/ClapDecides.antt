@@ -1,4 +1,4 @@
--- Whether the words are a command, and whether clap takes them, are one question.
+-- Whether the arguments are a command, and whether clap takes them, are one question.
 use Rattle.std.proofs.Common.{◌≡◌, ◌==◌, ◌≤◌, ◌⊎◌, inl, inr, ℕ, Bool, ◌&&◌, ◌||◌, cond, nat_le, codes, true, false, List, [], ◌∷◌, length, None, refl, sym, ap, subst, ◌∙◌}
 use Rattle.std.proofs.lemmas.Bool.{and_parts, false≢true, leb-true}
 use Rattle.std.proofs.lemmas.Slice.Eq.{bytes_eq-Decides}
@@ -16,12 +16,12 @@ use Rattle.command_words.specs.Words.{command_of, gen_of, seed_of, size_of}
 use Rattle.command_words.specs.inner.ClapWords.{command_in, is_known, is_plain, is_ready, tokc_app}
 use Rattle.command_words.proofs.PlainWords.{plain_cases}
 
--- clap takes the words, and its matches show their command
+-- clap takes the arguments, and its matches show their command
 pub record IsTaken (ws : List Text) : Type 0 where
   pub takes_them : takes tokc_app ws ≡ true
   pub gives : command_in (subcommand_of tokc_app ws) ≡ command_of ws
 
--- clap refuses the words, and they are no command
+-- clap refuses the arguments, and they are no command
 pub record IsRefused (ws : List Text) : Type 0 where
   pub fault : fault_of tokc_app ws ≡ [] → ⊥
   pub none : command_of ws ≡ None
@@ -32,7 +32,7 @@ Verdict ws = IsTaken ws ⊎ IsRefused ws
 not_none : {k : _} (ks : Kinds) → ks ≡ k ∷ [] → ks ≡ [] → ⊥
 not_none ks e f = let g : _ = sym e ∙ f in cc
 
--- the commands that are one word
+-- the commands that are one argument
 data Single : Type 0 where
   build : Single
   replay : Single
@@ -146,7 +146,7 @@ simple : is_simple tokc_app ≡ true
 unfolding clap_on_literals
 simple = refl
 
--- matches that clap gives show the command of the words
+-- matches that clap gives show the command of the arguments
 pub ok_gives : (a : App) (ws : List Text) (m : ArgMatches) → a ≡ tokc_app → is_ready ws ≡ true → HasMatchesOf a ws m → (is_simple_and_free a ≡ true → fault_of a ws ≡ []) → command_in (subcommand_rows_of m) ≡ command_of ws
 ok_gives a ws m e r has none =
     let h : HasMatchesOf tokc_app ws m = subst (λ (b : App). HasMatchesOf b ws m) e has in
@@ -156,7 +156,7 @@ ok_gives a ws m e r has none =
       | inr u ↦ absurd (u.fault (f free))
     ]
 
--- words that clap need not take are no command
+-- arguments that clap need not take are no command
 pub err_none : (a : App) (ws : List Text) → a ≡ tokc_app → is_ready ws ≡ true → (takes a ws ≡ true → ⊥) → command_of ws ≡ None
 err_none a ws e r not_taken =
     elim (verdict ws r) [

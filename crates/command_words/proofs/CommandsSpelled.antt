@@ -1,4 +1,4 @@
--- What is a command: of words that clap is not given, and both ways between the words and what they spell.
+-- What is a command: of arguments that clap is not given, and both ways between arguments and what they spell.
 use Rattle.std.proofs.Common.{◌≡◌, ◌∙◌, ◌⊎◌, inl, inr, ℕ, Bool, true, false, ◌&&◌, ◌||◌, cond, codes, List, [], ◌∷◌, Option, Some, None, decimal, refl, sym, ap, subst, arith}
 use Rattle.std.proofs.lemmas.Bool.{false≢true}
 use Rattle.std.proofs.lemmas.Slice.Eq.{bytes_eq-Decides}
@@ -42,7 +42,7 @@ either_none : (t : Bool) (o : Option Command) → o ≡ None → cond t o None �
 either_none true o h = h
 either_none false o h = refl
 
--- words that clap is not given are no command
+-- arguments that clap is not given are no command
 pub unready : (ws : List (List ℕ)) → is_ready ws ≡ false → command_of ws ≡ None
 unready [] h = refl
 unready (w ∷ []) h =
@@ -60,7 +60,7 @@ unready (w ∷ a ∷ b ∷ []) h =
     ]
 unready (w ∷ a ∷ b ∷ c ∷ ws) h = refl
 
--- the words of a command are read as it
+-- the arguments of a command are read as it
 pub all : (words : List (List ℕ)) (c : Command) → IsCommand words c → command_of words ≡ Some c
 all words Build is = ap command_of is.spelled
 all words Replay is = ap command_of is.spelled
@@ -90,7 +90,7 @@ by_name false true s c e = replay refl (same_command Replay c e)
 by_name false false true c e = stats refl (same_command Stats c e)
 by_name false false false c e = absurd (no_command c e)
 
--- a word that is a name spells the command of that name
+-- an argument that is a name spells the command of that name
 one_word : (w name : List ℕ) (b c : Command) → bytes_eq w name ≡ true → b ≡ c → IsCommand (name ∷ []) b → IsCommand (w ∷ []) c
 one_word w name b c t e is =
     subst (λ d. IsCommand (w ∷ []) d) e (subst (λ v. IsCommand (v ∷ []) b) (sym ((bytes_eq-Decides w name).0 t)) is)
@@ -130,7 +130,7 @@ gen_words w a b c e =
       bounds = (seed.2, size.1, size.2);
     })
 
--- words that are read as a command are its words
+-- arguments that are read as a command are those that spell it
 pub read : (words : List (List ℕ)) (c : Command) → command_of words ≡ Some c → IsCommand words c
 read [] c e = absurd (no_command c e)
 read (w ∷ []) c e = named_word w c e

@@ -65,7 +65,7 @@ plain_digits (c ∷ cs) some all =
     let other : (c == 45) ≡ false = ne_eqb c 45 (λ e. omega arith) in
     ap not other
 
--- a word that is not plain spells no number
+-- an argument that is not plain spells no number
 pub not_plain : (low high : ℕ) (text : List ℕ) → high < 2 ^ 64 → is_plain text ≡ false → number_in low high text ≡ None
 not_plain low high text small p =
     unspelled low high text (λ n l h e.

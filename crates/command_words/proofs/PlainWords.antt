@@ -1,4 +1,4 @@
--- Words that are plain, and lists of words that clap is given.
+-- Arguments that are plain, and lists of arguments that clap is given.
 use Rattle.std.proofs.Common.{◌≡◌, ◌∙◌, ◌==◌, ◌≤◌, ℕ, suc, Bool, true, false, not, nat_le, length, ◌&&◌, List, [], ◌∷◌, map, String, Global, string_bytes, refl, ap, arith}
 use Rattle.std.proofs.lemmas.Bool.{and_parts, false≢true, not-true}
 use Rattle.std.specs.List.{list_all}
@@ -13,13 +13,13 @@ longer : (ws : List (String Global)) → length (map string_bytes ws) ≡ length
 longer [] = refl
 longer (w ∷ ws) = ap suc (longer ws)
 
--- what is tested of the first word and the others
+-- what is tested of the first argument and the others
 pub ready_cons : (all : List (String Global)) (w : String Global) (ws : List (String Global)) (k p : Bool) (n : Bool) → all ≡ w ∷ ws → is_known (string_bytes w) ≡ k → list_all (λ w. is_plain (string_bytes w)) ws ≡ p → nat_le (length ws) 3 ≡ n
     → is_ready (map string_bytes all) ≡ (k && (p && n))
 ready_cons all w ws k p n e hk hp hn =
     ap (λ l. is_ready (map string_bytes l)) e ∙ λ i. hk i && ((all_plain ws ∙ hp) i && (ap (λ l. nat_le l 3) (longer ws) ∙ hn) i)
 
--- what holds of no, one, two and three plain words holds of all lists of at most three
+-- what holds of no, one, two and three plain arguments holds of all lists of at most three
 pub plain_cases : (P : List Text → Type 0)
     → P []
     → ((x : ℕ) (xs : Text) → (x == 45) ≡ false → P ((x ∷ xs) ∷ []))

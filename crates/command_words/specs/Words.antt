@@ -1,4 +1,4 @@
--- Which words are a command, and which command they are.
+-- Which arguments are a command, and which command they are.
 use Rattle.std.specs.Prelude.{◌≡◌, ◌≤◌, ℕ, ◌&&◌, nat_le, List, [], ◌∷◌, codes, Option, Some, None, if◌then◌else◌}
 use Rattle.std.specs.Fmt.{decimal}
 use Rattle.std.specs.Str.{bytes_eq}
@@ -7,7 +7,7 @@ use Rattle.command_words.specs.declared.command.Command.{Command}
 use Rattle.command_words.specs.declared.command.Command.TheVariants.{Build, Replay, Stats, Gen}
 use Rattle.command_words.specs.declared.command.TheConstants.{GREATEST_SEED, MOST_TOKENS}
 
--- the words that spell a command: its name, and behind `gen` its two numbers in decimal digits
+-- the arguments that spell a command: its name, and after `gen` its two numbers in decimal digits
 abbrev pub spelling : Command → List (List ℕ)
 spelling Build = codes "build" ∷ []
 spelling Replay = codes "replay" ∷ []
@@ -21,7 +21,7 @@ IsInBounds Replay = Unit {0}
 IsInBounds Stats = Unit {0}
 IsInBounds (Gen seed size) = (seed ≤ GREATEST_SEED) × (1 ≤ size) × (size ≤ MOST_TOKENS)
 
--- the words are this command
+-- the arguments are this command
 pub record IsCommand (words : List (List ℕ)) (c : Command) : Type 0 where
   pub spelled : words ≡ spelling c
   pub bounds : IsInBounds c
@@ -52,7 +52,7 @@ command_named word =
     else (if bytes_eq word (codes "replay") then Some Replay
     else (if bytes_eq word (codes "stats") then Some Stats else None))
 
--- the command that the words are, if they are one: `build`, `replay` or `stats`, or `gen` with a seed and a size
+-- the command that the arguments are, if they are one: `build`, `replay` or `stats`, or `gen` with a seed and a size
 abbrev pub command_of : List (List ℕ) → Option Command
 command_of [] = None
 command_of (word ∷ []) = command_named word

@@ -1,9 +1,9 @@
-// Which words clap is given.
+// Which arguments clap is given.
 ghost use Rattle.std.specs.Prelude.{◌≡◌, map, string_bytes};
 ghost use Rattle.std.specs.List.{list_all};
 ghost use Rattle.command_words.specs.inner.ClapWords.{is_known, is_plain, is_ready};
 
-// Whether the word is not empty and does not begin with a dash.
+// Whether the argument is not empty and does not begin with a dash.
 fn is_plain(word: &String) -> bool
     ensures { result ≡ is_plain (string_bytes word.now) }
 {
@@ -26,8 +26,8 @@ fn is_known(word: &str) -> bool
     word == "build" || word == "replay" || word == "stats" || word == "gen"
 }
 
-/// Whether the words are handed to clap: a command's name first, behind it at most three words, and none of these empty
-/// or begun by a dash. No other words are a command.
+/// Whether the arguments are handed to clap: a command's name first, after it at most three more,
+/// and none of these empty or begun by a dash. No other arguments are a command.
 pub(crate) fn is_ready(words: &[String]) -> bool
     ensures { result ≡ is_ready (map string_bytes words.now) }
 {

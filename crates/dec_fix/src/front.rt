@@ -1,4 +1,4 @@
-//! A short text that grows at its front.
+//! A short text that grows at its beginning.
 
 ghost use Rattle.std.specs.Prelude.{◌≡◌, ◌≤◌, ◌<◌, ℕ, List, [], ◌∷◌, length, drop};
 

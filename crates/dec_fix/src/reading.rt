@@ -130,7 +130,8 @@ fn is_whole(digits: &[u8]) -> bool
     }
 }
 
-/// The digits behind a point, none where there is no point, and what follows. `None` where no digit follows a point.
+/// The digits after a point, none where there is no point, and what follows. `None` where no digit
+/// follows a point.
 fn split_fraction(text: &[u8]) -> Option<(&[u8], &[u8])>
     ensures parts { option_map (λ p. (p.0.now, p.1.now)) result ≡ fraction_at text.now }
     ensures are { IfSome result (λ p. IsTrue (all_ascii_digits p.0.now)) }

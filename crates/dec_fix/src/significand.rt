@@ -34,7 +34,7 @@ pub(crate) fn scaled(m: u128, k: u128) -> u128
     n.min(LIMIT)
 }
 
-/// The digits so far with one more behind them.
+/// The digits so far with one more after them.
 fn with_digit(so_far: Significand, digit: u128) -> Significand
     requires limit { so_far.size ≤ 10 ^ 30 }
     requires zeros { so_far.zeros < 2 ^ 100 }
@@ -58,7 +58,7 @@ fn with_digit(so_far: Significand, digit: u128) -> Significand
     }
 }
 
-/// The digits so far with more behind them.
+/// The digits so far with more after them.
 pub(crate) fn with_digits(so_far: Significand, digits: &[u8]) -> Significand
     requires limit { so_far.size ≤ 10 ^ 30 }
     requires zeros { so_far.zeros < 2 ^ 99 }

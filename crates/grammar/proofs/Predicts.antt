@@ -284,11 +284,11 @@ module _ {N : Type 0} (grammar : N → Rule N) (a : Ahead N) (honest : IsHonest 
   )
   moves (on_name x) = let (f, e, fr, fx) = moves x in (f, e, λ z. by_name (fr z), λ z h. on_name (fx z h))
 
-  -- the front before the place where reading gets stuck, and that it gets stuck wherever the same byte follows
+  -- the viable prefix before the place where reading gets stuck, and that it gets stuck wherever the same byte follows
   abbrev pub Halts : Rule N → List ℕ → List ℕ → Type 0
   Halts r t u = (f : List ℕ) × (t ≡ f ++ u) × IsFront grammar r f × ((x : List ℕ) → Alike u x → Stuck grammar a r (f ++ x) x)
 
-  -- a front of the rounds of a repetition, with a round before
+  -- a viable prefix of the rounds of a repetition, with a round before
   round_before : {r : Rule N} {t u : List ℕ} → Reads grammar r t u → IsFront grammar (many r) u → IsFront grammar (many r) t
   round_before x nothing = whole (more x no_more)
   round_before x (whole y) = whole (more x y)

@@ -16,7 +16,7 @@ use std::cmp::Ordering;
 use std::marker::Model;
 
 /// Values under texts, seen as a finite map whose keys are in byte order. It is a list in that order: an entry whose key
-/// is the greatest is appended, and others make room by moving those behind them.
+/// is the greatest is appended, and others make room by moving those after them.
 #[derive(Drop)]
 pub struct TextMap<V> {
     entries: Vec<(String, V)>,
