@@ -6,7 +6,7 @@ mod finding;
 mod grammar;
 mod laws;
 mod number;
-mod plain;
+mod positional;
 mod reading;
 #[cfg(test)]
 mod tests;

@@ -5,7 +5,7 @@ ghost use Rattle.command_words.specs.inner.ClapWords.{is_ready};
 
 use crate::finding::command_found;
 use crate::grammar::tokc_command;
-use crate::plain::is_ready;
+use crate::positional::is_ready;
 use crate::{Command, WordStop};
 use clap::error::ErrorKind;
 use std::alloc::Global;

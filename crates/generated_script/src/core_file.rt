@@ -1,7 +1,8 @@
 // The generated file `core.json`: chains of ten tokens, each with a literal at its start.
 ghost use Rattle.std.specs.Prelude.{◌≡◌, ◌<◌, ◌≤◌, ◌^◌, ◌++◌, codes, IfOk, OnOk};
 ghost use Rattle.std.specs.Fmt.{decimal};
-ghost use Rattle.generated_script.specs.Tokens.{core_text, edited, literal, token_text, value_text};
+ghost use Rattle.generated_script.specs.Tokens.{core_text, edited, generated_token};
+ghost use Rattle.generated_script.specs.Tokens.{generated_value, literal};
 ghost use Rattle.generated_script.specs.declared.script.TheConstants.{MOST_TOKENS};
 
 use itoa::Buffer;
@@ -63,7 +64,7 @@ fn add_alias(out: &mut Bytes, i: u64) -> Result<(), NoMemory>
 
 fn add_value(out: &mut Bytes, seed: u64, size: u64, edits: u64, i: u64) -> Result<(), NoMemory>
     requires { (seed < 2 ^ 32) × (1 ≤ size) × (size ≤ MOST_TOKENS) × (edits ≤ 20) × (i < size) }
-    ensures { OnOk result (out.new ≡ out.old ++ value_text seed size edits i) }
+    ensures { OnOk result (out.new ≡ out.old ++ generated_value seed size edits i) }
 {
     if i % 10 == 0 {
         add_literal(out, literal(seed, size, edits, i))
@@ -74,7 +75,7 @@ fn add_value(out: &mut Bytes, seed: u64, size: u64, edits: u64, i: u64) -> Resul
 
 fn add_token(out: &mut Bytes, seed: u64, size: u64, edits: u64, i: u64) -> Result<(), NoMemory>
     requires { (seed < 2 ^ 32) × (1 ≤ size) × (size ≤ MOST_TOKENS) × (edits ≤ 20) × (i < size) }
-    ensures { OnOk result (out.new ≡ out.old ++ token_text seed size edits i) }
+    ensures { OnOk result (out.new ≡ out.old ++ generated_token seed size edits i) }
 {
     out.append(b",\"n")?;
     add_number(out, i)?;

@@ -6,7 +6,7 @@ use Rattle.clap.specs.Simple.{App, new_app, new_rule, with_rule, with_subcommand
 use Rattle.clap.specs.Walk.{Row, Rule, Text, first_of}
 use Rattle.command_words.specs.declared.command.Command.{Command}
 use Rattle.command_words.specs.declared.command.Command.TheVariants.{Build, Replay, Stats}
-use Rattle.command_words.specs.Words.{gen_of, seed_of, size_of}
+use Rattle.command_words.specs.Words.{gen_of, seed_of, token_count_of}
 
 abbrev pub seed_rule : Rule
 seed_rule = record (new_rule (codes "seed")) { required = true }
@@ -29,7 +29,7 @@ tokc_app =
 abbrev pub gen_in : Option Text → Option Text → Option Command
 gen_in None size = None
 gen_in (Some seed) None = None
-gen_in (Some seed) (Some size) = gen_of (seed_of seed) (size_of size)
+gen_in (Some seed) (Some size) = gen_of (seed_of seed) (token_count_of size)
 
 -- the command that clap's matches show: of a subcommand and the values of its arguments
 abbrev pub command_in : Option (Text × List Row) → Option Command
@@ -41,9 +41,9 @@ command_in (Some p) =
     else gen_in (first_of (codes "seed") p.1) (first_of (codes "size") p.1)))
 
 -- the argument is not empty and does not begin with a dash (45)
-abbrev pub is_plain : Text → Bool
-is_plain [] = false
-is_plain (c ∷ cs) = not (c == 45)
+abbrev pub is_positional : Text → Bool
+is_positional [] = false
+is_positional (c ∷ cs) = not (c == 45)
 
 abbrev pub is_known : Text → Bool
 is_known w =
@@ -53,4 +53,4 @@ is_known w =
 -- arguments that are handed on: a known name first, and no more than four
 abbrev pub is_ready : List Text → Bool
 is_ready [] = false
-is_ready (w ∷ ws) = is_known w && (list_all is_plain ws && nat_le (length ws) 3)
+is_ready (w ∷ ws) = is_known w && (list_all is_positional ws && nat_le (length ws) 3)
