@@ -17,7 +17,7 @@ use std::marker::Model;
 
 /// Values under texts, seen as a finite map whose keys are in byte order. It is a list in that order: an entry whose key
 /// is the greatest is appended, and others make room by moving those after them.
-#[derive(Drop)]
+#[derive(Debug, Drop)]
 pub struct TextMap<V> {
     entries: Vec<(String, V)>,
 }
