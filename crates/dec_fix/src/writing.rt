@@ -3,7 +3,7 @@
 ghost use Rattle.std.specs.Prelude.{◌≡◌, ◌+◌, ◌/◌, ◌^◌, ◌≤◌, ◌<◌, true, ℕ, List, ◌++◌, length};
 ghost use Rattle.std.specs.Prelude.{OnOk, OnErr};
 ghost use Rattle.std.specs.Fmt.{decimal};
-ghost use Rattle.dec_fix.specs.Decimal.{IsDec};
+ghost use Rattle.dec_fix.specs.Decimal.{IsDec, computed_limit, most_computed_places};
 ghost use Rattle.dec_fix.specs.Spelling.{Spells};
 ghost use Rattle.dec_fix.specs.Reading.{text_decimal};
 ghost use Rattle.dec_fix.specs.Following.{number_at, ends_number};
@@ -46,8 +46,8 @@ fn put_whole(text: &mut Front, n: u128)
 /// Puts `n / 10^places` before the rest.
 fn put_size(text: &mut Front, n: u128, places: u8)
     requires room { length text.old ≤ 3 }
-    requires small { n < 10 ^ 33 }
-    requires places { places ≤ 33 }
+    requires small { n < computed_limit }
+    requires places { places ≤ most_computed_places }
     ensures text { text.new ≡ decimal (n / 10 ^ places) ++ (point_and n places ++ text.old) }
     ensures length { length text.new < 80 }
 {
