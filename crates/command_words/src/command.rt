@@ -1,6 +1,6 @@
 // Commands, and why arguments are none.
 ghost use Rattle.std.specs.Prelude.{◌≡◌};
-ghost use Rattle.command_words.specs.declared.command.WordStop.TheVariants.{NoMemory as OutOfMemory};
+ghost use Rattle.command_words.specs.declared.command.WordStop.TheVariants as stops;
 
 use std::alloc::AllocError;
 use thiserror::Error;
@@ -36,7 +36,7 @@ pub enum WordStop {
 }
 
 impl From<AllocError> for WordStop {
-    ghost from_gives = { λ _ e. e ≡ OutOfMemory };
+    ghost from_gives = { λ _ e. e ≡ stops.NoMemory };
 
     fn from(_: AllocError) -> WordStop {
         WordStop::NoMemory
