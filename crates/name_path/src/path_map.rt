@@ -17,7 +17,7 @@ use tk_io::NoMemory;
 
 /// Values under paths, seen as a finite map whose keys are in path order. It is a list in that order: an entry whose path
 /// is the greatest is appended, and others make room by moving those after them.
-#[derive(Drop)]
+#[derive(Debug, Drop)]
 pub struct PathMap<'s, V> {
     entries: Vec<(Path<'s>, V)>,
 }
