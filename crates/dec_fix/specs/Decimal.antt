@@ -14,10 +14,11 @@ IsSameNumber a b = a.c *ℤ pos (10 ^ b.s) ≡ b.c *ℤ pos (10 ^ a.s)
 abbrev pub IsShort : ℕ → ℕ → Type 0
 IsShort n s = (s ≡ 0) ⊎ (0 < n % 10)
 
--- c of a number that is accepted where one is read is below this, and s is at most that
+-- the size of c is below this where a number is read, ..
 abbrev pub size_limit : ℕ
 size_limit = 10 ^ 30
 
+-- .. and s is at most this
 abbrev pub most_places : ℕ
 most_places = 30
 
@@ -27,7 +28,7 @@ pub record IsExact (d : Decimal) : Type 0 where
   pub places : d.s ≤ most_places
   pub short : IsShort (unsigned_abs d.c) d.s
 
--- the same of a number that is computed with: a thousand times what is accepted, and three places more
+-- the same of numbers that are computed with: a thousand times what is read, and three places more
 abbrev pub computed_limit : ℕ
 computed_limit = 10 ^ 33
 

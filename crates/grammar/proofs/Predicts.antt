@@ -183,7 +183,7 @@ module _ {N : Type 0} (grammar : N → Rule N) (a : Ahead N) (honest : IsHonest 
   empty_both : (r s : Rule N) (t : List ℕ) → Starts r t t → begins (first a r) t ≡ false → nullable s ≡ true → (nullable r && nullable s) ≡ false → ⊥
   empty_both r s t h f n vis = elim h as (λ _. ⊥) [ inl g ↦ both_ways (begins (first a r) t) g f | inr (e, m) ↦ both_ways (nullable r && nullable s) (and_from (nullable r) (nullable s) m n) vis ]
 
-  -- a steered reading ends where any other ends that can't go on
+  -- a predictive reading ends where any other ends that can't go on
   pub one_end : {rule : Rule N} {t u v : List ℕ} → Steers grammar a rule t u → Reads grammar rule t v → IsSteered a rule → begins (more_in a rule) v ≡ false → u ≡ v
   one_end on_empty no_byte st hv = refl
   one_end (on_byte h) (one_byte k) st hv = refl
@@ -330,7 +330,7 @@ module _ {N : Type 0} (grammar : N → Rule N) (a : Ahead N) (honest : IsHonest 
     | inr (e, n) ↦ subst (λ z. begins (first a r) z ≡ false) (sym e) (not_empty_way r s u h n)
   ]
 
-  -- a reading that can't go on is the steered one
+  -- a reading that can't go on is the predictive one
   pub steered : {rule : Rule N} {t u : List ℕ} → Reads grammar rule t u → IsSteered a rule → begins (more_in a rule) u ≡ false → Steers grammar a rule t u
   steered no_byte st h = on_empty
   steered (one_byte k) st h = on_byte k

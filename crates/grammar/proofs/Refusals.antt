@@ -1,4 +1,4 @@
--- Where the steered reading stops, the longest viable prefix ends.
+-- Where the predictive reading stops, the longest viable prefix ends.
 use Rattle.std.proofs.Common.{◌≡◌, ℕ, suc, ◌+◌, ◌-◌, ◌<◌, ◌≤◌, List, [], ◌∷◌, ◌++◌, length, take, drop, get_or, true, false, refl, sym, ap, ◌∙◌, subst, inl, inr, append_assoc, append-nil, arith, take-append-drop, take-add}
 use Rattle.std.proofs.lemmas.List.{append_cancel_right, drop_more}
 use Rattle.grammar.specs.Grammar.{Rule, Reads, Derives, IsFront, whole, EachPasses, named}

@@ -1,5 +1,5 @@
 -- What holds of every grammar: viable prefixes are the prefixes of what is derived, and one byte ahead decides a
--- steered reading.
+-- predictive reading.
 use Rattle.std.specs.Prelude.{◌≡◌, ℕ, List, ◌++◌, Bool, true, false, ◌↔◌, ◌⊎◌}
 use Rattle.std.specs.List.{list_all}
 use Rattle.grammar.specs.Grammar.{Rule, named, Reads, Derives, IsFront, EachPasses, each_begins}
@@ -38,13 +38,13 @@ SteeredReadsOnce N = (grammar : N → Rule N) (table : Table N) → IsTabled gra
     (t u v : List ℕ) → Reads grammar r t u → Reads grammar r t v →
     begins (more_in (ahead_of table) r) u ≡ false → begins (more_in (ahead_of table) r) v ≡ false → u ≡ v
 
--- where the steered reading stops, no text is derived, and the longest viable prefix ends
+-- where the predictive reading stops, no text is derived, and the longest viable prefix ends
 abbrev pub StopsAreExact : Type 0 → Type 0
 StopsAreExact N = (grammar : N → Rule N) (table : Table N) → IsTabled grammar table → IsProductive grammar →
     (r : Rule N) → EachPasses r → is_steered table r ≡ true →
     (text : List ℕ) (at : ℕ) → Stops grammar (ahead_of table) r text at → Refuses grammar r text at
 
--- a steered reading of any text comes to its end or gets stuck
+-- a predictive reading of any text comes to its end or gets stuck
 abbrev pub ReadingsEnd : Type 0 → Type 0
 ReadingsEnd N = (grammar : N → Rule N) (table : Table N) → IsTabled grammar table → (low : N → Bool) → ((n : N) → are_guarded grammar low n ≡ true) → (r : Rule N) → is_steered table r ≡ true →
     (t : List ℕ) → ((u : List ℕ) × Steers grammar (ahead_of table) r t u) ⊎ ((u : List ℕ) × Stuck grammar (ahead_of table) r t u)

@@ -14,6 +14,6 @@ pub record Refuses {N : Type 0} (grammar : N → Rule N) (r : Rule N) (text : Li
   pub no_reading : Derives grammar r text → ⊥
   pub stop : IsStop grammar r text at
 
--- The steered reading gets stuck there, or is done there before the end.
+-- The predictive reading gets stuck there, or is done there before the end.
 abbrev pub Stops : {N : Type 0} → (N → Rule N) → Ahead N → Rule N → List ℕ → ℕ → Type 0
 Stops grammar a r text at = (at ≤ length text) × (Stuck grammar a r text (drop at text) ⊎ (Steers grammar a r text (drop at text) × (at < length text)))

@@ -1,5 +1,5 @@
 //! Grammars over bytes: what their rules derive, the viable prefixes of what they derive, and
-//! reading with one byte ahead.
+//! predictive reading with one byte ahead.
 //!
 //! The crate has no code. A grammar is data of `specs/Grammar`, over a type that names its rules,
 //! and each law below is a function with an empty body that holds for every such type.
@@ -25,13 +25,14 @@ pub fn steered_reads_once<Name>()
     ensures { SteeredReadsOnce Name }
 {}
 
-/// Where the steered reading stops, no text of the rule is read, and the longest viable prefix
+/// Where the predictive reading stops, no text of the rule is read, and the longest viable prefix
 /// ends.
 pub fn stops_are_exact<Name>()
     ensures { StopsAreExact Name }
 {}
 
-/// Where no rule comes to itself without a byte, a steered reading of any text comes to its end or gets stuck.
+/// Where no rule comes to itself without a byte, a predictive reading of any text comes to its end
+/// or gets stuck.
 pub fn steered_readings_end<Name>()
     ensures { ReadingsEnd Name }
 {}
