@@ -1,4 +1,4 @@
--- Whether the words are a command, and whether clap takes them, are one question.
+-- Whether the arguments are a command, and whether clap takes them, are one question.
 use Rattle.std.proofs.Common.{◌≡◌, ◌==◌, ◌≤◌, ◌⊎◌, inl, inr, ℕ, Bool, ◌&&◌, ◌||◌, cond, nat_le, codes, true, false, List, [], ◌∷◌, length, None, refl, sym, ap, subst, ◌∙◌}
 use Rattle.std.proofs.lemmas.Bool.{and_parts, false≢true, leb-true}
 use Rattle.std.proofs.lemmas.Slice.Eq.{bytes_eq-Decides}
@@ -12,16 +12,16 @@ use Rattle.clap.specs.Faults.{fault_of, is_simple_and_free}
 use Rattle.clap.specs.Kinds.{Kinds}
 use Rattle.clap.proofs.OnLiterals.{clap_on_literals}
 use Rattle.clap.specs.declared.error.kind.ErrorKind.TheVariants as kind
-use Rattle.command_words.specs.Words.{command_of, gen_of, seed_of, size_of}
-use Rattle.command_words.specs.inner.ClapWords.{command_in, is_known, is_plain, is_ready, tokc_app}
-use Rattle.command_words.proofs.PlainWords.{plain_cases}
+use Rattle.command_words.specs.Words.{command_of, gen_of, seed_of, token_count_of}
+use Rattle.command_words.specs.inner.ClapWords.{command_in, is_known, is_positional, is_ready, tokc_app}
+use Rattle.command_words.proofs.PositionalWords.{positional_cases}
 
--- clap takes the words, and its matches show their command
+-- clap takes the arguments, and its matches show their command
 pub record IsTaken (ws : List Text) : Type 0 where
   pub takes_them : takes tokc_app ws ≡ true
   pub gives : command_in (subcommand_of tokc_app ws) ≡ command_of ws
 
--- clap refuses the words, and they are no command
+-- clap refuses the arguments, and they are no command
 pub record IsRefused (ws : List Text) : Type 0 where
   pub fault : fault_of tokc_app ws ≡ [] → ⊥
   pub none : command_of ws ≡ None
@@ -32,7 +32,7 @@ Verdict ws = IsTaken ws ⊎ IsRefused ws
 not_none : {k : _} (ks : Kinds) → ks ≡ k ∷ [] → ks ≡ [] → ⊥
 not_none ks e f = let g : _ = sym e ∙ f in cc
 
--- the commands that are one word
+-- the commands that are one argument
 data Single : Type 0 where
   build : Single
   replay : Single
@@ -72,14 +72,14 @@ not_gen build = refl
 not_gen replay = refl
 not_gen stats = refl
 
-single_verdict : (s : Single) (ws : List Text) → list_all is_plain ws ≡ true → length ws ≤ 3 → Verdict (name s ∷ ws)
+single_verdict : (s : Single) (ws : List Text) → list_all is_positional ws ≡ true → length ws ≤ 3 → Verdict (name s ∷ ws)
 single_verdict s ws p h =
-    plain_cases (λ vs. Verdict (name s ∷ vs))
+    positional_cases (λ vs. Verdict (name s ∷ vs))
     (inl (alone s))
     (λ x xs hx. inr (record { fault = not_none _ (with_one s x xs hx); none = refl }))
     (λ x y xs ys hx hy. inr (record {
       fault = not_none _ (with_two s x xs (y ∷ ys) hx);
-      none = ap (λ b. cond b (gen_of (seed_of (x ∷ xs)) (size_of (y ∷ ys))) None) (not_gen s);
+      none = ap (λ b. cond b (gen_of (seed_of (x ∷ xs)) (token_count_of (y ∷ ys))) None) (not_gen s);
     }))
     (λ x y z xs ys zs hx hy hz. inr (record { fault = not_none _ (with_three s x xs (y ∷ ys) (z ∷ zs) hx); none = refl }))
     ws p h
@@ -100,9 +100,9 @@ gen_three : (x y z : ℕ) (xs ys zs : Text) → (x == 45) ≡ false → (y == 45
 unfolding clap_on_literals
 gen_three x y z xs ys zs hx hy hz = simp (hx, hy, hz)
 
-gen_verdict : (ws : List Text) → list_all is_plain ws ≡ true → length ws ≤ 3 → Verdict (codes "gen" ∷ ws)
+gen_verdict : (ws : List Text) → list_all is_positional ws ≡ true → length ws ≤ 3 → Verdict (codes "gen" ∷ ws)
 gen_verdict ws p h =
-    plain_cases (λ vs. Verdict (codes "gen" ∷ vs))
+    positional_cases (λ vs. Verdict (codes "gen" ∷ vs))
     (inr (record { fault = not_none _ gen_alone; none = refl }))
     (λ x xs hx. inr (record { fault = not_none _ (gen_one x xs hx); none = refl }))
     (λ x y xs ys hx hy. inl (gen_taken x y xs ys hx hy))
@@ -116,7 +116,7 @@ either false b h = inr h
 named : (w v : Text) → bytes_eq w v ≡ true → w ≡ v
 named w v h = (bytes_eq-Decides w v).0 h
 
-known_verdict : (w : Text) (ws : List Text) → is_known w ≡ true → list_all is_plain ws ≡ true → length ws ≤ 3 → Verdict (w ∷ ws)
+known_verdict : (w : Text) (ws : List Text) → is_known w ≡ true → list_all is_positional ws ≡ true → length ws ≤ 3 → Verdict (w ∷ ws)
 known_verdict w ws k p h =
     let single : (s : Single) → bytes_eq w (name s) ≡ true → Verdict (w ∷ ws) =
     λ s e. subst (λ v. Verdict (v ∷ ws)) (sym (named w (name s) e)) (single_verdict s ws p h) in
@@ -134,8 +134,8 @@ known_verdict w ws k p h =
 pub verdict : (ws : List Text) → is_ready ws ≡ true → Verdict ws
 verdict [] h = absurd (false≢true h)
 verdict (w ∷ ws) h =
-    let k = and_parts (is_known w) (list_all is_plain ws && nat_le (length ws) 3) h in
-    let p = and_parts (list_all is_plain ws) (nat_le (length ws) 3) k.1 in
+    let k = and_parts (is_known w) (list_all is_positional ws && nat_le (length ws) 3) h in
+    let p = and_parts (list_all is_positional ws) (nat_le (length ws) 3) k.1 in
     known_verdict w ws k.0 p.0 (leb-true (length ws) 3 p.1)
 
 free : is_simple_and_free tokc_app ≡ true
@@ -146,7 +146,7 @@ simple : is_simple tokc_app ≡ true
 unfolding clap_on_literals
 simple = refl
 
--- matches that clap gives show the command of the words
+-- matches that clap gives show the command of the arguments
 pub ok_gives : (a : App) (ws : List Text) (m : ArgMatches) → a ≡ tokc_app → is_ready ws ≡ true → HasMatchesOf a ws m → (is_simple_and_free a ≡ true → fault_of a ws ≡ []) → command_in (subcommand_rows_of m) ≡ command_of ws
 ok_gives a ws m e r has none =
     let h : HasMatchesOf tokc_app ws m = subst (λ (b : App). HasMatchesOf b ws m) e has in
@@ -156,7 +156,7 @@ ok_gives a ws m e r has none =
       | inr u ↦ absurd (u.fault (f free))
     ]
 
--- words that clap need not take are no command
+-- arguments that clap need not take are no command
 pub err_none : (a : App) (ws : List Text) → a ≡ tokc_app → is_ready ws ≡ true → (takes a ws ≡ true → ⊥) → command_of ws ≡ None
 err_none a ws e r not_taken =
     elim (verdict ws r) [

@@ -1,14 +1,14 @@
--- What is a command: of words that clap is not given, and both ways between the words and what they spell.
+-- What is a command: of arguments that clap is not given, and both ways between arguments and what they spell.
 use Rattle.std.proofs.Common.{◌≡◌, ◌∙◌, ◌⊎◌, inl, inr, ℕ, Bool, true, false, ◌&&◌, ◌||◌, cond, codes, List, [], ◌∷◌, Option, Some, None, decimal, refl, sym, ap, subst, arith}
 use Rattle.std.proofs.lemmas.Bool.{false≢true}
 use Rattle.std.proofs.lemmas.Slice.Eq.{bytes_eq-Decides}
 use Rattle.std.specs.Str.{bytes_eq}
-use Rattle.command_words.specs.Words.{IsCommand, command_named, command_of, gen_of, seed_of, size_of}
+use Rattle.command_words.specs.Words.{IsCommand, command_named, command_of, gen_of, seed_of, token_count_of}
 use Rattle.command_words.specs.declared.command.Command.{Command}
 use Rattle.command_words.specs.declared.command.Command.TheVariants.{Build, Replay, Stats, Gen}
 use Rattle.command_words.specs.declared.command.TheConstants.{GREATEST_SEED, MOST_TOKENS}
-use Rattle.command_words.specs.inner.ClapWords.{is_known, is_plain, is_ready}
-use Rattle.command_words.proofs.NumbersSpelled.{gives, not_plain, spelled}
+use Rattle.command_words.specs.inner.ClapWords.{is_known, is_positional, is_ready}
+use Rattle.command_words.proofs.NumbersSpelled.{gives, not_positional, spelled}
 
 -- the numbers of `gen` are given only together
 no_size : (seed : Option ℕ) → gen_of seed None ≡ None
@@ -25,7 +25,7 @@ with_true : (b : Bool) → (b && true) ≡ b
 with_true true = refl
 with_true false = refl
 
--- one of the two is not plain, where the name is that of `gen`
+-- one of the two is not positional, where the name is that of `gen`
 lacking : (k g p q : Bool) → (g ≡ true → k ≡ true) → (k && ((p && (q && true)) && true)) ≡ false → (g ≡ false) ⊎ ((p ≡ false) ⊎ (q ≡ false))
 lacking k false p q has h = inl refl
 lacking k true false q has h = inr (inl refl)
@@ -42,7 +42,7 @@ either_none : (t : Bool) (o : Option Command) → o ≡ None → cond t o None �
 either_none true o h = h
 either_none false o h = refl
 
--- words that clap is not given are no command
+-- arguments that clap is not given are no command
 pub unready : (ws : List (List ℕ)) → is_ready ws ≡ false → command_of ws ≡ None
 unready [] h = refl
 unready (w ∷ []) h =
@@ -51,16 +51,16 @@ unready (w ∷ []) h =
 unready (w ∷ a ∷ []) h = refl
 unready (w ∷ a ∷ b ∷ []) h =
     let known = gen_known (bytes_eq w (codes "build")) (bytes_eq w (codes "replay")) (bytes_eq w (codes "stats")) (bytes_eq w (codes "gen")) in
-    elim (lacking (is_known w) (bytes_eq w (codes "gen")) (is_plain a) (is_plain b) known h) [
-      | inl g ↦ ap (λ t. cond t (gen_of (seed_of a) (size_of b)) None) g
-      | inr pq ↦ either_none (bytes_eq w (codes "gen")) (gen_of (seed_of a) (size_of b)) (elim pq [
-        | inl p ↦ ap (λ s. gen_of s (size_of b)) (not_plain 0 GREATEST_SEED a (omega arith) p)
-        | inr q ↦ ap (λ s. gen_of (seed_of a) s) (not_plain 1 MOST_TOKENS b (omega arith) q) ∙ no_size (seed_of a)
+    elim (lacking (is_known w) (bytes_eq w (codes "gen")) (is_positional a) (is_positional b) known h) [
+      | inl g ↦ ap (λ t. cond t (gen_of (seed_of a) (token_count_of b)) None) g
+      | inr pq ↦ either_none (bytes_eq w (codes "gen")) (gen_of (seed_of a) (token_count_of b)) (elim pq [
+        | inl p ↦ ap (λ s. gen_of s (token_count_of b)) (not_positional 0 GREATEST_SEED a (omega arith) p)
+        | inr q ↦ ap (λ s. gen_of (seed_of a) s) (not_positional 1 MOST_TOKENS b (omega arith) q) ∙ no_size (seed_of a)
       ])
     ]
 unready (w ∷ a ∷ b ∷ c ∷ ws) h = refl
 
--- the words of a command are read as it
+-- the arguments of a command are read as it
 pub all : (words : List (List ℕ)) (c : Command) → IsCommand words c → command_of words ≡ Some c
 all words Build is = ap command_of is.spelled
 all words Replay is = ap command_of is.spelled
@@ -68,7 +68,7 @@ all words Stats is = ap command_of is.spelled
 all words (Gen seed size) is =
     let seed_is : seed_of (decimal seed) ≡ Some seed =
     spelled 0 GREATEST_SEED seed (decimal seed) (omega (arith, is.bounds.0)) refl (omega arith) is.bounds.0 in
-    let size_is : size_of (decimal size) ≡ Some size =
+    let size_is : token_count_of (decimal size) ≡ Some size =
     spelled 1 MOST_TOKENS size (decimal size) (omega (arith, is.bounds.2)) refl is.bounds.1 is.bounds.2 in
     ap command_of is.spelled ∙ λ i. gen_of (seed_is i) (size_is i)
 
@@ -90,7 +90,7 @@ by_name false true s c e = replay refl (same_command Replay c e)
 by_name false false true c e = stats refl (same_command Stats c e)
 by_name false false false c e = absurd (no_command c e)
 
--- a word that is a name spells the command of that name
+-- an argument that is a name spells the command of that name
 one_word : (w name : List ℕ) (b c : Command) → bytes_eq w name ≡ true → b ≡ c → IsCommand (name ∷ []) b → IsCommand (w ∷ []) c
 one_word w name b c t e is =
     subst (λ d. IsCommand (w ∷ []) d) e (subst (λ v. IsCommand (v ∷ []) b) (sym ((bytes_eq-Decides w name).0 t)) is)
@@ -118,9 +118,9 @@ numbers true (Some m) None c e = absurd (no_command c e)
 numbers true (Some m) (Some n) c e =
     (refl, record { m = m; n = n; first = refl; second = refl; same = same_command (Gen m n) c e })
 
-gen_words : (w a b : List ℕ) (c : Command) → cond (bytes_eq w (codes "gen")) (gen_of (seed_of a) (size_of b)) None ≡ Some c → IsCommand (w ∷ a ∷ b ∷ []) c
+gen_words : (w a b : List ℕ) (c : Command) → cond (bytes_eq w (codes "gen")) (gen_of (seed_of a) (token_count_of b)) None ≡ Some c → IsCommand (w ∷ a ∷ b ∷ []) c
 gen_words w a b c e =
-    let found = numbers (bytes_eq w (codes "gen")) (seed_of a) (size_of b) c e in
+    let found = numbers (bytes_eq w (codes "gen")) (seed_of a) (token_count_of b) c e in
     let name : w ≡ codes "gen" = (bytes_eq-Decides w (codes "gen")).0 found.0 in
     let f = found.1 in
     let seed = gives 0 GREATEST_SEED f.m a f.first in
@@ -130,7 +130,7 @@ gen_words w a b c e =
       bounds = (seed.2, size.1, size.2);
     })
 
--- words that are read as a command are its words
+-- arguments that are read as a command are those that spell it
 pub read : (words : List (List ℕ)) (c : Command) → command_of words ≡ Some c → IsCommand words c
 read [] c e = absurd (no_command c e)
 read (w ∷ []) c e = named_word w c e

@@ -1,4 +1,4 @@
 pub mod ClapDecides
 pub mod CommandsSpelled
 pub mod NumbersSpelled
-pub mod PlainWords
+pub mod PositionalWords

@@ -6,8 +6,8 @@ use Rattle.std.proofs.lemmas.Slice.Eq.{bytes_eq-Decides}
 use Rattle.std.proofs.lemmas.Str.Parse.{digit_from_value}
 use Rattle.std.specs.Str.{bytes_eq}
 use Rattle.std.specs.Str.Parse.{AllDigits, digits_value}
-use Rattle.command_words.specs.Words.{if_spelled, number_in}
-use Rattle.command_words.specs.inner.ClapWords.{is_plain}
+use Rattle.command_words.specs.Words.{decimal_within, if_spelled}
+use Rattle.command_words.specs.inner.ClapWords.{is_positional}
 
 at_value : (low high n : ℕ) (text : List ℕ) → text ≡ decimal n → low ≤ n → n ≤ high → if_spelled low high text n ≡ Some n
 at_value low high n text e l h =
@@ -38,15 +38,15 @@ from_value low high n m text e =
     (same ∙ ap decimal equal, omega arith, omega arith)
 
 -- a text that spells a number within the bounds gives it
-pub spelled : (low high n : ℕ) (text : List ℕ) → n < 2 ^ 64 → text ≡ decimal n → low ≤ n → n ≤ high → number_in low high text ≡ Some n
-unfolding number_in
+pub spelled : (low high n : ℕ) (text : List ℕ) → n < 2 ^ 64 → text ≡ decimal n → low ≤ n → n ≤ high → decimal_within low high text ≡ Some n
+unfolding decimal_within
 spelled low high n text small e l h =
     let value : digits_value 10 text ≡ n = ap (digits_value 10) e ∙ (decimal_is_IsNumeral n small).1 in
     ap (if_spelled low high text) value ∙ at_value low high n text e l h
 
 -- and what it gives, it spells
-pub gives : (low high n : ℕ) (text : List ℕ) → number_in low high text ≡ Some n → (text ≡ decimal n) × (low ≤ n) × (n ≤ high)
-unfolding number_in
+pub gives : (low high n : ℕ) (text : List ℕ) → decimal_within low high text ≡ Some n → (text ≡ decimal n) × (low ≤ n) × (n ≤ high)
+unfolding decimal_within
 gives low high n text e = from_value low high (digits_value 10 text) n text e
 
 never : (o : Option ℕ) → ((n : ℕ) → o ≡ Some n → ⊥) → o ≡ None
@@ -54,20 +54,20 @@ never None lacks = refl
 never (Some n) lacks = absurd (lacks n refl)
 
 -- a text that spells no number within the bounds gives none
-pub unspelled : (low high : ℕ) (text : List ℕ) → ((n : ℕ) → low ≤ n → n ≤ high → text ≡ decimal n → ⊥) → number_in low high text ≡ None
+pub unspelled : (low high : ℕ) (text : List ℕ) → ((n : ℕ) → low ≤ n → n ≤ high → text ≡ decimal n → ⊥) → decimal_within low high text ≡ None
 unspelled low high text lacks =
-    never (number_in low high text) (λ n e. let s = gives low high n text e in lacks n s.1 s.2 s.0)
+    never (decimal_within low high text) (λ n e. let s = gives low high n text e in lacks n s.1 s.2 s.0)
 
-plain_digits : (ds : List ℕ) → 0 < length ds → AllDigits 10 ds → is_plain ds ≡ true
-plain_digits [] some all = absurd (omega arith)
-plain_digits (c ∷ cs) some all =
+positional_digits : (ds : List ℕ) → 0 < length ds → AllDigits 10 ds → is_positional ds ≡ true
+positional_digits [] some all = absurd (omega arith)
+positional_digits (c ∷ cs) some all =
     let range = digit_from_value c all.0 in
     let other : (c == 45) ≡ false = ne_eqb c 45 (λ e. omega arith) in
     ap not other
 
--- a word that is not plain spells no number
-pub not_plain : (low high : ℕ) (text : List ℕ) → high < 2 ^ 64 → is_plain text ≡ false → number_in low high text ≡ None
-not_plain low high text small p =
+-- an argument that is not positional spells no number
+pub not_positional : (low high : ℕ) (text : List ℕ) → high < 2 ^ 64 → is_positional text ≡ false → decimal_within low high text ≡ None
+not_positional low high text small p =
     unspelled low high text (λ n l h e.
     let numeral = (decimal_is_IsNumeral n (omega arith)).0 in
-    false≢true (sym p ∙ (ap is_plain e ∙ plain_digits (decimal n) numeral.0 numeral.1)))
+    false≢true (sym p ∙ (ap is_positional e ∙ positional_digits (decimal n) numeral.0 numeral.1)))

@@ -1,4 +1,4 @@
--- Which words are a command, and which command they are.
+-- Which arguments are a command, and which command they are.
 use Rattle.std.specs.Prelude.{◌≡◌, ◌≤◌, ℕ, ◌&&◌, nat_le, List, [], ◌∷◌, codes, Option, Some, None, if◌then◌else◌}
 use Rattle.std.specs.Fmt.{decimal}
 use Rattle.std.specs.Str.{bytes_eq}
@@ -7,12 +7,12 @@ use Rattle.command_words.specs.declared.command.Command.{Command}
 use Rattle.command_words.specs.declared.command.Command.TheVariants.{Build, Replay, Stats, Gen}
 use Rattle.command_words.specs.declared.command.TheConstants.{GREATEST_SEED, MOST_TOKENS}
 
--- the words that spell a command: its name, and behind `gen` its two numbers in decimal digits
-abbrev pub spelling : Command → List (List ℕ)
-spelling Build = codes "build" ∷ []
-spelling Replay = codes "replay" ∷ []
-spelling Stats = codes "stats" ∷ []
-spelling (Gen seed size) = codes "gen" ∷ decimal seed ∷ decimal size ∷ []
+-- the arguments that spell a command: its name, and after `gen` its two numbers in decimal digits
+abbrev pub arguments_of : Command → List (List ℕ)
+arguments_of Build = codes "build" ∷ []
+arguments_of Replay = codes "replay" ∷ []
+arguments_of Stats = codes "stats" ∷ []
+arguments_of (Gen seed size) = codes "gen" ∷ decimal seed ∷ decimal size ∷ []
 
 -- a seed and a size are within the limits, and a size is at least 1
 abbrev pub IsInBounds : Command → Type 0
@@ -21,9 +21,9 @@ IsInBounds Replay = Unit {0}
 IsInBounds Stats = Unit {0}
 IsInBounds (Gen seed size) = (seed ≤ GREATEST_SEED) × (1 ≤ size) × (size ≤ MOST_TOKENS)
 
--- the words are this command
+-- the arguments are this command
 pub record IsCommand (words : List (List ℕ)) (c : Command) : Type 0 where
-  pub spelled : words ≡ spelling c
+  pub spelled : words ≡ arguments_of c
   pub bounds : IsInBounds c
 
 -- the number, where it is one of these and the text is its decimal digits
@@ -31,31 +31,31 @@ abbrev pub if_spelled : ℕ → ℕ → List ℕ → ℕ → Option ℕ
 if_spelled low high text n = if bytes_eq text (decimal n) && (nat_le low n && nat_le n high) then Some n else None
 
 -- the number from the first to the second that the text spells in decimal digits, without sign or leading zero
-unfoldable pub number_in : ℕ → ℕ → List ℕ → Option ℕ
-number_in low high text = if_spelled low high text (digits_value 10 text)
+unfoldable pub decimal_within : ℕ → ℕ → List ℕ → Option ℕ
+decimal_within low high text = if_spelled low high text (digits_value 10 text)
 
 abbrev pub seed_of : List ℕ → Option ℕ
-seed_of text = number_in 0 GREATEST_SEED text
+seed_of text = decimal_within 0 GREATEST_SEED text
 
-abbrev pub size_of : List ℕ → Option ℕ
-size_of text = number_in 1 MOST_TOKENS text
+abbrev pub token_count_of : List ℕ → Option ℕ
+token_count_of text = decimal_within 1 MOST_TOKENS text
 
 abbrev pub gen_of : Option ℕ → Option ℕ → Option Command
 gen_of None size = None
 gen_of (Some seed) None = None
 gen_of (Some seed) (Some size) = Some (Gen seed size)
 
--- the command whose name is all of its spelling
+-- the command whose name is all that spells it
 abbrev pub command_named : List ℕ → Option Command
 command_named word =
     if bytes_eq word (codes "build") then Some Build
     else (if bytes_eq word (codes "replay") then Some Replay
     else (if bytes_eq word (codes "stats") then Some Stats else None))
 
--- the command that the words are, if they are one: `build`, `replay` or `stats`, or `gen` with a seed and a size
+-- the command that the arguments are, if they are one: `build`, `replay` or `stats`, or `gen` with a seed and a size
 abbrev pub command_of : List (List ℕ) → Option Command
 command_of [] = None
 command_of (word ∷ []) = command_named word
 command_of (word ∷ a ∷ []) = None
-command_of (word ∷ a ∷ b ∷ []) = if bytes_eq word (codes "gen") then gen_of (seed_of a) (size_of b) else None
+command_of (word ∷ a ∷ b ∷ []) = if bytes_eq word (codes "gen") then gen_of (seed_of a) (token_count_of b) else None
 command_of (word ∷ a ∷ b ∷ c ∷ more) = None

@@ -1,6 +1,6 @@
-// Commands, and why words are none.
+// Commands, and why arguments are none.
 ghost use Rattle.std.specs.Prelude.{◌≡◌};
-ghost use Rattle.command_words.specs.declared.command.WordStop.TheVariants.{NoMemory as OutOfMemory};
+ghost use Rattle.command_words.specs.declared.command.WordStop.TheVariants as stops;
 
 use std::alloc::AllocError;
 use thiserror::Error;
@@ -11,7 +11,7 @@ pub const GREATEST_SEED: u32 = 4_294_967_295;
 /// The most tokens that a generated script has.
 pub const MOST_TOKENS: u32 = 4_000;
 
-/// What the words of a command line ask for.
+/// What the arguments of a command line ask for.
 #[derive(Clone, Copy, Debug, PartialEq, Eq)]
 pub enum Command {
     /// The stream of the script as if its commits were taken out and one stood at its end.
@@ -24,10 +24,10 @@ pub enum Command {
     Gen(u32, u32),
 }
 
-/// Why words give no command.
+/// Why arguments give no command.
 #[derive(Debug, Drop, Error)]
 pub enum WordStop {
-    /// The words are no command.
+    /// The arguments are no command.
     #[error("usage: tokc build | replay | stats | gen SEED SIZE")]
     Usage,
     /// Memory ran out.
@@ -36,7 +36,7 @@ pub enum WordStop {
 }
 
 impl From<AllocError> for WordStop {
-    ghost from_gives = { λ _ e. e ≡ OutOfMemory };
+    ghost from_gives = { λ _ e. e ≡ stops.NoMemory };
 
     fn from(_: AllocError) -> WordStop {
         WordStop::NoMemory

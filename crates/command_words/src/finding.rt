@@ -7,7 +7,7 @@ ghost use Rattle.command_words.specs.inner.ClapWords.{command_in, gen_in};
 
 use crate::Command;
 use crate::command::{GREATEST_SEED, MOST_TOKENS};
-use crate::number::number_in;
+use crate::number::decimal_within;
 use clap::ArgMatches;
 
 // The value of the argument.
@@ -23,8 +23,8 @@ fn gen_found(inner: &ArgMatches<'_>) -> Option<Command>
 {
     let seed = value_of(inner, "seed")?;
     let size = value_of(inner, "size")?;
-    let seed = number_in(0, GREATEST_SEED, seed)?;
-    let size = number_in(1, MOST_TOKENS, size)?;
+    let seed = decimal_within(0, GREATEST_SEED, seed)?;
+    let size = decimal_within(1, MOST_TOKENS, size)?;
     Some(Command::Gen(seed, size))
 }
 

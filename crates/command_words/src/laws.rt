@@ -3,7 +3,8 @@ ghost use Rattle.std.specs.Prelude.{◌≡◌, ℕ, List, Some};
 ghost use Rattle.command_words.specs.Words.{IsCommand, command_of};
 ghost use Rattle.command_words.specs.declared.command.Command.{Command as CommandData};
 
-/// The words of a command are those that spell it and no others, so words are one command at most.
+/// The arguments of a command are those that spell it and no others, so a list of arguments is one
+/// command at most.
 pub fn words_of_commands()
     ensures read { (words : List (List ℕ)) (c : CommandData) → command_of words ≡ Some c
         → IsCommand words c }

@@ -1,4 +1,4 @@
-//! The words of the command line: which command they are, read by clap, or that they are none.
+//! The arguments of the command line: which command they are, read by clap, or that they are none.
 #![tactic(auto)]
 
 mod command;
@@ -6,7 +6,7 @@ mod finding;
 mod grammar;
 mod laws;
 mod number;
-mod plain;
+mod positional;
 mod reading;
 #[cfg(test)]
 mod tests;

@@ -1,11 +1,11 @@
-// Reading the words of the command line.
+// Reading the arguments of the command line.
 ghost use Rattle.std.specs.Prelude.{◌≡◌, true, Some, None, Err, IfOk, map, string_bytes};
 ghost use Rattle.command_words.specs.Words.{command_of};
 ghost use Rattle.command_words.specs.inner.ClapWords.{is_ready};
 
 use crate::finding::command_found;
 use crate::grammar::tokc_command;
-use crate::plain::is_ready;
+use crate::positional::is_ready;
 use crate::{Command, WordStop};
 use clap::error::ErrorKind;
 use std::alloc::Global;
@@ -29,12 +29,12 @@ fn parse_words(alloc: Global, words: &[String]) -> Result<Command, WordStop>
     }
 }
 
-/// Reads the words of the command line, which are without the program's name: `build`, `replay` or `stats` alone, or `gen`
-/// with a seed of 0 to 4,294,967,295 and a size of 1 to 4,000, each in decimal digits without sign and without a leading
-/// zero but for `0` itself.
+/// Reads the arguments of the command line, which are without the program's name: `build`, `replay`
+/// or `stats` alone, or `gen` with a seed of 0 to 4,294,967,295 and a size of 1 to 4,000, each in
+/// decimal digits without sign and without a leading zero but for `0` itself.
 ///
 /// # Errors
-/// `Usage` exactly where the words are none of these; `NoMemory`.
+/// `Usage` exactly where the arguments are none of these; `NoMemory`.
 pub fn read_words(alloc: Global, words: &[String]) -> Result<Command, WordStop>
     ensures ok { IfOk result (λ c. command_of (map string_bytes words.now) ≡ Some c) }
     ensures usage { result ≡ Err WordStop.Usage → command_of (map string_bytes words.now) ≡ None }

@@ -1,10 +1,10 @@
-//! Words of command lines, and the command that each list is.
+//! Arguments of command lines, and the command that each list is.
 use crate::{Command, WordStop, read_words};
 use std::alloc::Global;
 use std::process::Abort;
 use std::test::Fail;
 
-// The command that the words are, or none where they are refused.
+// The command that the arguments are, or none where they are refused.
 fn command_of(alloc: Global, words: &[&str]) -> Result<Option<Command>, Fail> {
     let mut owned = Vec::new(alloc);
     for word in words {

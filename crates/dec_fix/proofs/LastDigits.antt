@@ -15,7 +15,7 @@ last_digits-more k n = rw (add-one k) refl
 pub tenth : (n k : ℕ) → n / 10 ^ k / 10 ≡ n / 10 ^ (k + 1)
 tenth n k = rw (add-one k, pow-suc 10 k) (div-div-eq-div-mul n (10 ^ k) 10)
 
--- one digit more in front of the rest
+-- one digit more before the rest
 pub decimal_more : (n : ℕ) (rest whole : List ℕ) → 10 ≤ n → n < 10 ^ 40 → decimal n ++ rest ≡ whole → decimal (n / 10) ++ ((48 + n % 10) ∷ rest) ≡ whole
 decimal_more n rest whole h small e =
     sym (ap (λ t. t ++ rest) (decimal_step_wide n h (omega arith)) ∙ append_assoc (decimal (n / 10)) ((48 + n % 10) ∷ []) rest) ∙ e

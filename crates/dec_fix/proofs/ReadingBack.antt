@@ -1,6 +1,6 @@
 -- Numbers that are read and written are the same: the laws of `src/laws.rt` as lemmas. The proofs of other crates may cite
 -- them, and those of the files here that say so; what else is proved here is for this crate alone.
-use Rattle.std.proofs.Common.{◌≡◌, ◌++◌, ◌<◌, ◌^◌, ℕ, List, true, Some, arith, lit<}
+use Rattle.std.proofs.Common.{◌≡◌, ◌++◌, ℕ, List, true, Some, arith}
 use Rattle.dec_fix.specs.Decimal.{Decimal, IsDec, IsExact}
 use Rattle.dec_fix.specs.Following.{ends_number, number_at}
 use Rattle.dec_fix.specs.Reading.{number_of}

@@ -14,16 +14,31 @@ IsSameNumber a b = a.c *ℤ pos (10 ^ b.s) ≡ b.c *ℤ pos (10 ^ a.s)
 abbrev pub IsShort : ℕ → ℕ → Type 0
 IsShort n s = (s ≡ 0) ⊎ (0 < n % 10)
 
+-- the size of c is below this where a number is read, ..
+abbrev pub size_limit : ℕ
+size_limit = 10 ^ 30
+
+-- .. and s is at most this
+abbrev pub most_places : ℕ
+most_places = 30
+
 -- a number that is accepted where one is read
 pub record IsExact (d : Decimal) : Type 0 where
-  pub size : unsigned_abs d.c < 10 ^ 30
-  pub places : d.s ≤ 30
+  pub size : unsigned_abs d.c < size_limit
+  pub places : d.s ≤ most_places
   pub short : IsShort (unsigned_abs d.c) d.s
 
--- a number that is computed with: a thousand times what is accepted, and three places more
+-- the same of numbers that are computed with: a thousand times what is read, and three places more
+abbrev pub computed_limit : ℕ
+computed_limit = 10 ^ 33
+
+abbrev pub most_computed_places : ℕ
+most_computed_places = 33
+
+-- a number that is computed with
 pub record IsDec (d : Decimal) : Type 0 where
-  pub size : unsigned_abs d.c < 10 ^ 33
-  pub places : d.s ≤ 33
+  pub size : unsigned_abs d.c < computed_limit
+  pub places : d.s ≤ most_computed_places
   pub short : IsShort (unsigned_abs d.c) d.s
 
 abbrev pub is_negative : ℤ → Bool

@@ -1,4 +1,5 @@
--- A number at the start of a text, of any length, and what follows it: an optional `-`, digits, and optionally a point and digits.
+-- A number at the start of a text, of any length, and what follows it: an optional `-`, digits, and optionally a point
+-- and digits.
 use Rattle.std.specs.Prelude.{ℕ, ◌==◌, ◌&&◌, ◌||◌, not, Bool, true, List, [], ◌∷◌, ◌++◌, length, nat_lt, if◌then◌else◌}
 use Rattle.std.specs.Char.{is_ascii_digit}
 use Rattle.tk_io.specs.Characters.{full_stop}
@@ -6,7 +7,7 @@ use Rattle.dec_fix.specs.Decimal.{Decimal, decimal_of}
 use Rattle.dec_fix.specs.Spelling.{digits_number}
 use Rattle.dec_fix.specs.Reading.{digits_front, digits_rest, sign_at}
 
--- behind the whole part: a point and digits, or none
+-- after the whole part: a point and digits, or none
 abbrev pub fraction_after : Bool → List ℕ → List ℕ → Decimal × List ℕ
 fraction_after negative whole [] = (decimal_of negative (digits_number whole) 0, [])
 fraction_after negative whole (c ∷ t) =

@@ -2,7 +2,7 @@
 use Rattle.std.specs.Prelude.{ℕ, ◌+◌, ◌*◌, ◌^◌, ◌==◌, ◌&&◌, ◌||◌, Bool, true, false, List, [], ◌∷◌, ◌++◌, length, nat_lt, nat_le, Option, Some, None, if◌then◌else◌, option_map, option_and_then, unsigned_abs}
 use Rattle.std.specs.Char.{is_ascii_digit}
 use Rattle.tk_io.specs.Characters.{plus_sign, hyphen, full_stop, digit_zero, capital_e, small_e}
-use Rattle.dec_fix.specs.Decimal.{Decimal, signed, decimal_of}
+use Rattle.dec_fix.specs.Decimal.{Decimal, signed, decimal_of, size_limit, most_places}
 use Rattle.dec_fix.specs.Spelling.{digits_number}
 
 -- the digits at the start
@@ -87,7 +87,7 @@ text_decimal t = option_map (λ p. decimal_of p.negative (size_of p) (places_of 
 
 -- a number that is within the bounds
 abbrev pub accepted : Decimal → Option Decimal
-accepted d = if nat_lt (unsigned_abs d.c) (10 ^ 30) && nat_le d.s 30 then Some d else None
+accepted d = if nat_lt (unsigned_abs d.c) size_limit && nat_le d.s most_places then Some d else None
 
 -- the number within the bounds that a text is, or none
 abbrev pub number_of : List ℕ → Option Decimal
@@ -95,4 +95,4 @@ number_of t = option_and_then accepted (text_decimal t)
 
 -- the same of a sign and a size
 abbrev pub within_bounds : Bool → ℕ × ℕ → Option Decimal
-within_bounds negative p = if nat_lt p.0 (10 ^ 30) && nat_le p.1 30 then Some (record { c = signed negative p.0; s = p.1 }) else None
+within_bounds negative p = if nat_lt p.0 size_limit && nat_le p.1 most_places then Some (record { c = signed negative p.0; s = p.1 }) else None

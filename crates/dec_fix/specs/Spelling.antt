@@ -61,7 +61,7 @@ pub record IsNumber (p : NumberParts) : Type 0 where
   pub fraction : IsTrue (all_ascii_digits p.fraction)
   pub exponent : IsExponent p.exponent
 
--- the whole number that digits write behind those of n
+-- the whole number that digits write after those of n
 abbrev pub digits_number_after : ℕ → List ℕ → ℕ
 digits_number_after n [] = n
 digits_number_after n (c ∷ t) = digits_number_after (n * 10 + (c - digit_zero)) t

@@ -2,7 +2,8 @@
 
 ghost use Rattle.std.specs.Prelude.{◌≡◌, ◌+◌, ◌*ℤ◌, ◌^◌, ◌≤◌, pos, ℤ, FitsSigned, IfSome, OnErr};
 ghost use Rattle.std.specs.Prelude.{IfNone};
-ghost use Rattle.dec_fix.specs.Decimal.{IsExact, IsSameNumber};
+ghost use Rattle.dec_fix.specs.Decimal.{IsExact, IsSameNumber, computed_limit};
+ghost use Rattle.dec_fix.specs.Decimal.{most_computed_places};
 ghost use Rattle.dec_fix.specs.Arithmetic.{times, over_1000, order_with, whole_decimal, whole_of};
 ghost use Rattle.std.specs.Int.{w32};
 
@@ -11,9 +12,9 @@ use std::cmp::Ordering;
 
 /// Ten to the power `k`.
 pub(crate) fn ten_to(k: u8) -> u128
-    requires { k ≤ 33 }
+    requires { k ≤ most_computed_places }
     ensures power { result ≡ 10 ^ k }
-    ensures bound { result ≤ 10 ^ 33 }
+    ensures bound { result ≤ computed_limit }
 {
     10u128.pow(u32::from(k))
 }

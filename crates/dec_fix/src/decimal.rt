@@ -3,6 +3,7 @@
 ghost use Rattle.std.specs.Prelude.{◌≡◌, ◌^◌, ◌≤◌, ◌<◌, pos};
 ghost use Rattle.std.specs.Result.{result_ok};
 ghost use Rattle.dec_fix.specs.Decimal.{signed, shortest, decimal_of, IsShort, IsDec};
+ghost use Rattle.dec_fix.specs.Decimal.{computed_limit, most_computed_places};
 ghost use Rattle.dec_fix.specs.Arithmetic.{whole_decimal};
 ghost use Rattle.dec_fix.specs.Reading.{within_bounds};
 
@@ -35,6 +36,9 @@ impl Model for Dec {
 /// No number that is read has this size or more: ten to the power 30.
 pub(crate) const LIMIT: u128 = 1_000_000_000_000_000_000_000_000_000_000;
 
+/// No number that is read has more places.
+const MOST_PLACES: u128 = 30;
+
 fn with_sign(negative: bool, size: u128) -> i128
     requires { size < 2 ^ 127 }
     ensures { result ≡ signed negative size }
@@ -49,7 +53,7 @@ impl Dec {
         requires short { IsShort size places }
         ensures { result_ok result ≡ within_bounds negative (size, places) }
     {
-        if size < LIMIT && places <= 30 {
+        if size < LIMIT && places <= MOST_PLACES {
             let c = with_sign(negative, size);
             let s = places as u8;
             Ok(Dec { c, s })
@@ -67,8 +71,8 @@ impl Dec {
 
     /// The number of this sign and size, where the places are as few as they can be.
     fn made(negative: bool, size: u128, s: u8) -> Dec
-        requires size { size < 10 ^ 33 }
-        requires places { s ≤ 33 }
+        requires size { size < computed_limit }
+        requires places { s ≤ most_computed_places }
         requires short { IsShort size s }
         ensures { result ≡ record { c = signed negative size; s = s } }
     {
@@ -78,8 +82,8 @@ impl Dec {
 
     /// The number of this sign and size.
     pub(crate) fn shortened(negative: bool, size: u128, places: u8) -> Dec
-        requires size { size < 10 ^ 33 }
-        requires places { places ≤ 33 }
+        requires size { size < computed_limit }
+        requires places { places ≤ most_computed_places }
         ensures { result ≡ decimal_of negative size places }
     {
         let mut left = size;

@@ -1,13 +1,17 @@
-//! A short text that grows at its front.
+//! A short text that grows at its beginning.
 
 ghost use Rattle.std.specs.Prelude.{◌≡◌, ◌≤◌, ◌<◌, ℕ, List, [], ◌∷◌, length, drop};
+ghost use Rattle.dec_fix.specs.declared.front.TheConstants.{ROOM};
 
 use std::marker::Model;
 
-/// A text of at most 80 bytes.
+/// The most bytes of a text; a number needs fewer.
+const ROOM: usize = 80;
+
+/// A text of at most `ROOM` bytes.
 #[derive(Drop)]
 pub(crate) struct Front {
-    bytes: [u8; 80],
+    bytes: [u8; ROOM],
     at: usize,
 }
 
@@ -16,7 +20,7 @@ impl Model for Front {
 
     ghost view = { λ f. drop f.at f.bytes };
 
-    ghost invariant = { λ f. f.at ≤ 80 };
+    ghost invariant = { λ f. f.at ≤ ROOM };
 }
 
 impl Front {
@@ -24,14 +28,14 @@ impl Front {
         ensures { result ≡ [] }
     {
         Front {
-            bytes: [0; 80],
-            at: 80,
+            bytes: [0; ROOM],
+            at: ROOM,
         }
     }
 
     /// Puts a byte before the rest.
     pub(crate) fn put(&mut self, byte: u8)
-        requires { length self.old < 80 }
+        requires { length self.old < ROOM }
         ensures { self.new ≡ byte ∷ self.old }
     {
         self.at -= 1;

@@ -26,7 +26,8 @@ pub fn read_is_spelled()
         → number_of text ≡ Some d }
 {}
 
-/// What is written of a number is a JSON number that is read as that number again, also in front of other bytes.
+/// What is written of a number is a JSON number that is read as that number again, also before
+/// other bytes.
 pub fn written_is_read()
     ensures spells { (d : Decimal) → IsDec d → Spells (spelling d) d }
     ensures reads { (d : Decimal) → IsExact d → number_of (spelling d) ≡ Some d }

@@ -4,7 +4,7 @@ ghost use Rattle.std.specs.Prelude.{◌≡◌, ◌*◌, ◌^◌, ◌<◌, ◌≤
 ghost use Rattle.std.specs.Prelude.{IsTrue, IfOk, IfSome, OnErr};
 ghost use Rattle.std.specs.Result.{result_ok};
 ghost use Rattle.std.specs.Str.{all_ascii_digits};
-ghost use Rattle.dec_fix.specs.Decimal.{Decimal, IsExact, shortest};
+ghost use Rattle.dec_fix.specs.Decimal.{Decimal, IsExact, shortest, size_limit};
 ghost use Rattle.dec_fix.specs.Spelling.{Spells};
 ghost use Rattle.dec_fix.specs.Reading.{digits_front, digits_rest, sign_at, is_whole, fraction_at};
 ghost use Rattle.dec_fix.specs.Reading.{exponent_sign_at, exponent_at, split_of, within_bounds};
@@ -51,9 +51,9 @@ fn from_parts(parts: Parts<'_>) -> Result<Dec, NotDec>
 
 /// The number `kept * 10^up / 10^down`, where it is within the bounds.
 fn placed(negative: bool, kept: u128, up: u128, down: u128) -> Result<Dec, NotDec>
-    requires limit { kept ≤ 10 ^ 30 }
-    requires last { kept < 10 ^ 30 → IsLast kept }
-    ensures { (size : ℕ) → kept ≡ min size (10 ^ 30) → IsLast size
+    requires limit { kept ≤ size_limit }
+    requires last { kept < size_limit → IsLast kept }
+    ensures { (size : ℕ) → kept ≡ min size size_limit → IsLast size
         → result_ok result ≡ within_bounds negative (shortest (size * 10 ^ up) down) }
 {
     if kept >= LIMIT {
@@ -130,7 +130,8 @@ fn is_whole(digits: &[u8]) -> bool
     }
 }
 
-/// The digits behind a point, none where there is no point, and what follows. `None` where no digit follows a point.
+/// The digits after a point, none where there is no point, and what follows. `None` where no digit
+/// follows a point.
 fn split_fraction(text: &[u8]) -> Option<(&[u8], &[u8])>
     ensures parts { option_map (λ p. (p.0.now, p.1.now)) result ≡ fraction_at text.now }
     ensures are { IfSome result (λ p. IsTrue (all_ascii_digits p.0.now)) }

@@ -2,6 +2,7 @@
 
 ghost use Rattle.std.specs.Prelude.{◌≡◌, ℕ, ◌+◌, ◌*◌, ◌^◌, ◌≤◌, ◌<◌, length, min, IsTrue};
 ghost use Rattle.std.specs.Str.{all_ascii_digits};
+ghost use Rattle.dec_fix.specs.Decimal.{size_limit};
 ghost use Rattle.dec_fix.specs.inner.Significand.{IsSignificand};
 ghost use Rattle.dec_fix.specs.Spelling.{digits_number, digits_number_after};
 
@@ -19,8 +20,8 @@ pub(crate) struct Significand {
 
 /// `m` times ten to the power `k`, or `LIMIT` where that is greater.
 pub(crate) fn scaled(m: u128, k: u128) -> u128
-    requires { m ≤ 10 ^ 30 }
-    ensures { result ≡ min (m * 10 ^ k) (10 ^ 30) }
+    requires { m ≤ size_limit }
+    ensures { result ≡ min (m * 10 ^ k) size_limit }
 {
     if m == 0 {
         return 0;
@@ -34,12 +35,12 @@ pub(crate) fn scaled(m: u128, k: u128) -> u128
     n.min(LIMIT)
 }
 
-/// The digits so far with one more behind them.
+/// The digits so far with one more after them.
 fn with_digit(so_far: Significand, digit: u128) -> Significand
-    requires limit { so_far.size ≤ 10 ^ 30 }
+    requires limit { so_far.size ≤ size_limit }
     requires zeros { so_far.zeros < 2 ^ 100 }
     requires digit { digit < 10 }
-    ensures limit { result.size ≤ 10 ^ 30 }
+    ensures limit { result.size ≤ size_limit }
     ensures zeros { result.zeros ≤ so_far.zeros + 1 }
     ensures holds { (n : ℕ) → IsSignificand so_far.size so_far.zeros n
         → IsSignificand result.size result.zeros (n * 10 + digit) }
@@ -58,12 +59,12 @@ fn with_digit(so_far: Significand, digit: u128) -> Significand
     }
 }
 
-/// The digits so far with more behind them.
+/// The digits so far with more after them.
 pub(crate) fn with_digits(so_far: Significand, digits: &[u8]) -> Significand
-    requires limit { so_far.size ≤ 10 ^ 30 }
+    requires limit { so_far.size ≤ size_limit }
     requires zeros { so_far.zeros < 2 ^ 99 }
     requires digits { IsTrue (all_ascii_digits digits.now) }
-    ensures limit { result.size ≤ 10 ^ 30 }
+    ensures limit { result.size ≤ size_limit }
     ensures zeros { result.zeros ≤ so_far.zeros + length digits.now }
     ensures holds { (n : ℕ) → IsSignificand so_far.size so_far.zeros n
         → IsSignificand result.size result.zeros (digits_number_after n digits.now) }

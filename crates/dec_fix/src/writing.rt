@@ -3,10 +3,11 @@
 ghost use Rattle.std.specs.Prelude.{◌≡◌, ◌+◌, ◌/◌, ◌^◌, ◌≤◌, ◌<◌, true, ℕ, List, ◌++◌, length};
 ghost use Rattle.std.specs.Prelude.{OnOk, OnErr};
 ghost use Rattle.std.specs.Fmt.{decimal};
-ghost use Rattle.dec_fix.specs.Decimal.{IsDec};
+ghost use Rattle.dec_fix.specs.Decimal.{IsDec, computed_limit, most_computed_places};
 ghost use Rattle.dec_fix.specs.Spelling.{Spells};
 ghost use Rattle.dec_fix.specs.Reading.{text_decimal};
 ghost use Rattle.dec_fix.specs.Following.{number_at, ends_number};
+ghost use Rattle.dec_fix.specs.declared.front.TheConstants.{ROOM};
 ghost use Rattle.dec_fix.specs.Writing.{last_digits, point_and, spelling, point_spelling};
 
 use crate::decimal::Dec;
@@ -15,7 +16,7 @@ use tk_io::{Bytes, NoMemory};
 
 /// Puts the last `k` digits of `n` before the rest, and gives what stands before them.
 fn put_last(text: &mut Front, n: u128, k: u8) -> u128
-    requires room { length text.old + k ≤ 80 }
+    requires room { length text.old + k ≤ ROOM }
     ensures text { text.new ≡ last_digits k n ++ text.old }
     ensures length { length text.new ≡ length text.old + k }
     ensures rest { result ≡ n / 10 ^ k }
@@ -46,10 +47,10 @@ fn put_whole(text: &mut Front, n: u128)
 /// Puts `n / 10^places` before the rest.
 fn put_size(text: &mut Front, n: u128, places: u8)
     requires room { length text.old ≤ 3 }
-    requires small { n < 10 ^ 33 }
-    requires places { places ≤ 33 }
+    requires small { n < computed_limit }
+    requires places { places ≤ most_computed_places }
     ensures text { text.new ≡ decimal (n / 10 ^ places) ++ (point_and n places ++ text.old) }
-    ensures length { length text.new < 80 }
+    ensures length { length text.new < ROOM }
 {
     if places == 0 {
         put_whole(text, n);

@@ -1,7 +1,7 @@
 -- Two lists of outputs gone over together: the changes at each first path, and those of all.
 use Rattle.std.proofs.Common.{◌≡◌, ◌<◌, ◌≤◌, ℕ, zero, suc, ◌+◌, ◌-◌, Bool, true, false, cond, T, ◌&&◌, List, [], ◌∷◌, ◌++◌, length, drop, Option, Some, None, Ordering, Less, Equal, Greater, refl, sym, ap, subst, ◌∙◌, arith, append_assoc, append-nil, length-drop}
-use Rattle.std.proofs.lemmas.List.{drop-drop, length-map}
-use Rattle.std.proofs.lemmas.Option.{none-some, same_Some, slice_get-map}
+use Rattle.std.proofs.lemmas.List.{drop-drop}
+use Rattle.std.proofs.lemmas.Option.{none-some, same_Some}
 use Rattle.std.specs.Borrow.{Bor}
 use Rattle.std.specs.List.{slice_get}
 use Rattle.std.specs.Option.{option_map}
@@ -12,7 +12,7 @@ use Rattle.std.specs.Ordering.{is_lt, is_eq, eq_by_cmp, ordering_reverse}
 use Rattle.std.specs.Str.{bytes_eq}
 use Rattle.tk_io.specs.Order.{text_cmp}
 use Rattle.edit_script.specs.Delta.{ChangeData, change_of}
-use Rattle.edit_script.specs.inner.Merge.{Entries, AreChanges, IsStep, outputs_view, lent_view}
+use Rattle.edit_script.specs.inner.Merge.{Entries, AreChanges, IsStep, lent_view}
 
 pub same_key : IsAntisymmetric text_cmp
 same_key = slice_cmp-IsAntisymmetric nat_cmp-IsAntisymmetric

@@ -67,7 +67,7 @@ put_regroup a t s = simp append_assoc
 line_regroup : (a s : List ℕ) → (a ++ 10 ∷ []) ++ s ≡ a ++ 10 ∷ s
 line_regroup a s = append_assoc a (10 ∷ []) s
 
--- a spelling is a line, its line end, and what stands behind the line
+-- a spelling is a line, its line end, and what stands after the line
 pub spelled : (e : EventData) (s : List ℕ) → event_text e ++ s ≡ first_line e ++ 10 ∷ (behind_line e ++ s)
 spelled (put p t) s = put_regroup (codes "put " ++ p ++ codes " " ++ decimal (length t)) t s
 spelled (del p) s = line_regroup (codes "del " ++ p) s

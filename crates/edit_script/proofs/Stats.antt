@@ -40,7 +40,7 @@ gone_apart : (c : ChangeData) (cs : List ChangeData) → gone_count (c ∷ cs) �
 gone_apart (path, None) cs = omega arith
 gone_apart (path, Some bytes) cs = omega arith
 
--- what goes is what goes first and behind it
+-- what goes is what goes first and after it
 pub gone_left : (left rest : List Lined) (c : Lined) → left ≡ c ∷ rest → gone_count (without_lines left) ≡ gone_count (c.0 ∷ []) + gone_count (without_lines rest)
 gone_left left rest c e = ap (λ cs. gone_count (without_lines cs)) e ∙ gone_apart c.0 (without_lines rest)
 

@@ -1,4 +1,5 @@
--- What a script is: how its events are spelled, which paths and lengths fit, and where bytes that are no script are refused.
+-- What a script is: how its events are spelled, which paths and lengths fit, and where bytes that are no script are
+-- refused.
 use Rattle.std.specs.Prelude.{◌≡◌, ◌<◌, ◌≤◌, ◌⊎◌, ℕ, ◌^◌, Bool, true, ◌&&◌, ◌||◌, ◌==◌, not, nat_le, List, ◌++◌, length, take, codes}
 use Rattle.std.specs.Char.{is_ascii_alphanumeric}
 use Rattle.std.specs.Fmt.{decimal}
@@ -13,7 +14,7 @@ pub data EventData : Type 0 where
   del : List ℕ → EventData
   commit : EventData
 
--- an event's line, and behind a put's line its text and a line end
+-- an event's line, and after a put's line its text and a line end
 abbrev pub event_text : EventData → List ℕ
 event_text (put path text) = codes "put " ++ path ++ codes " " ++ decimal (length text) ++ codes "\n" ++ text ++ codes "\n"
 event_text (del path) = codes "del " ++ path ++ codes "\n"

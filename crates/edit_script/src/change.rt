@@ -10,7 +10,7 @@ use tk_io::{Bytes, NoMemory};
 
 /// The change of one output, with its record's first line, the line end included. Paths and bytes are borrowed from
 /// the outputs.
-#[derive(Drop)]
+#[derive(Debug, Drop)]
 pub enum Change<'a> {
     /// The output at this path is held no more. The line is `gone PATH`.
     Gone(&'a str, Bytes),
@@ -19,7 +19,7 @@ pub enum Change<'a> {
 }
 
 /// A list of changes, each seen with the line that it carries.
-#[derive(Drop)]
+#[derive(Debug, Drop)]
 pub struct Changes<'a> {
     items: Vec<Change<'a>>,
 }

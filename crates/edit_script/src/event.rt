@@ -20,7 +20,7 @@ pub enum Event<'s> {
 }
 
 /// The events of a script, in order.
-#[derive(Drop)]
+#[derive(Debug, Drop)]
 pub struct Events<'s> {
     items: Vec<Event<'s>>,
 }

@@ -54,7 +54,7 @@ pub fn write_line<K: Sink>(out: &mut K, line: &Line) -> Result<(), Failed>
 }
 
 // The most bytes of a line: those of the words of the short statistics, and of three numbers.
-const MOST: usize = 96;
+const LONGEST_LINE: usize = 96;
 
 // Writes the word, the number and a line end as one piece.
 fn write_numbered<K: Sink>(out: &mut K, word: &[u8], number: u64) -> Result<(), Failed>
@@ -65,7 +65,7 @@ fn write_numbered<K: Sink>(out: &mut K, word: &[u8], number: u64) -> Result<(), 
         (word.now ++ decimal number ++ codes "\n")) }
     ensures cause { HasCause (K.faults out.old) (K.faults out.new) result }
 {
-    let mut piece = [0u8; MOST];
+    let mut piece = [0u8; LONGEST_LINE];
     let end = put_number(&mut piece, 0, word, number);
     let len = put_at(&mut piece, end, b"\n");
     write_all(out, &piece[..len])
@@ -79,7 +79,7 @@ fn write_short<K: Sink>(out: &mut K, commit: u64, written: u64, gone: u64) -> Re
         (line_text (Line.Short commit written gone))) }
     ensures cause { HasCause (K.faults out.old) (K.faults out.new) result }
 {
-    let mut piece = [0u8; MOST];
+    let mut piece = [0u8; LONGEST_LINE];
     let first = put_number(&mut piece, 0, b"commit ", commit);
     let second = put_number(&mut piece, first, b" written ", written);
     let third = put_number(&mut piece, second, b" gone ", gone);
@@ -88,8 +88,8 @@ fn write_short<K: Sink>(out: &mut K, commit: u64, written: u64, gone: u64) -> Re
 }
 
 // Puts the word and the number into the piece at this place, and answers where they end.
-fn put_number(piece: &mut [u8; MOST], at: usize, word: &[u8], number: u64) -> usize
-    requires { at + length word.now + 20 ≤ 96 }
+fn put_number(piece: &mut [u8; LONGEST_LINE], at: usize, word: &[u8], number: u64) -> usize
+    requires { at + length word.now + 20 ≤ LONGEST_LINE }
     ensures bound { result ≤ at + length word.now + 20 }
     ensures front { take result piece.new ≡ take at piece.old ++ word.now ++ decimal number }
 {
@@ -100,8 +100,8 @@ fn put_number(piece: &mut [u8; MOST], at: usize, word: &[u8], number: u64) -> us
 }
 
 // Puts the bytes into the piece at this place, and answers where they end.
-fn put_at(piece: &mut [u8; MOST], at: usize, bytes: &[u8]) -> usize
-    requires { at + length bytes.now ≤ 96 }
+fn put_at(piece: &mut [u8; LONGEST_LINE], at: usize, bytes: &[u8]) -> usize
+    requires { at + length bytes.now ≤ LONGEST_LINE }
     ensures end { result ≡ at + length bytes.now }
     ensures front { take result piece.new ≡ take at piece.old ++ bytes.now }
 {

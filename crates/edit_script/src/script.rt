@@ -35,10 +35,11 @@ impl From<NoMemory> for ScriptStop {
     }
 }
 
-/// Reads a script: the line `tokc-script 1`, and then any number of events, each on lines that end in one byte 0x0A:
-/// `put PATH LEN` with exactly LEN bytes of text and one 0x0A behind it, `del PATH`, or `commit`. PATH is 1 to 200 bytes
-/// of segments joined by `/`, each of one or more ASCII letters, digits, `.`, `_` and `-`, and none of them `.` or `..`.
-/// LEN is `0`, or one to eight digits without a leading zero.
+/// Reads a script: the line `tokc-script 1`, and then any number of events, each on lines that end
+/// in one byte 0x0A: `put PATH LEN` with exactly LEN bytes of text and one 0x0A after it,
+/// `del PATH`, or `commit`. PATH is 1 to 200 bytes of segments joined by `/`, each of one or more
+/// ASCII letters, digits, `.`, `_` and `-`, and none of them `.` or `..`. LEN is `0`, or one to
+/// eight digits without a leading zero.
 ///
 /// # Errors
 /// `BadScript` exactly where the text is no script; `NoMemory`.
@@ -65,7 +66,7 @@ pub fn read_script<'s>(alloc: Global, text: &'s str) -> Result<Events<'s>, Scrip
     Ok(events)
 }
 
-/// The event at the start of the text, and what is left behind it; none where no event stands there.
+/// The event at the start of the text, and what is left after it; none where no event stands there.
 fn next_event(text: &str) -> Option<(Event<'_>, &str)>
     ensures { MatchOption result ((e : EventData) → (rest : List ℕ) → EventFits e
         → text.now ≡ event_text e ++ rest → ⊥)
@@ -75,7 +76,7 @@ fn next_event(text: &str) -> Option<(Event<'_>, &str)>
     event_of_line(line, behind)
 }
 
-/// The event with this line, whose text stands at the start of what is behind the line.
+/// The event with this line, whose text stands at the start of what is after the line.
 fn event_of_line<'s>(line: &'s str, behind: &'s str) -> Option<(Event<'s>, &'s str)>
     ensures { MatchOption result ((e : EventData) → (rest : List ℕ) → EventFits e
         → line.entry.now ≡ first_line e → behind.entry.now ≡ behind_line e ++ rest → ⊥)
@@ -96,7 +97,7 @@ fn event_of_line<'s>(line: &'s str, behind: &'s str) -> Option<(Event<'s>, &'s s
     Some((Event::Put(path, text), rest))
 }
 
-/// The path and the text of a put with these words on its line, and what is left behind the text.
+/// The path and the text of a put with these words on its line, and what is left after the text.
 fn put_text<'s>(words: &'s str, behind: &'s str) -> Option<(&'s str, &'s str, &'s str)>
     ensures { MatchOption result ((path : List ℕ) → (text : List ℕ) → (rest : List ℕ)
         → EventFits (put path text) → words.entry.now ≡ path ++ 32 ∷ decimal (length text)

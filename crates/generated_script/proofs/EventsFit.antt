@@ -10,7 +10,7 @@ use Rattle.std.specs.Str.{IsAscii}
 use Rattle.edit_script.specs.Files.{commit_count}
 use Rattle.edit_script.specs.Script.{EventFits, IsScript, event_text, header, is_path, put}
 use Rattle.generated_script.specs.declared.script.TheConstants.{MOST_TOKENS}
-use Rattle.generated_script.specs.Tokens.{core_text, edited, literal, token_text, value_text}
+use Rattle.generated_script.specs.Tokens.{core_text, edited, generated_token, generated_value, literal}
 use Rattle.generated_script.specs.Script.{edit_events, events_of, first_events, put_core, resolver_text, script_of}
 
 -- ASCII, and no longer than this
@@ -57,7 +57,7 @@ literal_small seed size zero i h = omega arith
 literal_small seed size (suc j) i h =
     pick (edited seed size (suc j) == i) (100 + suc j) (literal seed size j i) (omega arith) (literal_small seed size j i (omega arith))
 
-value_short : (seed size edits i : ℕ) → edits ≤ 20 → i < MOST_TOKENS → IsShort 26 (value_text seed size edits i)
+value_short : (seed size edits i : ℕ) → edits ≤ 20 → i < MOST_TOKENS → IsShort 26 (generated_value seed size edits i)
 value_short seed size edits i h small =
     let value = literal seed size edits i in
     let bound : value ≤ 120 = literal_small seed size edits i h in
@@ -71,9 +71,9 @@ value_short seed size edits i h small =
     (joined 4 2 6 (decimal (i - 1)) (codes "}\"") (digits (i - 1) (omega arith)) (fixed 2 (codes "}\"") refl refl) (omega arith))
     (omega arith))
 
-token_short : (seed size edits i : ℕ) → edits ≤ 20 → i < MOST_TOKENS → IsShort 46 (token_text seed size edits i)
+token_short : (seed size edits i : ℕ) → edits ≤ 20 → i < MOST_TOKENS → IsShort 46 (generated_token seed size edits i)
 token_short seed size edits i h small =
-    let value = value_text seed size edits i in
+    let value = generated_value seed size edits i in
     joined 3 43 46 (codes ",\"n") (decimal i ++ (codes "\":{\"$value\":" ++ (value ++ codes "}")))
     (fixed 3 (codes ",\"n") refl refl)
     (joined 4 39 43 (decimal i) (codes "\":{\"$value\":" ++ (value ++ codes "}"))
@@ -88,11 +88,11 @@ token_short seed size edits i h small =
 core_short : (seed size edits : ℕ) → edits ≤ 20 → size ≤ MOST_TOKENS → IsShort 200000 (core_text seed size edits)
 unfolding core_text
 core_short seed size edits h small =
-    let tokens = flat_map (token_text seed size edits) (range_with_len 0 size) in
+    let tokens = flat_map (generated_token seed size edits) (range_with_len 0 size) in
     joined 25 (size * 46 + 2) 200000 (codes "{\"t\":{\"$type\":\"dimension\"") (tokens ++ codes "}}")
     (fixed 25 (codes "{\"t\":{\"$type\":\"dimension\"") refl refl)
     (joined (size * 46) 2 (size * 46 + 2) tokens (codes "}}")
-    (flat (token_text seed size edits) 46 0 size (λ i l u. token_short seed size edits i h (omega arith)))
+    (flat (generated_token seed size edits) 46 0 size (λ i l u. token_short seed size edits i h (omega arith)))
     (fixed 2 (codes "}}") refl refl)
     (omega arith))
     (omega arith)

@@ -33,9 +33,13 @@ first_events seed size =
 abbrev pub edit_events : ℕ → ℕ → ℕ → List EventData
 edit_events seed size edit = put_core seed size edit ∷ commit ∷ []
 
--- the files, and then twenty edits
+-- how many edits there are
+abbrev pub edit_count : ℕ
+edit_count = 20
+
+-- the files, and then the edits
 unfoldable pub events_of : ℕ → ℕ → List EventData
-events_of seed size = first_events seed size ++ flat_map (edit_events seed size) (range_with_len 1 20)
+events_of seed size = first_events seed size ++ flat_map (edit_events seed size) (range_with_len 1 edit_count)
 
 -- the script of a seed and a number of tokens
 unfoldable pub script_of : ℕ → ℕ → List ℕ

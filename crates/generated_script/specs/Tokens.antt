@@ -17,17 +17,17 @@ literal seed size zero i = (seed + i) % 100
 literal seed size (suc j) i = if edited seed size (suc j) == i then 100 + suc j else literal seed size j i
 
 -- the first token of a block has a literal, and each other refers to the token before it
-abbrev pub value_text : ℕ → ℕ → ℕ → ℕ → List ℕ
-value_text seed size edits i =
+abbrev pub generated_value : ℕ → ℕ → ℕ → ℕ → List ℕ
+generated_value seed size edits i =
     if i % 10 == 0 then codes "{\"value\":" ++ (decimal (literal seed size edits i) ++ codes ",\"unit\":\"px\"}")
     else codes "\"{t.n" ++ (decimal (i - 1) ++ codes "}\"")
 
-abbrev pub token_text : ℕ → ℕ → ℕ → ℕ → List ℕ
-token_text seed size edits i =
-    codes ",\"n" ++ (decimal i ++ (codes "\":{\"$value\":" ++ (value_text seed size edits i ++ codes "}")))
+abbrev pub generated_token : ℕ → ℕ → ℕ → ℕ → List ℕ
+generated_token seed size edits i =
+    codes ",\"n" ++ (decimal i ++ (codes "\":{\"$value\":" ++ (generated_value seed size edits i ++ codes "}")))
 
 -- the file after so many edits: a group of as many tokens
 unfoldable pub core_text : ℕ → ℕ → ℕ → List ℕ
 core_text seed size edits =
     codes "{\"t\":{\"$type\":\"dimension\""
-    ++ (flat_map (token_text seed size edits) (range_with_len 0 size) ++ codes "}}")
+    ++ (flat_map (generated_token seed size edits) (range_with_len 0 size) ++ codes "}}")

@@ -1,7 +1,9 @@
 // The generated file `core.json`: chains of ten tokens, each with a literal at its start.
 ghost use Rattle.std.specs.Prelude.{◌≡◌, ◌<◌, ◌≤◌, ◌^◌, ◌++◌, codes, IfOk, OnOk};
 ghost use Rattle.std.specs.Fmt.{decimal};
-ghost use Rattle.generated_script.specs.Tokens.{core_text, edited, literal, token_text, value_text};
+ghost use Rattle.generated_script.specs.Script.{edit_count};
+ghost use Rattle.generated_script.specs.Tokens.{core_text, edited, generated_token};
+ghost use Rattle.generated_script.specs.Tokens.{generated_value, literal};
 ghost use Rattle.generated_script.specs.declared.script.TheConstants.{MOST_TOKENS};
 
 use itoa::Buffer;
@@ -10,7 +12,7 @@ use tk_io::{Bytes, NoMemory};
 
 // The token whose literal the edit changes.
 fn edited(seed: u64, size: u64, edit: u64) -> u64
-    requires { (seed < 2 ^ 32) × (1 ≤ size) × (size ≤ MOST_TOKENS) × (edit ≤ 20) }
+    requires { (seed < 2 ^ 32) × (1 ≤ size) × (size ≤ MOST_TOKENS) × (edit ≤ edit_count) }
     ensures { result ≡ edited seed size edit }
 {
     let blocks = (size + 9) / 10;
@@ -19,7 +21,8 @@ fn edited(seed: u64, size: u64, edit: u64) -> u64
 
 // The literal of a token after so many edits.
 fn literal(seed: u64, size: u64, edits: u64, i: u64) -> u64
-    requires { (seed < 2 ^ 32) × (1 ≤ size) × (size ≤ MOST_TOKENS) × (edits ≤ 20) × (i < size) }
+    requires { (seed < 2 ^ 32) × (1 ≤ size) × (size ≤ MOST_TOKENS) × (edits ≤ edit_count)
+        × (i < size) }
     ensures { result ≡ literal seed size edits i }
 {
     let mut number = (seed + i) % 100;
@@ -62,8 +65,9 @@ fn add_alias(out: &mut Bytes, i: u64) -> Result<(), NoMemory>
 }
 
 fn add_value(out: &mut Bytes, seed: u64, size: u64, edits: u64, i: u64) -> Result<(), NoMemory>
-    requires { (seed < 2 ^ 32) × (1 ≤ size) × (size ≤ MOST_TOKENS) × (edits ≤ 20) × (i < size) }
-    ensures { OnOk result (out.new ≡ out.old ++ value_text seed size edits i) }
+    requires { (seed < 2 ^ 32) × (1 ≤ size) × (size ≤ MOST_TOKENS) × (edits ≤ edit_count)
+        × (i < size) }
+    ensures { OnOk result (out.new ≡ out.old ++ generated_value seed size edits i) }
 {
     if i % 10 == 0 {
         add_literal(out, literal(seed, size, edits, i))
@@ -73,8 +77,9 @@ fn add_value(out: &mut Bytes, seed: u64, size: u64, edits: u64, i: u64) -> Resul
 }
 
 fn add_token(out: &mut Bytes, seed: u64, size: u64, edits: u64, i: u64) -> Result<(), NoMemory>
-    requires { (seed < 2 ^ 32) × (1 ≤ size) × (size ≤ MOST_TOKENS) × (edits ≤ 20) × (i < size) }
-    ensures { OnOk result (out.new ≡ out.old ++ token_text seed size edits i) }
+    requires { (seed < 2 ^ 32) × (1 ≤ size) × (size ≤ MOST_TOKENS) × (edits ≤ edit_count)
+        × (i < size) }
+    ensures { OnOk result (out.new ≡ out.old ++ generated_token seed size edits i) }
 {
     out.append(b",\"n")?;
     add_number(out, i)?;
@@ -87,7 +92,7 @@ fn add_token(out: &mut Bytes, seed: u64, size: u64, edits: u64, i: u64) -> Resul
 /// The file after so many edits.
 #[tactic(auto, unfolding(crate::specs::Tokens::core_text))]
 pub(crate) fn core_text(alloc: Global, seed: u64, size: u64, edits: u64) -> Result<Bytes, NoMemory>
-    requires { (seed < 2 ^ 32) × (1 ≤ size) × (size ≤ MOST_TOKENS) × (edits ≤ 20) }
+    requires { (seed < 2 ^ 32) × (1 ≤ size) × (size ≤ MOST_TOKENS) × (edits ≤ edit_count) }
     ensures { IfOk result (λ text. text ≡ core_text seed size edits) }
 {
     let mut text = Bytes::new(alloc);

@@ -2,7 +2,8 @@
 ghost use Rattle.std.specs.Prelude.{◌≡◌, ◌<◌, ◌≤◌, ◌^◌, ◌++◌, OnOk};
 ghost use Rattle.std.specs.List.{flat_map, range_with_len};
 ghost use Rattle.edit_script.specs.Script.{commit, event_text, put};
-ghost use Rattle.generated_script.specs.Script.{edit_events, first_events, put_core, resolver_text};
+ghost use Rattle.generated_script.specs.Script.{edit_count, edit_events, first_events, put_core};
+ghost use Rattle.generated_script.specs.Script.{resolver_text};
 ghost use Rattle.generated_script.specs.declared.script.TheConstants.{MOST_TOKENS};
 
 use crate::core_file::{add_number, core_text};
@@ -48,7 +49,7 @@ fn add_core(
     size: u64,
     edits: u64,
 ) -> Result<(), NoMemory>
-    requires { (seed < 2 ^ 32) × (1 ≤ size) × (size ≤ MOST_TOKENS) × (edits ≤ 20) }
+    requires { (seed < 2 ^ 32) × (1 ≤ size) × (size ≤ MOST_TOKENS) × (edits ≤ edit_count) }
     ensures { OnOk result (out.new ≡ out.old ++ event_text (put_core seed size edits)) }
 {
     let text = core_text(alloc, seed, size, edits)?;
@@ -94,7 +95,7 @@ pub(crate) fn add_first(
 
 // Adds an edit of `core.json`, and its commit.
 fn add_edit(alloc: Global, out: &mut Bytes, seed: u64, size: u64, edit: u64) -> Result<(), NoMemory>
-    requires { (seed < 2 ^ 32) × (1 ≤ size) × (size ≤ MOST_TOKENS) × (edit ≤ 20) }
+    requires { (seed < 2 ^ 32) × (1 ≤ size) × (size ≤ MOST_TOKENS) × (edit ≤ edit_count) }
     ensures { OnOk result (out.new ≡ out.old ++ flat_map event_text (edit_events seed size edit)) }
 {
     add_core(alloc, out, seed, size, edit)?;
@@ -110,7 +111,7 @@ pub(crate) fn add_edits(
 ) -> Result<(), NoMemory>
     requires { (seed < 2 ^ 32) × (1 ≤ size) × (size ≤ MOST_TOKENS) }
     ensures { OnOk result (out.new ≡ out.old
-        ++ flat_map event_text (flat_map (edit_events seed size) (range_with_len 1 20))) }
+        ++ flat_map event_text (flat_map (edit_events seed size) (range_with_len 1 edit_count))) }
 {
     for edit in 1..EDITS + 1 {
         add_edit(alloc, out, seed, size, edit)?;

@@ -1,4 +1,4 @@
--- A steered reading of any text comes to its end or gets stuck, where no rule comes to itself without a byte.
+-- A predictive reading of any text comes to its end or gets stuck, where no rule comes to itself without a byte.
 use Rattle.std.proofs.Common.{◌≡◌, ℕ, zero, suc, ◌<◌, ◌≤◌, List, [], ◌∷◌, length, Bool, true, false, ◌||◌, ◌&&◌, not, refl, inl, inr, arith}
 use Rattle.std.specs.Prelude.{◌⊎◌}
 use Rattle.grammar.specs.Grammar.{Rule, empty, byte, seq, alt, many, named, within}

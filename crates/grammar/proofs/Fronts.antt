@@ -1,10 +1,10 @@
--- A text is a front exactly where some text goes on from it to one that is derived.
+-- A text is a viable prefix exactly where some text goes on from it to one that is derived.
 use Rattle.std.proofs.Common.{◌≡◌, ℕ, List, [], ◌∷◌, ◌++◌, true, refl, sym, subst, inl, inr, append_assoc, append-nil}
 use Rattle.std.specs.Prelude.{◌⊎◌}
 use Rattle.grammar.specs.Grammar.{within, Rule, empty, byte, seq, alt, many, named, Reads, no_byte, one_byte, both, left, right, no_more, more, by_name, Derives, IsFront, nothing, whole, in_first, in_second, in_left, in_right, in_next, in_named, EachPasses}
 
 module _ {N : Type 0} (grammar : N → Rule N) where
-  -- more text behind
+  -- more text after
   pub widen : {r : Rule N} {t u : List ℕ} → Reads grammar r t u → (x : List ℕ) → Reads grammar r (t ++ x) (u ++ x)
   widen no_byte x = no_byte
   widen (one_byte h) x = one_byte h
@@ -66,7 +66,7 @@ module _ {N : Type 0} (grammar : N → Rule N) where
   empty_front [] u e = refl
   empty_front (c ∷ v) u e = cc
 
-  -- what goes on to a derived text is a front
+  -- what goes on to a derived text is a viable prefix
   pub is_front : {r : Rule N} (t u : List ℕ) → Derives grammar r (t ++ u) → IsFront grammar r t
   is_front {r} t u d = elim (split d t u refl) as (λ _. IsFront grammar r t) [
     | inl f ↦ f

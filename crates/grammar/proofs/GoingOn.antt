@@ -1,4 +1,4 @@
--- A front goes on to a derived text by bytes that pass a test alone.
+-- A viable prefix goes on to a derived text by bytes that pass a test alone.
 use Rattle.std.proofs.Common.{◌≡◌, ℕ, List, [], ◌∷◌, ◌++◌, Bool, true, false, ◌&&◌, refl, append_assoc, append-nil}
 use Rattle.std.specs.List.{list_all}
 use Rattle.grammar.specs.Grammar.{within, Rule, empty, byte, seq, alt, many, named, Derives, IsFront, no_byte, one_byte, both, left, right, no_more, by_name, nothing, whole, in_first, in_second, in_left, in_right, in_next, in_named, each_begins}

@@ -183,7 +183,7 @@ module _ {N : Type 0} (grammar : N → Rule N) (a : Ahead N) (honest : IsHonest 
   empty_both : (r s : Rule N) (t : List ℕ) → Starts r t t → begins (first a r) t ≡ false → nullable s ≡ true → (nullable r && nullable s) ≡ false → ⊥
   empty_both r s t h f n vis = elim h as (λ _. ⊥) [ inl g ↦ both_ways (begins (first a r) t) g f | inr (e, m) ↦ both_ways (nullable r && nullable s) (and_from (nullable r) (nullable s) m n) vis ]
 
-  -- a steered reading ends where any other ends that can't go on
+  -- a predictive reading ends where any other ends that can't go on
   pub one_end : {rule : Rule N} {t u v : List ℕ} → Steers grammar a rule t u → Reads grammar rule t v → IsSteered a rule → begins (more_in a rule) v ≡ false → u ≡ v
   one_end on_empty no_byte st hv = refl
   one_end (on_byte h) (one_byte k) st hv = refl
@@ -284,11 +284,11 @@ module _ {N : Type 0} (grammar : N → Rule N) (a : Ahead N) (honest : IsHonest 
   )
   moves (on_name x) = let (f, e, fr, fx) = moves x in (f, e, λ z. by_name (fr z), λ z h. on_name (fx z h))
 
-  -- the front before the place where reading gets stuck, and that it gets stuck wherever the same byte follows
+  -- the viable prefix before the place where reading gets stuck, and that it gets stuck wherever the same byte follows
   abbrev pub Halts : Rule N → List ℕ → List ℕ → Type 0
   Halts r t u = (f : List ℕ) × (t ≡ f ++ u) × IsFront grammar r f × ((x : List ℕ) → Alike u x → Stuck grammar a r (f ++ x) x)
 
-  -- a front of the rounds of a repetition, with a round before
+  -- a viable prefix of the rounds of a repetition, with a round before
   round_before : {r : Rule N} {t u : List ℕ} → Reads grammar r t u → IsFront grammar (many r) u → IsFront grammar (many r) t
   round_before x nothing = whole (more x no_more)
   round_before x (whole y) = whole (more x y)
@@ -330,7 +330,7 @@ module _ {N : Type 0} (grammar : N → Rule N) (a : Ahead N) (honest : IsHonest 
     | inr (e, n) ↦ subst (λ z. begins (first a r) z ≡ false) (sym e) (not_empty_way r s u h n)
   ]
 
-  -- a reading that can't go on is the steered one
+  -- a reading that can't go on is the predictive one
   pub steered : {rule : Rule N} {t u : List ℕ} → Reads grammar rule t u → IsSteered a rule → begins (more_in a rule) u ≡ false → Steers grammar a rule t u
   steered no_byte st h = on_empty
   steered (one_byte k) st h = on_byte k

@@ -1,4 +1,4 @@
--- Where the steered reading stops, the longest front ends.
+-- Where the predictive reading stops, the longest viable prefix ends.
 use Rattle.std.proofs.Common.{◌≡◌, ℕ, suc, ◌+◌, ◌-◌, ◌<◌, ◌≤◌, List, [], ◌∷◌, ◌++◌, length, take, drop, get_or, true, false, refl, sym, ap, ◌∙◌, subst, inl, inr, append_assoc, append-nil, arith, take-append-drop, take-add}
 use Rattle.std.proofs.lemmas.List.{append_cancel_right, drop_more}
 use Rattle.grammar.specs.Grammar.{Rule, Reads, Derives, IsFront, whole, EachPasses, named}
@@ -7,7 +7,7 @@ use Rattle.grammar.specs.Stop.{Refuses, Stops}
 use Rattle.grammar.proofs.Fronts.{goes_on}
 use Rattle.grammar.proofs.Predicts.{moves, halts, stuck_not, one_end}
 
--- the longer front is the shorter one and what comes after it
+-- the longer prefix is the shorter one and what comes after it
 longer : (text : List ℕ) (at n : ℕ) → at ≤ length text → take (at + n) text ≡ take at text ++ take n (drop at text)
 longer text at n h = take-add at n text
 

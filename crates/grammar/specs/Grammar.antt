@@ -1,4 +1,4 @@
--- A grammar over bytes: what its rules derive, and the fronts of what they derive.
+-- A grammar over bytes: what its rules derive, and the viable prefixes of what they derive.
 use Rattle.std.specs.Prelude.{◌≡◌, ℕ, List, [], ◌∷◌, Bool, true, ◌&&◌, nat_le}
 
 -- N has the names of the rules that other rules go through.
@@ -34,7 +34,8 @@ pub data Reads {N : Type 0} (grammar : N → Rule N) : Rule N → List ℕ → L
 abbrev pub Derives : {N : Type 0} → (N → Rule N) → Rule N → List ℕ → Type 0
 Derives grammar r t = Reads grammar r t []
 
--- The text is a front of what the rule derives: it is empty, or derived, or has some parts derived and then a front of the next part.
+-- The text is a viable prefix of what the rule derives: it is empty, or derived, or has some parts derived and then a
+-- viable prefix of the next part.
 pub data IsFront {N : Type 0} (grammar : N → Rule N) : Rule N → List ℕ → Type 0 where
   nothing : {r : Rule N} → IsFront grammar r []
   whole : {r : Rule N} {t : List ℕ} → Derives grammar r t → IsFront grammar r t

@@ -14,7 +14,7 @@ run_block p xs i n h =
     ∙ (prefix_len-append p (take n (drop i xs)) (drop (i + n) xs)
     ∙ ap (λ m. cond (prefix_len p (take n (drop i xs)) == m) (m + prefix_len p (drop (i + n) xs)) (prefix_len p (take n (drop i xs)))) (length-chunk i n xs h))
 
--- a run that passes a whole block goes on behind it
+-- a run that passes a whole block goes on after it
 pub run_whole : (p : ℕ → Bool) (xs : List ℕ) (i n r : ℕ) → i + n ≤ length xs → r ≡ prefix_len p (take n (drop i xs)) → n ≤ r → prefix_len p (drop i xs) ≡ n + prefix_len p (drop (i + n) xs)
 run_whole p xs i n r h e le =
     let short : r ≤ n = omega (arith, prefix_len-le-length p (take n (drop i xs)), length-chunk i n xs h) in
@@ -25,7 +25,7 @@ pub run_stops : (p : ℕ → Bool) (xs : List ℕ) (i n r : ℕ) → i + n ≤ l
 run_stops p xs i n r h e lt =
     run_block p xs i n h ∙ rw (sym e) (let f : (r == n) ≡ false = grind (arith, nat_tests) in rw f)
 
--- where a run ends: within the list, behind elements that pass, before one that does not
+-- where a run ends: within the list, after elements that pass, before one that does not
 pub end_within : (p : ℕ → Bool) (xs : List ℕ) (from end : ℕ) → from ≤ length xs → end ≡ from + prefix_len p (drop from xs) → end ≤ length xs
 end_within p xs from end room e = omega (arith, prefix_len-le-length p (drop from xs), length-drop from xs)
 

@@ -1,7 +1,7 @@
 //! Times nothing itself: runs one scan over a text of 1 MiB again and again, so that `bench/lanes` can time it.
 //!
-//! Words: the scan (`special`, `blank`, `count` or `last`), `lanes` or `plain`, and the number of rounds. It prints the
-//! sum of the answers, which is the same by lanes and by plain loops.
+//! Arguments: the scan (`special`, `blank`, `count` or `last`), `lanes` or `plain`, and the number
+//! of rounds. It prints the sum of the answers, which is the same by lanes and by plain loops.
 #![tactic(auto)]
 
 mod plain;

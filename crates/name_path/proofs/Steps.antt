@@ -1,5 +1,5 @@
 -- Steps that are read one after another, and what is left of a segment.
-use Rattle.std.proofs.Common.{◌≡◌, ◌≢◌, ℕ, suc, ◌+◌, ◌<◌, List, [], ◌∷◌, ◌++◌, refl, sym, ap, ap₂, ◌∙◌, subst, append_assoc, length, take, get_or, map, All, Bor, arith, ◌≤◌, ◌==◌, ◌-◌, drop, length-drop, drop-cons, add-one}
+use Rattle.std.proofs.Common.{◌≡◌, ◌≢◌, ℕ, suc, ◌+◌, ◌<◌, List, [], ◌∷◌, ◌++◌, refl, sym, ap, ap₂, ◌∙◌, subst, append_assoc, length, take, get_or, map, All, arith, ◌==◌, ◌-◌, drop, length-drop, drop-cons, add-one}
 use Rattle.std.specs.List.{slice_split, join_with_byte}
 use Rattle.std.proofs.lemmas.List.{take-append-drop, take_more, take_all, length-map, get_or-map}
 use Rattle.std.proofs.lemmas.List.Elements.{All-get_or, All-cons, All-nil, All-tail}
@@ -57,7 +57,7 @@ all_front P xs ys zs e h = front xs ys (subst (All P) e h)
     front [] vs k = All-nil P
     front (u ∷ us) vs k = All-cons P u us (k 0 u (omega (arith))) (front us vs (All-tail P u (us ++ vs) k))
 
--- the rest behind an escape is shorter, and has no '/'
+-- the rest after an escape is shorter, and has no '/'
 pub all_back : (P : ℕ → Type 0) (xs ys zs : List ℕ) → zs ≡ xs ++ ys → All P zs → All P ys
 all_back P xs ys zs e h = back xs (subst (All P) e h)
   where
@@ -65,7 +65,7 @@ all_back P xs ys zs e h = back xs (subst (All P) e h)
     back [] k = k
     back (u ∷ us) k = back us (All-tail P u (us ++ ys) k)
 
--- the steps of a pointer are what the pieces behind the first '/' spell
+-- the steps of a pointer are what the pieces after the first '/' spell
 pointer_join : (steps : List (List ℕ)) → pointer_text steps ≡ join_with_byte 47 ((35 ∷ []) ∷ map escaped_step steps)
 pointer_join [] = refl
 pointer_join (x ∷ xs) = ap (λ (z : List ℕ). 35 ∷ z) (steps_join x xs)

@@ -10,7 +10,7 @@ use crate::pieces::around;
 use std::alloc::Global;
 use tk_io::{Bytes, NoMemory, behind};
 
-/// What the escape behind a `~` stands for and what follows it, or none where there is no escape.
+/// What the escape after a `~` stands for and what follows it, or none where there is no escape.
 fn behind_tilde<'a>(text: &'a str) -> Option<(&'static str, &'a str)>
     ensures some { IfSome result (λ p. 126 ∷ text.entry.now ≡ escaped_step p.0.now ++ p.1.now) }
     ensures shorter { IfSome result (λ p. length p.1.now < length text.entry.now) }

@@ -3,7 +3,7 @@ use crate::{Kind, Path, Trail};
 use tk_io::Sequence;
 
 /// A reference without steps that stands in a value.
-#[derive(Drop)]
+#[derive(Debug, Drop)]
 pub struct Link<'s> {
     /// The steps to the reference from the whole value.
     pub trail: Trail<'s>,

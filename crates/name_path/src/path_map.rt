@@ -16,8 +16,8 @@ use std::marker::Model;
 use tk_io::NoMemory;
 
 /// Values under paths, seen as a finite map whose keys are in path order. It is a list in that order: an entry whose path
-/// is the greatest is appended, and others make room by moving those behind them.
-#[derive(Drop)]
+/// is the greatest is appended, and others make room by moving those after them.
+#[derive(Debug, Drop)]
 pub struct PathMap<'s, V> {
     entries: Vec<(Path<'s>, V)>,
 }

@@ -113,7 +113,8 @@ fn steps_of<'s>(alloc: Global, text: &Text<'s>) -> Result<Trail<'s>, RefStop>
     Err(RefStop::BadRef)
 }
 
-/// The steps before the first `$value` and those behind it, of which there are none where there is no `$value`.
+/// The steps before the first `$value` and those after it, of which there are none where there is
+/// no `$value`.
 fn cut<'a, 's>(steps: &'a [Text<'s>]) -> (&'a [Text<'s>], &'a [Text<'s>])
     ensures { IsValueCut steps.entry.now result.0.now result.1.now }
 {
@@ -125,8 +126,9 @@ fn cut<'a, 's>(steps: &'a [Text<'s>]) -> (&'a [Text<'s>], &'a [Text<'s>])
     (steps, &steps[..0])
 }
 
-/// Reads a pointer to a place, as `#/a/b/$value/0`; `#/a/b` is the token's whole value (RFC 6901 behind `#`, without percent
-/// encoding). It is `BadRef` exactly where the text spells no place. Any text is a step behind `$value`.
+/// Reads a pointer to a place, as `#/a/b/$value/0`; `#/a/b` is the token's whole value (RFC 6901
+/// after `#`, without percent encoding). It is `BadRef` exactly where the text spells no place. Any
+/// text is a step after `$value`.
 pub fn read_pointer<'s>(alloc: Global, text: &Text<'s>) -> Result<Place<'s>, RefStop>
     ensures place { IfOk result (λ place. SpellsPlace text.now place) }
     ensures bad { IsErrOf result RefStop.BadRef → (place : Place) → ¬ SpellsPlace text.now place }

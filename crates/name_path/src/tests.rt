@@ -8,7 +8,7 @@ use std::cmp::Ordering;
 use std::test::Fail;
 use tk_io::{Bytes, NoMemory, Text};
 
-// The texts, with a line's end behind each.
+// The texts, with a line's end after each.
 fn lines(alloc: Global, texts: &[Text<'_>]) -> Result<Bytes, NoMemory> {
     let mut lines = Bytes::new(alloc);
     for text in texts {

@@ -17,7 +17,7 @@ pub type Marks = Sequence<usize>;
 
 /// A graph of numbered nodes, seen as the list of each node's edges: the numbers of the nodes that it leads to, as they
 /// were given.
-#[derive(Drop)]
+#[derive(Debug, Drop)]
 pub struct Graph {
     alloc: Global,
     targets: Vec<Vec<usize>>,

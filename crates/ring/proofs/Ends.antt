@@ -48,7 +48,7 @@ module _ {N : Type 0} (needs : N → List N) where
   ends_along at (x ∷ xs) e l v (inl p) = subst (Ends needs) (sym p) (ends_next needs at x e l.0)
   ends_along at (x ∷ xs) e l v (inr i) = ends_along x xs (ends_next needs at x e l.0) l.1 v i
 
-  -- the way from a node behind another on a route
+  -- the way from a node after another on a route
   pub leads_tail : (at : N) (xs : List N) (x : N) (ys : List N) → IsChain needs at (xs ++ x ∷ ys) → IsChain needs x ys
   leads_tail at [] x ys l = l.1
   leads_tail at (z ∷ xs) x ys l = leads_tail z xs x ys l.1

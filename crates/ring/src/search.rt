@@ -10,7 +10,7 @@ ghost use Rattle.ring.specs.Answer.{IfRing, IfOrder};
 use std::alloc::{AllocError, Global};
 
 /// What a search finds: either answer lists nodes by their numbers.
-#[derive(Drop)]
+#[derive(Debug, Drop)]
 pub enum Found {
     /// The ring of the first closed route, from the node to which the route comes back.
     Ring(Vec<usize>),

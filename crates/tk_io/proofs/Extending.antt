@@ -10,7 +10,7 @@ extends_self xs = ([], sym (append-nil xs))
 pub extends_more : (old mid new : List ℕ) → Extends old mid → Extends mid new → Extends old new
 extends_more old mid new p q = (p.0 ++ q.0, q.1 ∙ (ap (λ (z : List ℕ). z ++ q.0) p.1 ∙ append_assoc old p.0 q.0))
 
--- the bytes that there were stand in front
+-- the bytes that there were come first
 pub front_kept : (old new : List ℕ) → Extends old new → take (length old) new ≡ old
 front_kept old new p = ap (take (length old)) p.1 ∙ take-append_seam old p.0
 

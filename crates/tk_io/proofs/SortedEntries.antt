@@ -1,5 +1,5 @@
--- A list of entries whose keys rise, as a finite map: looked through by halves, put into at a place, written over at one,
--- taken from. For every map that is kept as such a list, here and in the crates above.
+-- A list of entries whose keys rise, as a finite map: looked through by halves, put into at a place, written over at
+-- one, taken from. For every map that is kept as such a list, here and in the crates above.
 use Rattle.std.proofs.Common.{◌≡◌, ◌<◌, ◌≤◌, ℕ, zero, suc, ◌+◌, ◌-◌, Bool, true, false, ◌&&◌, not, cond, T, List, [], ◌∷◌, length, set, Some, None, Result, Ok, Err, refl, sym, ap, subst, ◌∙◌, arith, Ordering, Less, Equal, Greater}
 use Rattle.std.specs.Cmp.{IsTotalOrder, tied_itself, alike_right, eq_by_cmp_equiv}
 use Rattle.std.specs.FinMap as map
@@ -46,7 +46,7 @@ swapped_cond true x y = refl
 swapped_cond false x y = refl
 
 module _ {E L Y : Type 0} {R : L → L → Ordering} (o : IsTotalOrder R) (key : E → L) (value : E → Y) where
-  -- the key of an entry is below the keys of those behind it
+  -- the key of an entry is below the keys of those after it
   later : (x : E) (xs : List E) → T (below_all R (key x) (keyed_view key value xs)) → (i : ℕ) (d : E) → i < length xs → R (key x) (key (slice_index_or xs i d)) ≡ Less
   later x [] h i d within = absurd (omega (arith, within))
   later x (y ∷ ys) h zero d within = less _ (first _ _ h)
@@ -69,7 +69,7 @@ module _ {E L Y : Type 0} {R : L → L → Ordering} (o : IsTotalOrder R) (key :
       ap (λ r. cond (is_eq r) (Some (value x)) (find R q (keyed_view key value xs))) (before x xs q (first _ _ h) i d below tie)
       ∙ found_at q xs i d (second _ _ h) below tie
 
-  -- a key's place: the entries before it are below the key, and those behind are above
+  -- a key's place: the entries before it are below the key, and those after it are above
   abbrev pub IsPlace : L → List E → ℕ → Type 0
   IsPlace q es i = IsPartitionPoint (λ y. R (key y) q ≡ Less) (λ y. R (key y) q ≡ Greater) es i
 
@@ -119,7 +119,7 @@ module _ {E L Y : Type 0} {R : L → L → Ordering} (o : IsTotalOrder R) (key :
       ap (λ r. cond (not (is_eq r)) ((key x, value x) ∷ where_key R (λ k. not (eq_by_cmp R q k)) (keyed_view key value xs)) (where_key R (λ k. not (eq_by_cmp R q k)) (keyed_view key value xs))) (turned (key x) q Greater (h.1 0 x (omega arith) (omega arith)))
       ∙ ap (λ l. (key x, value x) ∷ l) (kept q xs (place_above q x xs h))
 
-  -- the entries behind one that ties with a key are above that key
+  -- the entries after one that ties with a key are above that key
   above : (x : E) (xs : List E) (q : L) → R (key x) q ≡ Equal → T (below_all R (key x) (keyed_view key value xs)) → IsPlace q xs 0
   above x xs q tie h = (λ k d low high. absurd (omega (arith, high)), λ k d low high. turned q (key (slice_index_or xs k d)) Less (sym (o.congr (key x) q (key (slice_index_or xs k d)) tie) ∙ later x xs h k d high))
 
@@ -154,7 +154,7 @@ module _ {E L Y : Type 0} {R : L → L → Ordering} (o : IsTotalOrder R) (key :
       let here : R (key (slice_index_or es m e)) q ≡ Less = ap (λ x. R (key x) q) (get_or_default es m e d within) ∙ less_here in
       index_less (R (key (slice_index_or es k e)) q) (omega (arith, compared es q h k m e before within, ap ordering_index here))
 
-  -- .. and those behind one that is above a key are above it too
+  -- .. and those after one that is above a key are above it too
   pub above_too : (q : L) (es : List E) (m : ℕ) (d : E) → T (is_sorted R (keyed_view key value es)) → m < length es → R (key (slice_index_or es m d)) q ≡ Greater → (k : ℕ) (e : E) → m ≤ k → k < length es → R (key (slice_index_or es k e)) q ≡ Greater
   above_too q es m d h within above_here k e behind inside =
       let here : R (key (slice_index_or es m e)) q ≡ Greater = ap (λ x. R (key x) q) (get_or_default es m e d within) ∙ above_here in

@@ -47,14 +47,15 @@ impl Bytes {
         Ok(())
     }
 
-    /// Takes away all bytes behind the first `len`; none where there are no more than that.
+    /// Takes away all bytes after the first `len`; none where there are no more than that.
     pub fn truncate(&mut self, len: usize)
         ensures { self.new ≡ take len self.old }
     {
         self.items.truncate(len);
     }
 
-    /// Ends a run of appends that began at the length `start`: where it was refused, all bytes behind `start` are taken away.
+    /// Ends a run of appends that began at the length `start`: where it was refused, all bytes
+    /// after `start` are taken away.
     pub fn all_or_nothing(
         &mut self,
         start: usize,

@@ -7,7 +7,7 @@ use crate::{Failed, Sink, Source};
 use std::marker::Model;
 
 /// A source over a slice that tells what it has left and never fails.
-#[derive(Drop)]
+#[derive(Debug, Drop)]
 pub struct CleanSource<'a> {
     bytes: &'a [u8],
 }

@@ -9,7 +9,7 @@ use crate::{Failed, Sink, Source};
 use std::marker::Model;
 
 /// A source over a slice. Its calls are numbered from 1, and those whose number is listed fail.
-#[derive(Drop)]
+#[derive(Debug, Drop)]
 pub struct MemSource<'a> {
     bytes: &'a [u8],
     fails: &'a [u64],
@@ -76,7 +76,7 @@ impl<'a> Source for MemSource<'a> {
 
 /// A sink over a room. Its calls are numbered from 1; those whose number is listed fail, and so do those of a piece that
 /// is not empty where the room is full. Each other call takes at most `most` bytes.
-#[derive(Drop)]
+#[derive(Debug, Drop)]
 pub struct MemSink<'a> {
     fails: &'a [u64],
     most: usize,

@@ -12,7 +12,7 @@ use std::alloc::Global;
 use std::marker::Model;
 
 /// The bytes of each output file, seen as a finite map from path to bytes.
-#[derive(Drop)]
+#[derive(Debug, Drop)]
 pub struct Outputs {
     bodies: TextMap<Bytes>,
 }

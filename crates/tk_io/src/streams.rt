@@ -9,7 +9,7 @@ use std::io::{Read, Write};
 use std::marker::Model;
 
 /// A reader as a source, seen as the reader and the count of its errors.
-#[derive(Drop)]
+#[derive(Debug, Drop)]
 pub struct StdSource<R> {
     inner: R,
     faults: u64,
@@ -59,7 +59,7 @@ impl<R: Read> Source for StdSource<R> {
 }
 
 /// A writer as a sink, seen as the writer and the count of its errors and of the writes that took nothing of a piece.
-#[derive(Drop)]
+#[derive(Debug, Drop)]
 pub struct StdSink<W> {
     inner: W,
     faults: u64,

@@ -129,7 +129,7 @@ fn texts_bytes_and_lists_hold_what_was_put(rt: HostRuntime) -> Result<(), Fail> 
     Ok(())
 }
 
-// The pieces between the commas inside brackets, with `|` behind each.
+// The pieces between the commas inside brackets, with `|` after each.
 fn pieces(alloc: Global, text: &Text<'_>) -> Result<Bytes, NoMemory> {
     let mut out = Bytes::new(alloc);
     let Some(inside) = text.inside(alloc, '[', ']')? else {

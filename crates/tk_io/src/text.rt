@@ -99,7 +99,8 @@ impl<'s> Text<'s> {
     }
 }
 
-/// What stands behind the character at the text's beginning, or none where the text does not begin with it.
+/// What stands after the character at the text's beginning, or none where the text does not begin
+/// with it.
 pub fn behind<'a>(text: &'a str, first: char) -> Option<&'a str>
     requires { first < 128 }
     ensures { MatchOption result ((rest : List ℕ) → text.entry.now ≢ first ∷ rest)

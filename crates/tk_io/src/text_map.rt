@@ -16,8 +16,8 @@ use std::cmp::Ordering;
 use std::marker::Model;
 
 /// Values under texts, seen as a finite map whose keys are in byte order. It is a list in that order: an entry whose key
-/// is the greatest is appended, and others make room by moving those behind them.
-#[derive(Drop)]
+/// is the greatest is appended, and others make room by moving those after them.
+#[derive(Debug, Drop)]
 pub struct TextMap<V> {
     entries: Vec<(String, V)>,
 }

@@ -1,4 +1,4 @@
--- The command line as clap's definitions see it, and the words that clap is given.
+-- The command line as clap's definitions see it, and the arguments that clap is given.
 use Rattle.std.specs.Prelude.{codes, Bool, true, false, not, ◌==◌, ◌&&◌, ◌||◌, nat_le, length, List, [], ◌∷◌, Option, Some, None, if◌then◌else◌}
 use Rattle.std.specs.List.{list_all}
 use Rattle.std.specs.Str.{bytes_eq}
@@ -6,7 +6,7 @@ use Rattle.clap.specs.Simple.{App, new_app, new_rule, with_rule, with_subcommand
 use Rattle.clap.specs.Walk.{Row, Rule, Text, first_of}
 use Rattle.command_words.specs.declared.command.Command.{Command}
 use Rattle.command_words.specs.declared.command.Command.TheVariants.{Build, Replay, Stats}
-use Rattle.command_words.specs.Words.{gen_of, seed_of, size_of}
+use Rattle.command_words.specs.Words.{gen_of, seed_of, token_count_of}
 
 abbrev pub seed_rule : Rule
 seed_rule = record (new_rule (codes "seed")) { required = true }
@@ -25,11 +25,11 @@ tokc_app =
     with_subcommand (with_subcommand (with_subcommand (with_subcommand root_app
     (new_app (codes "build")).top) (new_app (codes "replay")).top) (new_app (codes "stats")).top) gen_app.top
 
--- the command `gen` with these words for its arguments
+-- the command `gen` with these arguments
 abbrev pub gen_in : Option Text → Option Text → Option Command
 gen_in None size = None
 gen_in (Some seed) None = None
-gen_in (Some seed) (Some size) = gen_of (seed_of seed) (size_of size)
+gen_in (Some seed) (Some size) = gen_of (seed_of seed) (token_count_of size)
 
 -- the command that clap's matches show: of a subcommand and the values of its arguments
 abbrev pub command_in : Option (Text × List Row) → Option Command
@@ -40,17 +40,17 @@ command_in (Some p) =
     else (if bytes_eq p.0 (codes "stats") then Some Stats
     else gen_in (first_of (codes "seed") p.1) (first_of (codes "size") p.1)))
 
--- the word is not empty and does not begin with a dash (45)
-abbrev pub is_plain : Text → Bool
-is_plain [] = false
-is_plain (c ∷ cs) = not (c == 45)
+-- the argument is not empty and does not begin with a dash (45)
+abbrev pub is_positional : Text → Bool
+is_positional [] = false
+is_positional (c ∷ cs) = not (c == 45)
 
 abbrev pub is_known : Text → Bool
 is_known w =
     bytes_eq w (codes "build")
     || (bytes_eq w (codes "replay") || (bytes_eq w (codes "stats") || bytes_eq w (codes "gen")))
 
--- words that are handed on: a known word first, and no more than four
+-- arguments that are handed on: a known name first, and no more than four
 abbrev pub is_ready : List Text → Bool
 is_ready [] = false
-is_ready (w ∷ ws) = is_known w && (list_all is_plain ws && nat_le (length ws) 3)
+is_ready (w ∷ ws) = is_known w && (list_all is_positional ws && nat_le (length ws) 3)

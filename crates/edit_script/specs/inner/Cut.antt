@@ -6,6 +6,6 @@ use Rattle.std.specs.List.{list_all}
 abbrev pub lacks : ℕ → List ℕ → Bool
 lacks byte bs = list_all (λ b. not (b == byte)) bs
 
--- these stand before and behind the first such byte
+-- these stand before and after the first such byte
 abbrev pub IsFirstCut : ℕ → List ℕ → List ℕ → List ℕ → Type 0
 IsFirstCut byte bs front back = (lacks byte front ≡ true) × (bs ≡ front ++ byte ∷ back)

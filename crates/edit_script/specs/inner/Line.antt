@@ -1,4 +1,4 @@
--- An event's line, and what stands behind it.
+-- An event's line, and what stands after it.
 use Rattle.std.specs.Prelude.{ℕ, List, [], ◌++◌, length, codes}
 use Rattle.std.specs.Fmt.{decimal}
 use Rattle.edit_script.specs.Script.{EventData, put, del, commit}

@@ -15,6 +15,6 @@ ArePlain texts = (texts ≢ []) × EachLacks full_stop texts
 abbrev pub LacksStep : List ℕ → List (List ℕ) → Type 0
 LacksStep step texts = All (λ text. text ≢ step) texts
 
--- the steps before the first `$value` and those behind it
+-- the steps before the first `$value` and those after it
 abbrev pub IsValueCut : List (List ℕ) → List (List ℕ) → List (List ℕ) → Type 0
 IsValueCut steps before behind = LacksStep value_step before × ((steps ≡ before ++ value_step ∷ behind) ⊎ ((steps ≡ before) × (behind ≡ [])))

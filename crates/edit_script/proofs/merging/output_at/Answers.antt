@@ -1,4 +1,4 @@
-use Rattle.std.proofs.Common.{List, ℕ, Some, None, option_map, ap, sym, ◌∙◌}
+use Rattle.std.proofs.Common.{Some, option_map, ap, sym, ◌∙◌}
 use Rattle.std.specs.Option.{option_copied}
 use Rattle.std.specs.String.{string_bytes}
 use Rattle.tk_io.proofs.MapViews.{item_shown}

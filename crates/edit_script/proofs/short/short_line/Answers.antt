@@ -1,5 +1,4 @@
-use Rattle.std.proofs.Common.{◌≡◌, ◌∙◌, ◌+◌, ◌-◌, ℕ, List, length, map, ap, arith, sym, refl}
-use Rattle.edit_script.specs.Delta.{ChangeData}
+use Rattle.std.proofs.Common.{◌≡◌, ◌∙◌, ◌-◌, ℕ, List, length, ap, arith}
 use Rattle.edit_script.specs.View.{Lined}
 use Rattle.edit_script.specs.Stats.{without_lines, gone_count, written_count, short_line}
 use Rattle.edit_script.specs.declared.line.Line.TheVariants.{Short}

@@ -1,6 +1,5 @@
 use Rattle.std.proofs.Common.{ℕ, List, ◌++◌, sym, ap, ◌∙◌, subst, All, ◌≢◌}
 use Rattle.std.proofs.lemmas.Result.{on_ok_weaker}
-use Rattle.name_path.specs.Reference.{escaped_step}
 use Rattle.name_path.proofs.Escaping.{spells_itself}
 use Rattle.name_path.proofs.escapes.append_escaped.Goals as goal
 

@@ -1,4 +1,4 @@
-use Rattle.std.proofs.Common.{◌≡◌, [], sym, ap, ◌∙◌, Err, get_or}
+use Rattle.std.proofs.Common.{◌≡◌, [], ap, Err, get_or}
 use Rattle.name_path.specs.declared.reading.RefStop.TheVariants.{BadRef}
 use Rattle.std.proofs.lemmas.Result.{err_from_is_err_and}
 use Rattle.name_path.proofs.Steps.{lacks_at, spelled_at, step_added}

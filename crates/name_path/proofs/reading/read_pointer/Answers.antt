@@ -1,4 +1,4 @@
-use Rattle.std.proofs.Common.{◌≡◌, ℕ, List, sym, ◌∙◌, subst, true, false}
+use Rattle.std.proofs.Common.{◌≡◌, ℕ, List, sym, subst, true, false}
 use Rattle.name_path.specs.Names.{IsTokenPath}
 use Rattle.name_path.specs.inner.Pieces.{IsValueCut}
 use Rattle.name_path.proofs.Spellings.{no_place}

@@ -1,4 +1,4 @@
-use Rattle.std.proofs.Common.{◌≡◌, ◌==◌, ◌∙◌, rules}
+use Rattle.std.proofs.Common.{◌==◌, ◌∙◌, rules}
 use Rattle.std.specs.List.{slice_split}
 use Rattle.std.proofs.lemmas.List.{map-id}
 use Rattle.std.proofs.lemmas.Iterator.{YieldsList-from_map, items_from_collect}

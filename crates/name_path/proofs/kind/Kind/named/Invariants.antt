@@ -1,4 +1,4 @@
-use Rattle.std.proofs.Common.{◌≡◌, ◌≢◌, ℕ, ◌<◌, get_or}
+use Rattle.std.proofs.Common.{◌≢◌, ℕ, ◌<◌, get_or}
 use Rattle.name_path.specs.declared.kind.Kind.TheVariants.{Color}
 use Rattle.name_path.specs.Kinds.{kind_name}
 use Rattle.name_path.proofs.kind.Kind.named.Given as goal

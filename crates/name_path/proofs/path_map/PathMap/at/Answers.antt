@@ -1,4 +1,4 @@
-use Rattle.std.proofs.Common.{List, ℕ, Some, None, option_map, ap, sym, ◌∙◌}
+use Rattle.std.proofs.Common.{option_map, ap, sym, ◌∙◌}
 use Rattle.std.specs.FinMap as map
 use Rattle.std.specs.List.{slice_get}
 use Rattle.std.specs.Option.{option_copied}

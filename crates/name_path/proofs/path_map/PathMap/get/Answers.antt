@@ -1,4 +1,4 @@
-use Rattle.std.proofs.Common.{ap, sym, subst, Ok, Err, ◌∙◌}
+use Rattle.std.proofs.Common.{ap, sym, subst, ◌∙◌}
 use Rattle.std.specs.FinMap as map
 use Rattle.tk_io.specs.View.{entries_view}
 use Rattle.tk_io.proofs.SortedEntries.{pair_get, pair_none, Rises}

@@ -1,4 +1,4 @@
-use Rattle.std.proofs.Common.{length, ap, sym, ◌∙◌}
+use Rattle.std.proofs.Common.{length, ap, ◌∙◌}
 use Rattle.std.specs.FinMap as map
 use Rattle.tk_io.proofs.SortedEntries.{size_is}
 use Rattle.name_path.proofs.PathMaps.{names_total, names_apart}

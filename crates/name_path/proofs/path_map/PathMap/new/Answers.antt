@@ -1,5 +1,3 @@
-use Rattle.std.proofs.Common.{ap}
-use Rattle.std.specs.FinMap as map
 use Rattle.tk_io.proofs.SortedEntries.{none_is}
 use Rattle.name_path.proofs.PathMaps.{names_total, names_apart}
 use Rattle.name_path.proofs.path_map.PathMap.new.Goals as goal

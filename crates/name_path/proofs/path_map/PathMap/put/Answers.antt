@@ -1,4 +1,4 @@
-use Rattle.std.proofs.Common.{ap, sym, subst, Ok, Err, ◌∙◌}
+use Rattle.std.proofs.Common.{ap, subst, Ok, Err, ◌∙◌}
 use Rattle.std.specs.FinMap as map
 use Rattle.tk_io.proofs.MapViews.{at_insert}
 use Rattle.tk_io.proofs.SortedEntries.{pair_over, pair_put, put_is, sorted_put, Place, shown}

@@ -1,11 +1,11 @@
-// Which words clap is given.
+// Which arguments clap is given.
 ghost use Rattle.std.specs.Prelude.{◌≡◌, map, string_bytes};
 ghost use Rattle.std.specs.List.{list_all};
-ghost use Rattle.command_words.specs.inner.ClapWords.{is_known, is_plain, is_ready};
+ghost use Rattle.command_words.specs.inner.ClapWords.{is_known, is_positional, is_ready};
 
-// Whether the word is not empty and does not begin with a dash.
-fn is_plain(word: &String) -> bool
-    ensures { result ≡ is_plain (string_bytes word.now) }
+// Whether the argument is not empty and does not begin with a dash.
+fn is_positional(word: &String) -> bool
+    ensures { result ≡ is_positional (string_bytes word.now) }
 {
     match word.as_bytes().first() {
         Some(first) => *first != b'-',
@@ -13,10 +13,10 @@ fn is_plain(word: &String) -> bool
     }
 }
 
-fn are_plain(words: &[String]) -> bool
-    ensures { result ≡ list_all (λ w. is_plain (string_bytes w)) words.now }
+fn are_positional(words: &[String]) -> bool
+    ensures { result ≡ list_all (λ w. is_positional (string_bytes w)) words.now }
 {
-    words.iter().all(|word| is_plain(word))
+    words.iter().all(|word| is_positional(word))
 }
 
 // Whether a command has this name.
@@ -26,8 +26,8 @@ fn is_known(word: &str) -> bool
     word == "build" || word == "replay" || word == "stats" || word == "gen"
 }
 
-/// Whether the words are handed to clap: a command's name first, behind it at most three words, and none of these empty
-/// or begun by a dash. No other words are a command.
+/// Whether the arguments are handed to clap: a command's name first, after it at most three more,
+/// and none of these empty or begun by a dash. No other arguments are a command.
 pub(crate) fn is_ready(words: &[String]) -> bool
     ensures { result ≡ is_ready (map string_bytes words.now) }
 {
@@ -37,7 +37,7 @@ pub(crate) fn is_ready(words: &[String]) -> bool
             if !is_known(first.as_str()) {
                 return false;
             }
-            if !are_plain(rest) {
+            if !are_positional(rest) {
                 return false;
             }
             rest.len() <= 3

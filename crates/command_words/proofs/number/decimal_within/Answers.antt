@@ -4,7 +4,7 @@ use Rattle.std.proofs.lemmas.Slice.Eq.{bytes_eq-Decides}
 use Rattle.std.proofs.lemmas.Fmt.{parse-decimal}
 use Rattle.std.specs.Str.{bytes_eq}
 use Rattle.command_words.proofs.NumbersSpelled.{spelled, unspelled}
-use Rattle.command_words.proofs.number.number_in.Goals as goal
+use Rattle.command_words.proofs.number.decimal_within.Goals as goal
 
 pub returns-then-n-low : goal.returns-then-n-low
 returns-then-n-low c =
