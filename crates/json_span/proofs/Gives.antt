@@ -139,7 +139,7 @@ gives_empty k text at inner room name name_end old new small some lt e b lt2 f m
 rest_of : (b : Bracket) {t u : List ℕ} → Steers steered.rules ahead (seq ws (more_of b)) t u → (w : List ℕ) × Reads steered.rules ws t w × Reads steered.rules (more_of b) w u
 rest_of b (on_both {u = w} x y) = (w, reads steered.rules ahead honest_json x, reads steered.rules ahead honest_json y)
 
--- the value that a list was read on behind, as the arm of the match has it
+-- the value after which a list was read on, as the arm of the match has it
 pub built_as : {text : List ℕ} {at room name name_end : ℕ} {old new : List Span} {b c : Built} → b ≡ c →
     IsBuilt text at room name name_end old new b → IsBuilt text at room name name_end old new c
 built_as {text} {at} {room} {name} {name_end} {old} {new} e x = subst (IsBuilt text at room name name_end old new) e x
@@ -217,7 +217,7 @@ or_own (Some g) f = refl
 pub told_as : {x y : Option declared_flaw.Flaw} {told : Option Flaw} → x ≡ y → option_map flaw_view x ≡ told → option_map flaw_view y ≡ told
 told_as {told = told} e is = subst (λ z. option_map flaw_view z ≡ told) e is
 
--- the names of an object once the last of them was read, behind those of the lists around it
+-- the names of an object once the last of them was read, after those of the lists around it
 pub names_read : {text : List ℕ} {room at inner next name name_end base : ℕ} {old nodes : List Span} {outer names more : List NameSpan} {n : NameSpan} {e : Entry} →
     (before : ObjectLeft text room at inner next name name_end old nodes outer names) → more ≡ names ++ n ∷ [] → base ≡ length outer → IsNameOf text n e →
     AreNamesOf text (drop base more) (before.fields ++ e ∷ [])
@@ -237,7 +237,7 @@ module _ {text : List ℕ} {at inner : ℕ} (o : Opens curly text at inner) wher
   module _ {room next name name_end : ℕ} {old nodes new : List Span} {outer names : List NameSpan} (l : ContinuesAs text (left_of true []) at (list_left curly) next)
       (before : ObjectLeft text room at inner next name name_end old nodes outer names) (within_ : next ≤ length text)
       {s : List ℕ} {own_end value_start : ℕ} (q : ReadsTo (named string) text next own_end) (k_ : StringAt (drop next text) s (drop own_end text)) (c : ReadsTo (seq ws (symbol 58)) text own_end value_start) where
-    -- a value that is kept no more, with what stands behind it
+    -- a value that is kept no more, with what stands after it
     object_rest : (n : Placed) (end close : ℕ) → ReadsTo (named value) text value_start end → ValueAt (length text) (drop value_start text) n (drop end text) → ReadsTo (seq ws (more_of curly)) text end close → (f : declared_flaw.Flaw) →
         ((ms : Members) → flaw_in_members room [] (then_members before.fields (a_member s next own_end n ms)) ≡ Some (flaw_view f)) → IsBuilt text at (room + 1) name name_end old new (Flawed f close)
     object_rest n end close x v m f flaws =

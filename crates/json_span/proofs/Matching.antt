@@ -29,7 +29,7 @@ runs text at end before rest {behind = behind} same split begins is =
     let left = subst (λ z. behind ≡ drop (length (slice_range z at end)) rest) same is in
     split ∙ ap (λ z. before ++ z) (front rest p behind starts left) ∙ sym (append_assoc before p behind)
 
--- behind equal prefixes one goes on as the other does not
+-- after equal prefixes one goes on as the other does not
 pub not_same : (s characters before rest p r : List ℕ) → characters ≡ before ++ rest → s ≡ before ++ (p ++ r) → bytes_eq (take (length p) rest) p ≡ false → false ≡ bytes_eq s characters
 not_same s characters before rest p r c e m =
     refused (bytes_eq s characters) (λ t. no_front rest p m r (append_cancel_left before rest (p ++ r) (sym c ∙ sym ((bytes_eq-Decides s characters).0 t) ∙ e)))

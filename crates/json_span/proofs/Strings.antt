@@ -24,7 +24,7 @@ use Rattle.json_span.proofs.Shorts.{choice_read, is_value}
 use Rattle.json_span.proofs.Contents.{content_of_rest}
 use Rattle.json_span.proofs.CharacterScans as characters
 
--- the slice and the text behind it
+-- the slice and the text after it
 pub cut_at : (text : List ℕ) (at end : ℕ) → at ≤ end → drop at text ≡ slice_range text at end ++ drop end text
 cut_at text at end h =
     let e : at + (end - at) ≡ end = omega arith in
@@ -123,7 +123,7 @@ bad_string text at stop lt e x = scan.halt_name text string at stop (scan.halt_s
 pub no_string : (text : List ℕ) (at : ℕ) → at ≤ length text → scan.Sees text (within 34 34) at false → Halts (named string) text at at
 no_string text at h e = scan.halt_name text string at at (scan.halt_first text (one 34) (seq (many char) (one 34)) at at (row.halt_class text (One 34) at h e))
 
--- boundaries of characters: behind a byte of ASCII, and before one
+-- boundaries of characters: after a byte of ASCII, and before one
 pub behind_byte : (text : List ℕ) (c at : ℕ) → IsUtf8 text → c < 128 → at < length text → scan.Sees text (within c c) at true → IsCharBoundary text (at + 1)
 behind_byte text c at utf small lt e =
     let cut : drop at text ≡ get_or text at 0 ∷ drop (at + 1) text = drop_more text at 0 lt in
@@ -141,7 +141,7 @@ not_ended (surrogate_pair a b c d e f g h x) = omega arith
 pub content_within : (text s u : List ℕ) (at : ℕ) → CharactersAt (drop at text) s u → at < length text
 content_within text s u at x = omega (arith, not_ended x, length-drop at text)
 
--- behind the run there is a quote, and no more characters, or a backslash
+-- after the run there is a quote, and no more characters, or a backslash
 is_other : (b : ℕ) → b ≡ 92 → within 92 92 b ≡ false → ⊥
 is_other b e f = let g : within 92 92 92 ≡ false = subst (λ z. within 92 92 z ≡ false) e f in cc
 
@@ -156,7 +156,7 @@ ends_here _ _ _ (surrogate_pair {e = b} e h p q i j r v x) f g = absurd (is_othe
 pub rest_slice : (text bytes : List ℕ) (at : ℕ) → bytes ≡ text → take (length bytes - at) (drop at bytes) ≡ drop at text
 rest_slice text bytes at e = take_rest bytes at ∙ ap (drop at) e
 
--- behind a run of plain bytes a backslash begins an escape
+-- after a run of plain bytes a backslash begins an escape
 pub escape_begins : (text bytes : List ℕ) (from at stop : ℕ) → bytes ≡ text → HasCharacters (drop from text) → ((s u : List ℕ) → CharactersAt (drop from text) s u → (rest : List ℕ) × CharactersAt (drop at text) rest u) → ReadsTo (many unescaped) text at stop → scan.Sees text (within 92 92) stop true →
     BeginsEscape (take (length bytes - stop) (drop stop bytes))
 escape_begins text bytes from at stop e has left x sees = ∥∥₁_elim has ∥∥₁_prop (λ (s, u, k).

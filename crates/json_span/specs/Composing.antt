@@ -74,7 +74,7 @@ ObjectsSayBefore K = (num : List ℕ → K) (inside : List ℕ) (es : List (Plai
     Listed (MemberText num) inside es → (rest : List ℕ) →
     Says num (123 ∷ (inside ++ (125 ∷ rest))) (plain_object (plain_members_of es)) rest
 
--- blanks may stand before the first text, behind each comma, and behind the last text
+-- blanks may stand before the first text, after each comma, and after the last text
 abbrev pub ListsMayBeSpaced : {V : Type 0} → (List ℕ → V → Type 0) → Type 0
 ListsMayBeSpaced {V} R = (first comma last : List ℕ) (ts : List (List ℕ)) (vs : List V) → Blanks first → Blanks comma →
     Blanks last → Pointwise R ts vs → Listed R (first ++ (separated (44 ∷ comma) ts ++ last)) vs

@@ -1,4 +1,4 @@
-//! Building the tree of a value, down to a depth. Behind a flaw the syntax alone is read on.
+//! Building the tree of a value, down to a depth. After a flaw the syntax alone is read on.
 
 ghost use Rattle.std.specs.Prelude.{◌≡◌, ◌+◌, ◌≤◌, ◌<◌, ◌^◌, true, false, length, drop, IfOk, IfErr, OnOk};
 ghost use Rattle.grammar.specs.Grammar.{named};
@@ -29,7 +29,7 @@ pub(crate) enum Built {
 }
 
 impl Built {
-    /// The offset behind the value.
+    /// The offset after the value.
     pub(crate) fn end(&self) -> usize
         ensures { result ≡ end_of_built self.now }
     {
@@ -40,16 +40,16 @@ impl Built {
     }
 }
 
-/// Where a list goes on behind a value.
+/// Where a list goes on after a value.
 #[derive(Clone, Copy, Debug)]
 enum Next {
-    /// Behind a comma and its blanks.
+    /// After a comma and its blanks.
     Item(usize),
-    /// Behind the bracket that closes the list.
+    /// After the bracket that closes the list.
     Closed(usize),
 }
 
-// Reads on behind a value of a list.
+// Reads on after a value of a list.
 fn next_of(text: &str, at: usize, bracket: Bracket) -> Result<Next, usize>
     requires { at ≤ length text.now }
     ensures ok { IfOk result (λ n. IsNext (bracket_of bracket) text.now at n) }
@@ -63,7 +63,7 @@ fn next_of(text: &str, at: usize, bracket: Bracket) -> Result<Next, usize>
     Ok(Next::Closed(end))
 }
 
-// Puts the span of a list in its place, once all values in it stand behind that place.
+// Puts the span of a list in its place, once all values in it stand after that place.
 fn close(nodes: &mut Vec<Span>, index: usize, name: u32, name_end: u32, start: u32, end: u32)
     requires within { index < length nodes.old.items }
     requires small { length nodes.old.items < 2 ^ 32 }

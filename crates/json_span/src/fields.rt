@@ -74,7 +74,7 @@ impl<'d, 's> Iterator for Fields<'d, 's> {
 
     ghost remaining = { item_count fields_view };
 
-    /// The next member, and none behind the last one.
+    /// The next member, and none after the last one.
     fn next(&mut self) -> Option<Field<'d, 's>> {
         if self.at >= self.stop {
             return None;
@@ -106,7 +106,7 @@ impl<'d, 's> Field<'d, 's> {
         span_at(self.document, self.at).name as usize
     }
 
-    /// The offset behind the last byte of its name's string.
+    /// The offset after the last byte of its name's string.
     pub fn end(self) -> usize
         ensures { result ≡ (field_view self.entry).end }
     {

@@ -51,7 +51,7 @@ impl<'d, 's> Iterator for Items<'d, 's> {
 
     ghost remaining = { item_count items_view };
 
-    /// The next element, and none behind the last one.
+    /// The next element, and none after the last one.
     fn next(&mut self) -> Option<NodeRef<'d, 's>> {
         if self.at >= self.stop {
             return None;

@@ -123,7 +123,8 @@ fn flaw_in_pairs(alloc: Global, text: &str, names: &[NameSpan]) -> Result<Option
     Ok(None)
 }
 
-// The names in their order, each with its place among those of the object; equal names stay in the order of the text.
+// The names in their order, each with its place among those of the object; equal names stay in the
+// order of the text.
 fn sort_names<'s>(
     alloc: Global,
     text: &'s str,
@@ -191,7 +192,8 @@ fn flaw_of_names(alloc: Global, text: &str, names: &[NameSpan]) -> Result<Option
     flaw_in_order(alloc, text, names)
 }
 
-/// Takes off the names from a place on, those of an object, and answers the first one that repeats another.
+/// Takes off the names from a place on, those of an object, and answers the first one that repeats
+/// another.
 pub(crate) fn close_names(
     alloc: Global,
     text: &str,

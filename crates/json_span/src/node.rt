@@ -16,8 +16,8 @@ use std::alloc::Global;
 use std::rc::Rc;
 use tk_io::{NoMemory, Text};
 
-/// A value of a JSON text, with a share of the table of the text's values. It is two words, and a copy of it is a count.
-/// Offsets are bytes of the text.
+/// A value of a JSON text, with a share of the table of the text's values. It is two words, and a
+/// copy of it is a count. Offsets are bytes of the text.
 #[derive(Drop)]
 pub struct Node<'s> {
     document: Rc<Document<'s>>,
@@ -61,7 +61,7 @@ impl<'s> Node<'s> {
         self.as_ref().start()
     }
 
-    /// The offset behind its last byte.
+    /// The offset after its last byte.
     pub fn end(&self) -> usize
         ensures { result ≡ end_of (node_view self.now) }
     {

@@ -18,8 +18,8 @@ use std::alloc::Global;
 use std::rc::Rc;
 use tk_io::{NoMemory, Text};
 
-/// A value of a JSON text, borrowed from a [`Node`] of the text. Offsets are bytes of the text. Nothing of a value is decoded
-/// or copied before it is asked for.
+/// A value of a JSON text, borrowed from a [`Node`] of the text. Offsets are bytes of the text.
+/// Nothing of a value is decoded or copied before it is asked for.
 #[derive(Clone, Copy)]
 pub struct NodeRef<'d, 's> {
     document: &'d Rc<Document<'s>>,
@@ -78,7 +78,7 @@ impl<'d, 's> NodeRef<'d, 's> {
         self.span().start as usize
     }
 
-    /// The offset behind its last byte.
+    /// The offset after its last byte.
     pub fn end(self) -> usize
         ensures { result ≡ end_of (ref_view self.entry) }
     {

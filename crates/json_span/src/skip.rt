@@ -1,4 +1,5 @@
-//! Reading the syntax alone, with a list of open brackets: one byte for each, so depth has no bound.
+//! Reading the syntax alone, with a list of open brackets: one byte for each, so depth has no
+//! bound.
 
 ghost use Rattle.std.specs.Prelude.{◌≡◌, ◌≤◌, ◌<◌, ◌++◌, [], ◌∷◌, length, drop, IfOk, IfErr, true, false};
 ghost use Rattle.grammar.specs.Grammar.{named, seq};
@@ -50,7 +51,7 @@ pub(crate) fn before_end(text: &str, at: usize, bracket: Bracket) -> Result<usiz
     }
 }
 
-/// The end of the colon behind a name, and of the blanks around it.
+/// The end of the colon after a name, and of the blanks around it.
 pub(crate) fn colon_end(text: &str, at: usize) -> Result<usize, usize>
     requires { at ≤ length text.now }
     ensures { Scans (seq ws (symbol 58)) text.now at result }
@@ -166,7 +167,7 @@ fn open_row(text: &str, from: usize, brackets: &mut Vec<Bracket>) -> Result<usiz
     Ok(at)
 }
 
-// Reads on behind a value of a list, whose bracket was taken off the open ones.
+// Reads on after a value of a list, whose bracket was taken off the open ones.
 fn go_on(
     text: &str,
     at: usize,
@@ -232,7 +233,7 @@ pub(crate) fn value_end(alloc: Global, text: &str, at: usize) -> Result<usize, S
     skip(text, at, true, Vec::new(alloc))
 }
 
-/// The end of the list whose bracket is open, behind one of its values.
+/// The end of the list whose bracket is open, after one of its values.
 pub(crate) fn list_end(
     alloc: Global,
     text: &str,

@@ -1,6 +1,7 @@
 //! The table of a text's values.
 
-/// The offsets of a member's name (0 where there is none) and of a value, and the place behind the value's last part.
+/// The offsets of a member's name (0 where there is none) and of a value, and the place after the
+/// value's last part.
 #[derive(Clone, Copy, Debug)]
 pub(crate) struct Span {
     pub(crate) name: u32,

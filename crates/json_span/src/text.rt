@@ -13,7 +13,8 @@ use crate::scan::plain_end;
 use std::alloc::Global;
 use tk_io::{NoMemory, Text};
 
-/// The characters of the string that stands there: a slice of the text where no escape stands in it.
+/// The characters of the string that stands there: a slice of the text where no escape stands in
+/// it.
 pub(crate) fn string_text<'s>(alloc: Global, text: &'s str, at: usize) -> Result<Text<'s>, NoMemory>
     requires { StandsString text.now at }
     ensures { IfOk result (λ t. (s : List ℕ) (end : ℕ) → IsString text.entry.now at s end → t ≡ s) }
@@ -26,8 +27,8 @@ pub(crate) fn string_text<'s>(alloc: Global, text: &'s str, at: usize) -> Result
     Text::owned(alloc, characters.as_str())
 }
 
-/// Whether these are the characters of the string that stands there. Only a string with an escape is decoded, and nothing is
-/// kept of it.
+/// Whether these are the characters of the string that stands there. Only a string with an escape
+/// is decoded, and nothing is kept of it.
 pub(crate) fn is_string_of(text: &str, at: usize, characters: &str) -> bool
     requires { StandsString text.now at }
     ensures { (s : List ℕ) (end : ℕ) → IsString text.now at s end → result ≡ bytes_eq s characters.now }

@@ -61,7 +61,8 @@ fn put_string(text: &[u8], out: &mut Bytes) -> Result<(), NoMemory>
     out.append(b"\"")
 }
 
-/// The string of these bytes in quotes; it reads back as they are (`spelling_laws`). Where memory runs out nothing is written.
+/// The string of these bytes in quotes; it reads back as they are (`spelling_laws`). Where memory
+/// runs out nothing is written.
 pub fn write_string_bytes(text: &[u8], out: &mut Bytes) -> Result<(), NoMemory>
     ensures text { OnOk result (out.new ≡ out.old ++ string_text text.now) }
     ensures err { OnErr result (out.new ≡ out.old) }
@@ -81,8 +82,9 @@ pub fn write_string(text: &str, out: &mut Bytes) -> Result<(), NoMemory>
     write_string_bytes(text.as_bytes(), out)
 }
 
-/// The inside of the string, without its quotes. Several of them, with plain characters between each two, are the inside of the joined string
-/// (`spelling_laws`). Where memory runs out nothing is written.
+/// The inside of the string, without its quotes. Several of them, with plain characters between
+/// each two, are the inside of the joined string (`spelling_laws`). Where memory runs out nothing
+/// is written.
 pub fn write_string_inside(text: &str, out: &mut Bytes) -> Result<(), NoMemory>
     ensures text { OnOk result (out.new ≡ out.old ++ inside_text text.now) }
     ensures err { OnErr result (out.new ≡ out.old) }

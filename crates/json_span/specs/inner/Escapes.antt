@@ -11,7 +11,7 @@ HasCharacters t = ∥ ((s : List ℕ) × (u : List ℕ) × CharactersAt t s u) �
 abbrev pub BeginsEscape : List ℕ → Type 0
 BeginsEscape t = ∥ ((s : List ℕ) × (u : List ℕ) × CharactersAt t s u × (get_or t 0 0 ≡ 92)) ∥₁
 
--- the character comes first, and the rest of the string behind so many bytes
+-- the character comes first, and the rest of the string after so many bytes
 abbrev pub StandsFor : List ℕ → ℕ → ℕ → Type 0
 StandsFor t character len = (s u : List ℕ) → CharactersAt t s u →
     (rest : List ℕ) × CharactersAt (drop len t) rest u × (s ≡ encode_utf8 character ++ rest)
