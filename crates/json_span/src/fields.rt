@@ -35,7 +35,8 @@ impl<'d, 's> Fields<'d, 's> {
     // The members from this place to the other.
     pub(crate) fn new(document: &'d Rc<Document<'s>>, at: usize, stop: usize) -> Fields<'d, 's>
         requires { MembersIn document.now.value at stop }
-        ensures { (ms : Members) → MembersLieIn document.entry.now.value at stop ms → fields_view result ≡ entries_in ms }
+        ensures { (ms : Members) → MembersLieIn document.entry.now.value at stop ms
+            → fields_view result ≡ entries_in ms }
     {
         Fields { document, at, stop }
     }

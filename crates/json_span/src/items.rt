@@ -24,7 +24,8 @@ impl<'d, 's> Items<'d, 's> {
     // The values from this place to the other.
     pub(crate) fn new(document: &'d Rc<Document<'s>>, at: usize, stop: usize) -> Items<'d, 's>
         requires { ElementsIn document.now.value at stop }
-        ensures { (ns : Elements) → AllLieIn document.entry.now.value at stop ns → items_view result ≡ elements_in ns }
+        ensures { (ns : Elements) → AllLieIn document.entry.now.value at stop ns
+            → items_view result ≡ elements_in ns }
     {
         Items { document, at, stop }
     }

@@ -85,7 +85,8 @@ pub(crate) fn read_name(text: &str, at: usize) -> Result<NameSpan, usize>
 fn are_same(alloc: Global, text: &str, a: NameSpan, b: NameSpan) -> Result<bool, NoMemory>
     requires first { (e : Entry) × IsNameOf text.now a e }
     requires second { (e : Entry) × IsNameOf text.now b e }
-    ensures { IfOk result (λ r. (e f : Entry) → IsNameOf text.now a e → IsNameOf text.now b f → r ≡ bytes_eq e.name f.name) }
+    ensures { IfOk result (λ r. (e f : Entry) → IsNameOf text.now a e → IsNameOf text.now b f
+        → r ≡ bytes_eq e.name f.name) }
 {
     if a.is_plain && b.is_plain {
         let bytes = text.as_bytes();
@@ -100,7 +101,9 @@ fn are_same(alloc: Global, text: &str, a: NameSpan, b: NameSpan) -> Result<bool,
 fn is_before(alloc: Global, text: &str, names: &[NameSpan], i: usize) -> Result<bool, NoMemory>
     requires within { i < length names.now }
     requires are { (es : List Entry) × AreNamesOf text.now names.now es }
-    ensures { IfOk result (λ b. (es : List Entry) (e : Entry) → AreNamesOf text.now names.now es → slice_get es i ≡ Some e → b ≡ is_seen (reversed_names (take i es) []) e.name) }
+    ensures { IfOk result (λ b. (es : List Entry) (e : Entry) → AreNamesOf text.now names.now es
+        → slice_get es i ≡ Some e
+        → b ≡ is_seen (reversed_names (take i es) []) e.name) }
 {
     for k in 0..i {
         if are_same(alloc, text, names[k], names[i])? {

@@ -34,7 +34,8 @@ impl<'s> Node<'s> {
     // The value that stands at this place.
     pub(crate) fn new(document: Rc<Document<'s>>, at: usize) -> Node<'s>
         requires { ValueIn document.value at }
-        ensures { (a z : ℕ) (t : Placed) → LiesIn document.entry.value a z at t → node_view result ≡ t }
+        ensures { (a z : ℕ) (t : Placed) → LiesIn document.entry.value a z at t
+            → node_view result ≡ t }
     {
         Node { document, at }
     }
