@@ -12,7 +12,7 @@ use std::rc::Rc;
 use tk_io::{NoMemory, Text};
 
 /// The members of an object that are still to come, in written order.
-#[derive(Clone, Copy)]
+#[derive(Clone, Copy, Debug)]
 pub struct Fields<'d, 's> {
     document: &'d Rc<Document<'s>>,
     at: usize,
@@ -21,7 +21,7 @@ pub struct Fields<'d, 's> {
 }
 
 /// A member: its name, the byte offsets of the name's string, and its value.
-#[derive(Clone, Copy)]
+#[derive(Clone, Copy, Debug)]
 pub struct Field<'d, 's> {
     document: &'d Rc<Document<'s>>,
     at: usize,

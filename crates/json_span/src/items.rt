@@ -9,7 +9,7 @@ use crate::table::Document;
 use std::rc::Rc;
 
 /// The elements of an array that are still to come, in written order.
-#[derive(Clone, Copy)]
+#[derive(Clone, Copy, Debug)]
 pub struct Items<'d, 's> {
     document: &'d Rc<Document<'s>>,
     at: usize,

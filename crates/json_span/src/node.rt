@@ -18,7 +18,7 @@ use tk_io::{NoMemory, Text};
 
 /// A value of a JSON text, with a share of the table of the text's values. It is two words, and a
 /// copy of it is a count. Offsets are bytes of the text.
-#[derive(Drop)]
+#[derive(Debug, Drop)]
 pub struct Node<'s> {
     document: Rc<Document<'s>>,
     at: usize,

@@ -20,7 +20,7 @@ use tk_io::{NoMemory, Text};
 
 /// A value of a JSON text, borrowed from a [`Node`] of the text. Offsets are bytes of the text.
 /// Nothing of a value is decoded or copied before it is asked for.
-#[derive(Clone, Copy)]
+#[derive(Clone, Copy, Debug)]
 pub struct NodeRef<'d, 's> {
     document: &'d Rc<Document<'s>>,
     at: usize,

@@ -12,7 +12,7 @@ pub(crate) struct Span {
 }
 
 /// A text, and the spans of its values, each before its parts.
-#[derive(Drop)]
+#[derive(Debug, Drop)]
 pub(crate) struct Document<'s> {
     pub(crate) text: &'s str,
     pub(crate) nodes: Vec<Span>,
