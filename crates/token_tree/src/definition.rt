@@ -8,7 +8,7 @@ use tk_io::Text;
 
 /// A token as it is written in a file. It is seen as plain data, and it is always what its `source`
 /// shows: that is the text of an object without a flaw, which is a token and breaks no rule.
-#[derive(Drop)]
+#[derive(Debug, Drop)]
 pub struct TokenDef<'s> {
     /// The name of the file.
     pub file: &'s str,

@@ -21,7 +21,7 @@ use std::rc::Rc;
 use tk_io::{NoMemory, Text};
 
 /// A group: what it says of itself, and its members.
-#[derive(Drop)]
+#[derive(Debug, Drop)]
 #[cycle(group)]
 pub struct Group<'s> {
     /// `$type`, where given.
@@ -48,7 +48,7 @@ pub struct Extends<'s> {
 
 /// The members of a group, seen as a finite map from name to token or group, in byte order of
 /// names. Copies share them.
-#[derive(Drop)]
+#[derive(Debug, Drop)]
 #[cycle(group)]
 pub struct Members<'s> {
     alloc: Global,
@@ -57,7 +57,7 @@ pub struct Members<'s> {
 }
 
 /// A member of a group under its name.
-#[derive(Drop)]
+#[derive(Debug, Drop)]
 #[cycle(group)]
 pub struct Member<'s> {
     pub name: Text<'s>,
@@ -65,7 +65,7 @@ pub struct Member<'s> {
 }
 
 /// A token or a group. Trees share both.
-#[derive(Drop)]
+#[derive(Debug, Drop)]
 #[cycle(group)]
 pub enum Child<'s> {
     Token(Rc<TokenDef<'s>>),
