@@ -1,4 +1,4 @@
-use Rattle.std.proofs.Common.{◌≡◌, ℕ, ◌-◌, ◌++◌, List, [], true, false, take, drop, length, sym, ap, ◌∙◌, subst, append_assoc, arith, length-drop}
+use Rattle.std.proofs.Common.{◌≡◌, ℕ, ◌-◌, ◌++◌, List, [], false, take, drop, length, sym, ap, ◌∙◌, subst, append_assoc, arith, length-drop}
 use Rattle.std.specs.Prelude.{slice_range}
 use Rattle.std.specs.Char.{encode_utf8}
 use Rattle.std.specs.Str.{bytes_eq}
