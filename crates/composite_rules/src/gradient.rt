@@ -35,7 +35,8 @@ fn clamped(position: Dec) -> Dec
     position
 }
 
-/// An object of a `color` and a number `position`, checked in this order. A position outside of 0 to 1 is the nearer end.
+/// An object of a `color` and a number `position`, checked in this order. A position outside of 0
+/// to 1 is the nearer end.
 impl<'s> Part<'s> for ColorStop {
     type Typed = ColorStop;
 

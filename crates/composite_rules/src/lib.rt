@@ -1,6 +1,6 @@
-//! The types of values that are made of values of other kinds (Design Tokens Format Module 2025.10, composite types), and
-//! with them what a value without references is under each of the thirteen kinds, or the first rule that it breaks and
-//! the steps to the part that breaks it.
+//! The types of values that are made of values of other kinds (Design Tokens Format Module 2025.10,
+//! composite types), and with them what a value without references is under each of the thirteen
+//! kinds, or the first rule that it breaks and the steps to the part that breaks it.
 #![tactic(auto)]
 
 mod border;

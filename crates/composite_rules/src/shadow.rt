@@ -51,8 +51,8 @@ fn inset_under<'s>(alloc: Global, members: &PlainFields<'s>) -> Result<bool, Val
     }
 }
 
-/// An object of a `color`, the lengths `offsetX`, `offsetY`, `blur` and `spread`, and optionally `inset`, true or false,
-/// checked in this order. An absent `inset` is false.
+/// An object of a `color`, the lengths `offsetX`, `offsetY`, `blur` and `spread`, and optionally
+/// `inset`, true or false, checked in this order. An absent `inset` is false.
 impl<'s> Part<'s> for ShadowItem {
     type Typed = ShadowItem;
 

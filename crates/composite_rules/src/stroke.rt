@@ -122,7 +122,8 @@ fn dashes_of<'s>(alloc: Global, plain: &Plain<'s>) -> Result<Stroke, ValueFault<
     Ok(Stroke::Dashes(lengths, cap))
 }
 
-/// A word, or an object of a list `dashArray` of lengths and a word `lineCap`, checked in this order.
+/// A word, or an object of a list `dashArray` of lengths and a word `lineCap`, checked in this
+/// order.
 impl<'s> Part<'s> for Stroke {
     type Typed = Stroke;
 

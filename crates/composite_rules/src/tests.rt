@@ -14,7 +14,8 @@ use std::test::Fail;
 use tk_io::{Bytes, NoMemory};
 use type_rules::ValueFault;
 
-/// The typed value, or the rule and the trail of the first break; `?` where the value has another kind.
+/// The typed value, or the rule and the trail of the first break; `?` where the value has another
+/// kind.
 fn answer(alloc: Global, kind: Kind, text: &str) -> Result<Bytes, NoMemory> {
     let mut out = Bytes::new(alloc);
     let value = plain(alloc, text)?;
@@ -82,7 +83,8 @@ fn table_holds(rt: HostRuntime) -> Result<(), Fail> {
 /// How many items a long list has.
 const MANY: u32 = 100_000;
 
-/// Long lists: the kind, the parts of the text, and those of the answer. The second part is that of each item but the last.
+/// Long lists: the kind, the parts of the text, and those of the answer. The second part is that of
+/// each item but the last.
 const LONG_LISTS: &[(Kind, [&str; 3], [&str; 3])] = &[
     (
         Kind::FontFamily,

@@ -14,7 +14,8 @@ pub struct Transition {
     pub timing: Curve,
 }
 
-/// An object of a `duration`, a duration `delay` and a curve `timingFunction`, checked in this order.
+/// An object of a `duration`, a duration `delay` and a curve `timingFunction`, checked in this
+/// order.
 impl<'s> Part<'s> for Transition {
     type Typed = Transition;
 

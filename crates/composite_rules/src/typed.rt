@@ -60,8 +60,9 @@ fn simple_of<'s>(alloc: Global, kind: Kind, plain: &Plain<'s>) -> Result<Typed<'
 /// The value under the kind, or the first rule that it breaks.
 ///
 /// # Errors
-/// `Broken` with the first broken rule in the order of the kind's parts, each part from its first to its last, and the
-/// steps to the part that breaks it, or to the object that lacks a member; `NoMemory` where memory runs out.
+/// `Broken` with the first broken rule in the order of the kind's parts, each part from its first
+/// to its last, and the steps to the part that breaks it, or to the object that lacks a member;
+/// `NoMemory` where memory runs out.
 pub fn check<'s>(alloc: Global, kind: Kind, plain: &Plain<'s>) -> Result<Typed<'s>, ValueFault<'s>>
     ensures ok { IfOk result (λ typed. value_of kind (plain_view plain.now) ≡ Ok typed) }
     ensures broken { IfErr result (IsBreak (value_of kind (plain_view plain.now))) }

@@ -20,8 +20,8 @@ pub struct Typography<'s> {
     pub line_height: Dec,
 }
 
-/// An object of a `fontFamily`, a length `fontSize`, a `fontWeight`, a length `letterSpacing` and a number `lineHeight`,
-/// checked in this order.
+/// An object of a `fontFamily`, a length `fontSize`, a `fontWeight`, a length `letterSpacing` and a
+/// number `lineHeight`, checked in this order.
 impl<'s> Part<'s> for Typography<'s> {
     type Typed = Typography<'s>;
 

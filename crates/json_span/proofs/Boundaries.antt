@@ -51,7 +51,7 @@ ascii_front (by_name x) e = cc
 is_ascii_number : is_ascii (rules number) ≡ true
 is_ascii_number = refl
 
--- behind what ASCII rules read a character begins, or the text ends
+-- after what ASCII rules read a character begins, or the text ends
 past_ascii : (text k u : List ℕ) (at : ℕ) → IsUtf8 text → at ≤ length text → drop at text ≡ k ++ u → IsAscii k → 0 < length k → IsCharBoundary text (at + length k)
 past_ascii text k u at utf h e a pos =
     let n : ℕ = length k - 1 in

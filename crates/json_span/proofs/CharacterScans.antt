@@ -42,7 +42,7 @@ stuck_past : {t u v : List ℕ} → Steers rules ahead (many unescaped) t u → 
 stuck_past (on_end f) y = y
 stuck_past (on_more x xs) y = gets_stuck (plain x) (stuck_past xs y)
 
--- behind a run no more of it begins
+-- after a run no more of it begins
 ended : {t u : List ℕ} → Steers rules ahead (many unescaped) t u → begins (first ahead unescaped) u ≡ false
 ended (on_end f) = f
 ended (on_more x xs) = ended xs

@@ -14,7 +14,7 @@ use Rattle.json_span.proofs.Saying.{says_frame}
 use Rattle.json_span.proofs.Shorts.{is_value}
 use Rattle.json_span.proofs.Slices.{frame, string_frame}
 
--- behind the first text, each with a comma before it
+-- after the first text, each with a comma before it
 abbrev behind : List (List ℕ) → List ℕ
 behind ts = flat_map (λ t. (44 ∷ []) ++ t) ts
 
@@ -25,7 +25,7 @@ regrouped t ts rest = append_assoc t (behind ts) rest
 first_joined : (t text w rest : List ℕ) (ts : List (List ℕ)) → t ≡ text ++ w → w ≡ behind ts ++ rest → t ≡ separated (44 ∷ []) (text ∷ ts) ++ rest
 first_joined t text w rest ts e f = e ∙ ap (λ z. text ++ z) f ∙ sym (regrouped text ts rest)
 
--- behind a comma
+-- after a comma
 next_joined : (c : ℕ) (t text w rest : List ℕ) (ts : List (List ℕ)) → c ≡ 44 → t ≡ text ++ w → w ≡ behind ts ++ rest → c ∷ t ≡ behind (text ∷ ts) ++ rest
 next_joined c t text w rest ts h e f = λ i. h i ∷ first_joined t text w rest ts e f i
 
@@ -44,7 +44,7 @@ record Found (R : List ℕ → Type 0) (t rest : List ℕ) : Type 0 where
   pub made : t ≡ text ++ rest
   pub is : R text
 
--- the texts that were read behind a first one, up to a bracket
+-- the texts that were read after a first one, up to a bracket
 record Others (R : List (List ℕ) → Type 0) (t : List ℕ) (close : ℕ) (rest : List ℕ) : Type 0 where
   pub texts : List (List ℕ)
   pub made : t ≡ behind texts ++ (close ∷ rest)

@@ -35,7 +35,7 @@ short_in _ _ _ (short_escape {c = c} {s = s} b p x) h n = record { long = omega 
 short_in _ _ _ (unicode_escape b f p q x) h n = absurd (n f)
 short_in _ _ _ (surrogate_pair b f p q g i r v x) h n = absurd (n f)
 
--- the digits behind \u, from this place on
+-- the digits after \u, from this place on
 abbrev pub unit_in : List ℕ → ℕ → Option ℕ
 unit_in t i = code_unit_of (get_or t i 0) (get_or t (i + 1) 0) (get_or t (i + 2) 0) (get_or t (i + 3) 0)
 

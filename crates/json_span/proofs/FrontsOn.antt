@@ -1,4 +1,4 @@
--- A front goes on to a JSON text by ASCII alone.
+-- A viable prefix goes on to a JSON text by ASCII alone.
 use Rattle.std.proofs.Common.{◌≡◌, ℕ, ◌<◌, List, [], ◌∷◌, Bool, true, false, ◌&&◌, refl, arith}
 use Rattle.std.specs.Char.{is_ascii}
 use Rattle.std.specs.List.{list_all}

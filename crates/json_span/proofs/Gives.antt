@@ -9,9 +9,9 @@ use Rattle.grammar.proofs.Steps.{no_longer}
 use Rattle.json_span.specs.Grammar.{Name, value, number, string, ws, one, null_word, false_word, true_word}
 use Rattle.json_span.specs.Steered as steered
 use Rattle.json_span.specs.Steered.{Bracket, square, curly, table, ahead, symbol, open_of, close_of, before_of, more_of, list_of}
-use Rattle.json_span.specs.Tree.{Tree, Placed, placed, an_array, an_object, an_element, Members, a_member, Entry, elements_of, members_of}
-use Rattle.json_span.specs.Reading.{StringAt, BeginsAt, ValueAt, with_span, Shape, null_shape, false_shape, true_shape, number_shape, string_shape, array_shape, object_shape, no_element, no_member}
-use Rattle.json_span.specs.Flaw.{Flaw, too_deep, or_else, flaw_in, flaw_at, flaw_in_elements, flaw_in_members}
+use Rattle.json_span.specs.Tree.{Tree, Placed, placed, an_array, an_object, an_element, a_member, Entry, elements_of, members_of}
+use Rattle.json_span.specs.Reading.{BeginsAt, ValueAt, MemberAt, with_span, Shape, null_shape, false_shape, true_shape, number_shape, string_shape, array_shape, object_shape, no_element, no_member}
+use Rattle.json_span.specs.Flaw.{Flaw, too_deep, or_else, flaw_in, flaw_at, flaw_in_elements}
 use Rattle.json_span.specs.inner.Scan.{ReadsTo}
 use Rattle.json_span.specs.inner.Alternatives.{bracket_of, rule_of_scalar}
 use Rattle.json_span.proofs.Scalars.{scalar_shape}
@@ -22,9 +22,9 @@ use Rattle.json_span.specs.declared.table.Span.{Span}
 use Rattle.json_span.proofs.Spans.{length-spans_of, length-member_spans, spans-push, member_spans-push, grown, closed, scalar_spans}
 use Rattle.json_span.specs.inner.Building.{IsSmall, Opens, IsComma, IsClose, IsNext, IsBuilt, flaw_view, empty_tree}
 use Rattle.json_span.specs.inner.ListsLeft.{list_left, then_elements, then_members, ArrayLeft, ObjectLeft}
-use Rattle.json_span.specs.inner.Names.{IsNameOf, AreNamesOf, names_flaw}
+use Rattle.json_span.specs.inner.Names.{IsNameSpan, AreNamesOf, names_flaw}
 use Rattle.json_span.specs.declared.names.NameSpan.{NameSpan}
-use Rattle.json_span.proofs.Naming.{are_push, own_behind}
+use Rattle.json_span.proofs.Naming.{Named, named_at, are_push, own_behind}
 use Rattle.json_span.specs.declared.alternative.Bracket as declared
 use Rattle.json_span.specs.declared.alternative.Bracket.TheVariants.{Square, Curly}
 use Rattle.json_span.specs.declared.alternative.Scalar.{Scalar}
@@ -67,6 +67,10 @@ pushed_small old new h at end made small lt = omega (arith, ap length made ∙ l
 
 pub opened_small : (text : List ℕ) (at inner : ℕ) (old new : List Span) (h : Span) → IsSmall text at old → ReadsTo ws text (at + 1) inner → new ≡ old ++ h ∷ [] → IsSmall text inner new
 opened_small text at inner old new h small blanks made = record { short = small.short; places = pushed_small old new h at inner made small.places (omega (arith, blanks.forward)) }
+
+-- a comma was read after a value, so there is room for one more
+pub small_after : {text : List ℕ} {at item : ℕ} {nodes new : List Span} (end : ℕ) → IsSmall text at nodes → length new ≤ end → IsComma text end item → IsSmall text item new
+small_after {text} {item = item} end small le comma = record { short = small.short; places = omega (arith, le, list.past_comma text end item comma) }
 
 pub gives_scalar : (scalar : Scalar) (text : List ℕ) (at room name name_end : ℕ) (old new : List Span) (end : ℕ) → at ≤ length text → IsSmall text at old → ReadsTo (rule_of_scalar scalar) text at end → ReadsTo (named value) text at end →
     new ≡ old ++ span name name_end at end (length old + 1) ∷ [] → IsBuilt text at room name name_end old new (Whole end)
@@ -135,11 +139,16 @@ gives_empty k text at inner room name name_end old new small some lt e b lt2 f m
     (empty_flaw (bracket_of k) room at some) (one_span name name_end at (inner + 1) old new (empty_tree (bracket_of k)) none zero_inside made)
     (pushed_small old new (span name name_end at (inner + 1) (length old + 1)) at (inner + 1) made small.places (omega (arith, b.forward)))
 
+-- a list that is open, under the bracket that the arm of the match has
+pub opens_as : {text : List ℕ} {k j : declared.Bracket} {at inner : ℕ} → k ≡ j → at < length text → begins (first ahead (list_of (bracket_of k))) (drop at text) ≡ true → ReadsTo ws text (at + 1) inner →
+    begins (first ahead (one (close_of (bracket_of k)))) (drop inner text) ≡ false → Opens (bracket_of j) text at inner
+opens_as {text} {at = at} {inner = inner} e lt o x s = subst (λ z. Opens (bracket_of z) text at inner) e (record { bound = lt; opens = o; blanks = x; some = s })
+
 -- the blanks and the rest of a list
 rest_of : (b : Bracket) {t u : List ℕ} → Steers steered.rules ahead (seq ws (more_of b)) t u → (w : List ℕ) × Reads steered.rules ws t w × Reads steered.rules (more_of b) w u
 rest_of b (on_both {u = w} x y) = (w, reads steered.rules ahead honest_json x, reads steered.rules ahead honest_json y)
 
--- the value that a list was read on behind, as the arm of the match has it
+-- the value after which a list was read on, as the arm of the match has it
 pub built_as : {text : List ℕ} {at room name name_end : ℕ} {old new : List Span} {b c : Built} → b ≡ c →
     IsBuilt text at room name name_end old new b → IsBuilt text at room name name_end old new c
 built_as {text} {at} {room} {name} {name_end} {old} {new} e x = subst (IsBuilt text at room name name_end old new) e x
@@ -217,13 +226,27 @@ or_own (Some g) f = refl
 pub told_as : {x y : Option declared_flaw.Flaw} {told : Option Flaw} → x ≡ y → option_map flaw_view x ≡ told → option_map flaw_view y ≡ told
 told_as {told = told} e is = subst (λ z. option_map flaw_view z ≡ told) e is
 
--- the names of an object once the last of them was read, behind those of the lists around it
-pub names_read : {text : List ℕ} {room at inner next name name_end base : ℕ} {old nodes : List Span} {outer names more : List NameSpan} {n : NameSpan} {e : Entry} →
-    (before : ObjectLeft text room at inner next name name_end old nodes outer names) → more ≡ names ++ n ∷ [] → base ≡ length outer → IsNameOf text n e →
-    AreNamesOf text (drop base more) (before.fields ++ e ∷ [])
-names_read {text} {base = base} {outer = outer} {names = names} {more = more} {n = n} {e = e} before pushed is is_name =
-    subst (λ z. AreNamesOf text z (before.fields ++ e ∷ [])) (sym (own_behind outer before.own names more n base before.behind pushed is))
-    (are_push text before.own before.fields n e before.are is_name)
+-- a member that was read: its name, its colon, and its value
+pub record MemberRead (text : List ℕ) (room next value_start : ℕ) (n : NameSpan) (nodes new : List Span) (b : Built) : Type 0 where
+  pub own : Named text next n
+  pub name : ReadsTo (named string) text next n.end
+  pub colon : ReadsTo (seq ws (symbol 58)) text n.end value_start
+  pub built : IsBuilt text value_start room next n.end nodes new b
+
+abbrev pub entry_of : {text : List ℕ} {room next value_start : ℕ} {n : NameSpan} {nodes new : List Span} {b : Built} → MemberRead text room next value_start n nodes new b → Entry
+entry_of {next = next} {n = n} m = record { name = m.own.name; start = next; end = n.end; value = m.built.tree }
+
+pub member_read : {text : List ℕ} {room next value_start : ℕ} {n : NameSpan} {nodes new : List Span} {b c : Built} → IsNameSpan text next n → ReadsTo (seq ws (symbol 58)) text n.end value_start → b ≡ c →
+    IsBuilt text value_start room n.start n.end nodes new b → MemberRead text room next value_start n nodes new c
+member_read {text} {next = next} {n = n} read colon_ e x = record { own = named_at text next n read; name = read.reads; colon = colon_; built = built_at read.start e x }
+
+-- the names of an object once the last of them was read, after those of the lists around it
+pub names_read : {text : List ℕ} {room at inner next name name_end base value_start : ℕ} {old nodes new : List Span} {outer names pushed more : List NameSpan} {n : NameSpan} {b : Built} →
+    (before : ObjectLeft text room at inner next name name_end old nodes outer names) → (m : MemberRead text room next value_start n nodes new b) → pushed ≡ names ++ n ∷ [] → more ≡ pushed → base ≡ length outer →
+    AreNamesOf text (drop base more) (before.fields ++ entry_of m ∷ [])
+names_read {text} {base = base} {outer = outer} {names = names} {more = more} {n = n} before m added same is =
+    subst (λ z. AreNamesOf text z (before.fields ++ entry_of m ∷ [])) (sym (own_behind outer before.own names more n base before.behind (same ∙ added) is))
+    (are_push text before.own before.fields n (entry_of m) before.are (m.own.is m.built.tree))
 
 -- where a member's value begins
 pub name_before : {text : List ℕ} {next own_end value_start : ℕ} → ReadsTo (named string) text next own_end → ReadsTo (seq ws (symbol 58)) text own_end value_start →
@@ -235,87 +258,80 @@ module _ {text : List ℕ} {at inner : ℕ} (o : Opens curly text at inner) wher
   object_token = read_of text (symbol 123) at inner (skip.open_token text [] Curly at inner o.bound o.opens o.blanks)
 
   module _ {room next name name_end : ℕ} {old nodes new : List Span} {outer names : List NameSpan} (l : ContinuesAs text (left_of true []) at (list_left curly) next)
-      (before : ObjectLeft text room at inner next name name_end old nodes outer names) (within_ : next ≤ length text)
-      {s : List ℕ} {own_end value_start : ℕ} (q : ReadsTo (named string) text next own_end) (k_ : StringAt (drop next text) s (drop own_end text)) (c : ReadsTo (seq ws (symbol 58)) text own_end value_start) where
-    -- a value that is kept no more, with what stands behind it
-    object_rest : (n : Placed) (end close : ℕ) → ReadsTo (named value) text value_start end → ValueAt (length text) (drop value_start text) n (drop end text) → ReadsTo (seq ws (more_of curly)) text end close → (f : declared_flaw.Flaw) →
-        ((ms : Members) → flaw_in_members room [] (then_members before.fields (a_member s next own_end n ms)) ≡ Some (flaw_view f)) → IsBuilt text at (room + 1) name name_end old new (Flawed f close)
-    object_rest n end close x v m f flaws =
-        let (w, y, z) = rest_of curly m.steers in
+      (before : ObjectLeft text room at inner next name name_end old nodes outer names) (within_ : next ≤ length text) {value_start : ℕ} {n : NameSpan} where
+    -- the flaw of the value, or of a name before it, of an object of which no more is kept
+    pub object_flawed : {f : declared_flaw.Flaw} (first_ : Option declared_flaw.Flaw) {end close : ℕ} → (m : MemberRead text room next value_start n nodes new (Flawed f end)) →
+        option_map flaw_view first_ ≡ names_flaw [] (before.fields ++ entry_of m ∷ []) →
+        ReadsTo (seq ws (more_of curly)) text end close → IsBuilt text at (room + 1) name name_end old new (Flawed (unwrap_or first_ f) close)
+    object_flawed {f} first_ {end} {close} m told left =
+        let s = m.own.name in
+        let g = m.built in
+        let (w, y, z) = rest_of curly left.steers in
         let (ms, more_) = more_members_of (length text) z (omega (arith, no_longer y, length-drop end text)) in
-        let whole = members.member_of text s next own_end value_start end n within_ q.within_text k_ c v in
-        let es = before.fields in
+        let whole = members.member_of text s next n.end value_start end g.tree within_ m.name.within_text m.own.stands m.colon g.value in
+        let all = then_members before.fields (a_member s next n.end g.tree ms) in
         record {
-          tree = placed (an_object (then_members es (a_member s next own_end n ms))) at close;
-          reads = list.whole_list text curly at next l value_start end close (name_before q c) x m;
-          value = with_span (object_shape object_token (before.left.whole s next own_end n (drop end text) w (drop close text) ms whole y more_)) (begins_at text at (omega (arith, o.bound))) (begins_at text close m.within_text);
-          flaw = ap (λ i. flaw_at i at (an_object (then_members es (a_member s next own_end n ms)))) (add-one room) ∙ flaws ms;
+          tree = placed (an_object all) at close;
+          reads = list.whole_list text curly at next l value_start end close (name_before m.name m.colon) g.reads left;
+          value = with_span (object_shape object_token (before.left.whole s next n.end g.tree (drop end text) w (drop close text) ms whole y more_)) (begins_at text at (omega (arith, o.bound))) (begins_at text close left.within_text);
+          flaw = ap (λ i. flaw_at i at (an_object all)) (add-one room) ∙ members.members_flawed text room inner next before.fields before.left s next n.end g.tree ms (flaw_view f) g.flaw
+              ∙ ap (λ z. or_else z (Some (flaw_view f))) (sym told) ∙ or_own first_ f;
           kept = tt;
         }
 
-    -- the flaw of the value, or of a name before it
-    pub object_flawed : {f : declared_flaw.Flaw} (first_ : Option declared_flaw.Flaw) {end close : ℕ} → (g : IsBuilt text value_start room next own_end nodes new (Flawed f end)) →
-        option_map flaw_view first_ ≡ names_flaw [] (before.fields ++ record { name = s; start = next; end = own_end; value = g.tree } ∷ []) →
-        ReadsTo (seq ws (more_of curly)) text end close → IsBuilt text at (room + 1) name name_end old new (Flawed (unwrap_or first_ f) close)
-    object_flawed {f} first_ {end} {close} g told m =
-        object_rest g.tree end close g.reads g.value m (unwrap_or first_ f)
-        (λ ms. members.members_flawed text room inner next before.fields before.left s next own_end g.tree ms (flaw_view f) g.flaw ∙ ap (λ z. or_else z (Some (flaw_view f))) (sym told) ∙ or_own first_ f)
+    module _ {end : ℕ} (m : MemberRead text room next value_start n nodes new (Whole end)) where
+      member_whole : MemberAt (length text) (drop next text) m.own.name next n.end m.built.tree (drop end text)
+      member_whole = members.member_of text m.own.name next n.end value_start end m.built.tree within_ m.name.within_text m.own.stands m.colon m.built.value
 
-    module _ {end : ℕ} (g : IsBuilt text value_start room next own_end nodes new (Whole end)) where
-      abbrev pub own_entry : Entry
-      own_entry = record { name = s; start = next; end = own_end; value = g.tree }
+      -- an object that was read to its end
+      object_reads : {close : ℕ} → IsClose curly text end close → ReadsTo (named value) text at close
+      object_reads {close} i = list.whole_list text curly at next l value_start end close (name_before m.name m.colon) m.built.reads (list.close_reach text curly end close i)
 
-      object_grown : new ≡ old ++ span name name_end at 0 0 ∷ member_spans (length old + 1) (members_of (before.fields ++ own_entry ∷ []))
+      object_there : {close : ℕ} → IsClose curly text end close → Shape (length text) (drop at text) (an_object (members_of (before.fields ++ entry_of m ∷ []))) (drop close text)
+      object_there {close} i = object_shape object_token (members.members_close text room inner next before.fields before.left m.own.name next n.end m.built.tree end close member_whole i)
+
+      object_flaw : {told : Option Flaw} → told ≡ names_flaw [] (before.fields ++ entry_of m ∷ []) → flaw_at (room + 1) at (an_object (members_of (before.fields ++ entry_of m ∷ []))) ≡ told
+      object_flaw is = ap (λ z. flaw_at z at (an_object (members_of (before.fields ++ entry_of m ∷ [])))) (add-one room) ∙ members.members_flaw text room inner next before.fields before.left m.own.name next n.end m.built.tree m.built.flaw ∙ sym is
+
+      object_grown : new ≡ old ++ span name name_end at 0 0 ∷ member_spans (length old + 1) (members_of (before.fields ++ entry_of m ∷ []))
       object_grown =
           let k = length old + 1 in
           let es = before.fields in
-          grown (span name name_end at 0 0) next own_end (member_sizes (members_of es)) old nodes new (member_spans k (members_of es)) g.tree before.made (length-member_spans k (members_of es)) g.kept.0
-          ∙ ap (λ z. old ++ span name name_end at 0 0 ∷ z) (sym (member_spans-push k es own_entry))
+          grown (span name name_end at 0 0) next n.end (member_sizes (members_of es)) old nodes new (member_spans k (members_of es)) m.built.tree before.made (length-member_spans k (members_of es)) m.built.kept.0
+          ∙ ap (λ z. old ++ span name name_end at 0 0 ∷ z) (sym (member_spans-push k es (entry_of m)))
 
-      pub object_whole : {last : List Span} {close : ℕ} → IsClose curly text end close → None ≡ names_flaw [] (before.fields ++ own_entry ∷ []) →
+      pub object_whole : {last : List Span} {close : ℕ} → IsClose curly text end close → None ≡ names_flaw [] (before.fields ++ entry_of m ∷ []) →
           last ≡ set new (length old) (span name name_end at close (length new)) → IsBuilt text at (room + 1) name name_end old last (Whole close)
       object_whole {last} {close} i told is =
-          let es = before.fields in
-          let gs = es ++ own_entry ∷ [] in
+          let gs = before.fields ++ entry_of m ∷ [] in
           let k = length old + 1 in
-          let m = list.close_reach text curly end close i in
-          let whole = members.member_of text s next own_end value_start end g.tree within_ q.within_text k_ c g.value in
-          gives_whole text at (room + 1) name name_end old last (an_object (members_of gs)) close (omega (arith, o.bound))
-          (list.whole_list text curly at next l value_start end close (name_before q c) g.reads m)
-          (object_shape object_token (members.members_close text room inner next es before.left s next own_end g.tree end close whole i))
-          (ap (λ z. flaw_at z at (an_object (members_of gs))) (add-one room) ∙ members.members_flaw text room inner next es before.left s next own_end g.tree g.flaw ∙ sym told)
+          gives_whole text at (room + 1) name name_end old last (an_object (members_of gs)) close (omega (arith, o.bound)) (object_reads i) (object_there i) (object_flaw told)
           (closed (span name name_end at 0 0) name name_end at close (member_sizes (members_of gs)) old new last (member_spans k (members_of gs)) object_grown (length-member_spans k (members_of gs)) is)
-          (closed_small new last (length old) end close (span name name_end at close (length new)) is g.kept.1 m.forward)
+          (closed_small new last (length old) end close (span name name_end at close (length new)) is m.built.kept.1 (list.close_reach text curly end close i).forward)
 
       -- a name that repeats another, in an object that was read to its end
       pub object_again : {f : declared_flaw.Flaw} {close : ℕ} {last : List Span} → IsClose curly text end close →
-          Some (flaw_view f) ≡ names_flaw [] (before.fields ++ own_entry ∷ []) → IsBuilt text at (room + 1) name name_end old last (Flawed f close)
-      object_again {f} {close} i told =
-          let es = before.fields in
-          let gs = es ++ own_entry ∷ [] in
-          let m = list.close_reach text curly end close i in
-          let whole = members.member_of text s next own_end value_start end g.tree within_ q.within_text k_ c g.value in
-          record {
-            tree = placed (an_object (members_of gs)) at close;
-            reads = list.whole_list text curly at next l value_start end close (name_before q c) g.reads m;
-            value = with_span (object_shape object_token (members.members_close text room inner next es before.left s next own_end g.tree end close whole i)) (begins_at text at (omega (arith, o.bound))) (begins_at text close m.within_text);
-            flaw = ap (λ z. flaw_at z at (an_object (members_of gs))) (add-one room) ∙ members.members_flaw text room inner next es before.left s next own_end g.tree g.flaw ∙ sym told;
-            kept = tt;
-          }
+          Some (flaw_view f) ≡ names_flaw [] (before.fields ++ entry_of m ∷ []) → IsBuilt text at (room + 1) name name_end old last (Flawed f close)
+      object_again {f} {close} i told = record {
+        tree = placed (an_object (members_of (before.fields ++ entry_of m ∷ []))) at close;
+        reads = object_reads i;
+        value = with_span (object_there i) (begins_at text at (omega (arith, o.bound))) (begins_at text close (object_reads i).within_text);
+        flaw = object_flaw told;
+        kept = tt;
+      }
 
-      pub object_next : {item : ℕ} {more : List NameSpan} {n : NameSpan} → IsComma text end item → IsNameOf text n own_entry → more ≡ names ++ n ∷ [] →
+      pub object_next : {item : ℕ} {pushed more : List NameSpan} → IsComma text end item → pushed ≡ names ++ n ∷ [] → more ≡ pushed →
           (item ≤ length text) × ContinuesAs text (left_of true []) at (list_left curly) item × ObjectLeft text room at inner item name name_end old new outer more × (next < item)
-      object_next {item} {more} {n} i is_name pushed =
-          let whole = members.member_of text s next own_end value_start end g.tree within_ q.within_text k_ c g.value in (
-            i.behind.within_text,
-            list.item_leads text curly at next l value_start end item (name_before q c) g.reads i,
-            record {
-              fields = before.fields ++ own_entry ∷ [];
-              left = members.members_next text room inner next before.fields before.left s next own_end g.tree end item whole g.flaw i;
-              made = object_grown;
-              own = before.own ++ n ∷ [];
-              behind = pushed ∙ ap (λ z. z ++ n ∷ []) before.behind ∙ append_assoc outer before.own (n ∷ []);
-              are = are_push text before.own before.fields n own_entry before.are is_name;
-            },
-            omega (arith, q.forward, c.forward, g.reads.forward, list.past_comma text end item i),
-          )
+      object_next {item} {pushed} {more} i added same = (
+        i.behind.within_text,
+        list.item_leads text curly at next l value_start end item (name_before m.name m.colon) m.built.reads i,
+        record {
+          fields = before.fields ++ entry_of m ∷ [];
+          left = members.members_next text room inner next before.fields before.left m.own.name next n.end m.built.tree end item member_whole m.built.flaw i;
+          made = object_grown;
+          own = before.own ++ n ∷ [];
+          behind = same ∙ added ∙ ap (λ z. z ++ n ∷ []) before.behind ∙ append_assoc outer before.own (n ∷ []);
+          are = are_push text before.own before.fields n (entry_of m) before.are (m.own.is m.built.tree);
+        },
+        omega (arith, m.name.forward, m.colon.forward, m.built.reads.forward, list.past_comma text end item i),
+      )

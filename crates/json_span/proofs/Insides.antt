@@ -70,7 +70,7 @@ pub inside_last : (text : List ℕ) (at special : ℕ) → at ≤ special → sp
 inside_last text at special h e p =
     ap inside_text (cut_at text at special h ∙ ap (λ z. slice_range text at special ++ z) (drop_all special text (omega arith)) ∙ append-nil (slice_range text at special)) ∙ run_plain (slice_range text at special) p
 
--- a run, the byte behind it, and the rest
+-- a run, the byte after it, and the rest
 pub inside_more : (text : List ℕ) (at special : ℕ) → at ≤ special → special < length text → All (λ x. is_special x ≡ false) (slice_range text at special) →
     inside_text (drop at text) ≡ slice_range text at special ++ (byte_text (get_or text special 0) ++ inside_text (drop (special + 1) text))
 inside_more text at special h lt p =

@@ -43,6 +43,7 @@ pub mod Insides
 mod Lying
 mod CursorsGoOn
 mod Fitting
+mod TakenCharacters
 mod Matching
 pub mod InOrder
 mod FirstFlaw

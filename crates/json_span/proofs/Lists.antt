@@ -36,7 +36,7 @@ comma_all b rest t1 t2 (Ok u) e x (on_both {u = t3} p y) = skip.comma b rest t1 
 comma_all b rest t1 t2 (Err u) e x (at_first a) = at_first (skip.bad_name_behind b t1 t2 u e x a)
 comma_all b rest t1 t2 (Err u) e x (at_second {u = t3} p y) = skip.comma b rest t1 t2 t3 (Err u) e x p y
 
--- with nothing behind
+-- with nothing after it
 stuck_grown : {r s : Rule Name} {t u : List ℕ} → Stuck rules ahead (seq r s) t u → Stuck rules ahead (seq r (seq s empty)) t u
 stuck_grown (at_first k) = at_first k
 stuck_grown (at_second x k) = at_second x (at_first k)
@@ -138,6 +138,6 @@ pub bad_name : (text : List ℕ) (at next : ℕ) → ContinuesAs text (left_of t
 bad_name text at next l (Syntax stop) x = bad_before text curly at next l stop (scan.halt_first text (named string) (seq ws (symbol 58)) next stop x)
 bad_name text at next l NoMemory x = tt
 
--- no colon stands behind the name
+-- no colon stands after the name
 pub bad_colon : (text : List ℕ) (at next name_end : ℕ) → ContinuesAs text (left_of true []) at (list_left curly) next → (stop : ℕ) → ReadsTo (named string) text next name_end → Halts (seq ws (symbol 58)) text name_end stop → Halts (named value) text at stop
 bad_colon text at next name_end l stop q x = bad_before text curly at next l stop (scan.halt_second text (named string) (seq ws (symbol 58)) next name_end stop q x)

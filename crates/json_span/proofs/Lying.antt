@@ -17,7 +17,8 @@ use Rattle.grammar.specs.Predict.{begins}
 use Rattle.json_span.specs.Characters.{CharactersAt}
 use Rattle.json_span.specs.inner.Escapes.{HasCharacters}
 use Rattle.json_span.specs.Reading.{StringAt}
-use Rattle.json_span.specs.inner.Once.{front_of, coded_text, string_at_one}
+use Rattle.json_span.specs.CodedText.{coded_text}
+use Rattle.json_span.specs.inner.Once.{front_of, string_at_one}
 use Rattle.json_span.proofs.Spans.{length-spans, length-spans_of, length-member_spans}
 
 pub got : {A : Type 0} (l : List A) (i : ℕ) (x : A) (r : List A) → drop i l ≡ x ∷ r → slice_get l i ≡ Some x

@@ -25,7 +25,7 @@ use Rattle.json_span.specs.declared.names.NameSpan.{NameSpan}
 use Rattle.json_span.specs.declared.names.PlacedName.{PlacedName}
 use Rattle.json_span.proofs.Naming.{no_name, are_at, are_many, one_entry, told_at, seen_before, flaw_here, flaw_later}
 
--- what stands behind the last
+-- what stands after the last
 pub no_placed : PlacedName
 no_placed = record { name = []; place = 0 }
 

@@ -16,7 +16,7 @@ use Rattle.json_span.specs.declared.names.NameSpan.{NameSpan}
 use Rattle.json_span.proofs.Exists.{string_of}
 use Rattle.json_span.proofs.Lists.{read_of}
 
--- what stands behind the last name
+-- what stands after the last name
 abbrev pub no_name : NameSpan
 no_name = record { start = 0; end = 0; is_plain = false }
 
@@ -127,7 +127,7 @@ pub flaw_push : (names : List (List ℕ)) (es : List Entry) (e : Entry) → name
 flaw_push names [] e = refl
 flaw_push names (f ∷ es) e = or_cond (is_seen names f.name) (equal_names f.start f.end) (names_flaw (f.name ∷ names) (es ++ e ∷ [])) (names_flaw (f.name ∷ names) es) (cond (is_seen (reversed_names es (f.name ∷ names)) e.name) (Some (equal_names e.start e.end)) None) (flaw_push (f.name ∷ names) es e)
 
--- an object's own names behind those around it
+-- an object's own names after those around it
 pub own_behind : (outer own names more : List NameSpan) (n : NameSpan) (i : ℕ) → names ≡ outer ++ own → more ≡ names ++ n ∷ [] → i ≡ length outer → drop i more ≡ own ++ n ∷ []
 own_behind outer own names more n i e f g =
     (λ k. drop (g k) (f k)) ∙ ap (λ z. drop (length outer) (z ++ n ∷ [])) e ∙ ap (drop (length outer)) (append_assoc outer own (n ∷ [])) ∙ drop-append_seam outer (own ++ n ∷ [])

@@ -1,6 +1,6 @@
 -- Values of a text are larger than their parts, and are without their places what their parts are.
 use Rattle.std.proofs.Common.{◌≡◌, ℕ, ◌+◌, ◌<◌, List, [], ◌∷◌, Some, refl, ap, ◌∙◌, arith}
-use Rattle.json_span.specs.Tree.{Tree, a_null, a_boolean, a_number, a_string, an_array, an_object, Placed, placed, Elements, no_elements, an_element, Members, no_members, a_member, Entry, tree_of, elements_in, entries_in, array_in, object_in}
+use Rattle.json_span.specs.Tree.{a_null, a_boolean, a_number, a_string, an_array, an_object, Placed, placed, Elements, no_elements, an_element, Members, no_members, a_member, Entry, tree_of, elements_in, entries_in, array_in, object_in}
 use Rattle.json_span.specs.Table.{size, sizes, member_sizes}
 use Rattle.json_span.specs.Plain.{plain_array, plain_object, plains, plain_members, plains_of, plain_members_of}
 use Rattle.json_span.specs.Says.{plain_of, plain_elements, plain_fields}

@@ -1,4 +1,4 @@
--- Where the reader stops, the text has no reading, and its longest front ends.
+-- Where the reader stops, the text has no reading, and its longest viable prefix ends.
 use Rattle.std.proofs.Common.{◌≡◌, ℕ, ◌<◌, ◌≤◌, List, [], length, drop, refl, ap, ◌∙◌, subst, inl, inr}
 use Rattle.std.proofs.lemmas.List.{drop_all}
 use Rattle.grammar.specs.Grammar.{named, Reads}

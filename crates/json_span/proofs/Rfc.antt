@@ -1,4 +1,4 @@
--- The grammar of RFC 8259 and its steered form derive the same texts, and so have the same fronts.
+-- The grammar of RFC 8259 and its steered form derive the same texts, and so have the same viable prefixes.
 use Rattle.std.proofs.Common.{◌≡◌, ℕ, List, ◌++◌, take, Bool, true, false, ◌&&◌, refl}
 use Rattle.grammar.specs.Grammar.{Rule, empty, byte, seq, alt, many, named, Reads, Derives, IsFront, EachPasses, no_byte, one_byte, both, left, right, no_more, more, by_name}
 use Rattle.grammar.specs.Stop.{Refuses}
@@ -105,7 +105,7 @@ record Around (t u : List ℕ) : Type 0 where
   pub value_ : Reads rules (named value) before behind
   pub trail : Reads rules ws behind u
 
--- and so may a member behind it
+-- and so may a member after it
 record MemberAround (t u : List ℕ) : Type 0 where
   pub start : List ℕ
   pub behind : List ℕ
@@ -113,7 +113,7 @@ record MemberAround (t u : List ℕ) : Type 0 where
   pub value_ : Reads rules (named value) start behind
   pub trail : Reads rules ws behind u
 
--- the same as rounds behind blanks
+-- the same as rounds after blanks
 record RestOf (b : Bracket) (s v : List ℕ) : Type 0 where
   pub comma : List ℕ
   pub lead : Reads rules ws s comma

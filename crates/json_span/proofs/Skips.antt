@@ -37,7 +37,7 @@ misses_comma b t f = padded_2 (within 44 44) t false f
 begins_comma : (b : Bracket) (t : List ℕ) → begins (within 44 44) t ≡ true → begins (first ahead (seq (symbol 44) (list_item_of b))) t ≡ true
 begins_comma b t f = padded_2 (within 44 44) t true f
 
--- an open bracket with a value behind it
+-- an open bracket with a value after it
 pub opened : (k : declared.Bracket) (rest : Rule Name) (t1 t2 t3 : List ℕ) (res : Result (List ℕ) (List ℕ)) → begins (first ahead (list_of (bracket_of k))) t1 ≡ true →
     Steers rules ahead (symbol (open_of (bracket_of k))) t1 t2 → begins (first ahead (one (close_of (bracket_of k)))) t2 ≡ false → Steers rules ahead (before_of (bracket_of k)) t2 t3 →
     Walks (seq (named value) (seq ws (seq (more_of (bracket_of k)) rest))) t3 res → Walks (seq (named value) rest) t1 res
@@ -62,7 +62,7 @@ comma b rest t1 t2 t3 (Err u) e x p (at_second v (at_second w (at_first (at_firs
 comma b rest t1 t2 t3 (Err u) e x p (at_second v (at_second w (at_first (at_second ys a)))) = at_first (at_second (on_more (on_both x (on_both p (on_both v w))) ys) a)
 comma b rest t1 t2 t3 (Err u) e x p (at_second v (at_second w (at_second (on_both ys y) a))) = at_second (on_both (on_more (on_both x (on_both p (on_both v w))) ys) y) a
 
--- what stands behind a comma is no name with a colon
+-- what stands after a comma is no name with a colon
 pub bad_name_behind : (b : Bracket) (t1 t2 u : List ℕ) → begins (within 44 44) t1 ≡ true → Steers rules ahead (symbol 44) t1 t2 → Stuck rules ahead (before_of b) t2 u → Stuck rules ahead (more_of b) t1 u
 bad_name_behind b t1 t2 u e x a = at_first (at_round (begins_comma b t1 e) (at_second x (at_first a)))
 
@@ -124,7 +124,7 @@ pub reach_past : (text : List ℕ) (r : Rule Name) (at end : ℕ) → nullable r
 reach_past text r at end n h x = omega (arith, shorter honest_json.visible (reads rules ahead honest_json x.steers) n, length-drop at text, length-drop end text, x.within_text)
 
 module _ (text : List ℕ) (bs : List declared.Bracket) (k : declared.Bracket) where
-  -- the open bracket and the blanks behind it
+  -- the open bracket and the blanks after it
   pub open_token : (at inner : ℕ) → at < length text → scan.Sees text (first ahead (list_of (bracket_of k))) at true → ReadsTo ws text (at + 1) inner → ReadsTo (symbol (open_of (bracket_of k))) text at inner
   open_token at inner lt e b = token_at text (open_of (bracket_of k)) at inner
       (scan.reach_one text (one (open_of (bracket_of k))) at tt refl lt (unpadded_at (within (open_of (bracket_of k)) (open_of (bracket_of k))) (drop at text) e)) b
@@ -144,7 +144,7 @@ module _ (text : List ℕ) (bs : List declared.Bracket) (k : declared.Bracket) w
   open_empty at inner lt e b lt2 f = past text (named value) (closing_of bs) at (inner + 1)
       (empty_list text k at inner (inner + 1) e (open_token at inner lt e b) f (scan.reach_one text (one (close_of (bracket_of k))) inner tt refl lt2 f))
 
-  -- behind the blanks behind a value of the list
+  -- after the blanks after a value of the list
   abbrev Inner : Rule Name
   Inner = seq (more_of (bracket_of k)) (closing_of bs)
 
@@ -173,7 +173,7 @@ module _ (text : List ℕ) (bs : List declared.Bracket) (k : declared.Bracket) w
   pub past_close : (r : Rule Name) (at at2 end : ℕ) → r ≡ one (close_of (bracket_of k)) → at2 ≤ length text → ReadsTo ws text at at2 → ReadsTo r text at2 end → at < end
   past_close r at at2 end same h b x = omega (arith, b.forward, reach_past text (one (close_of (bracket_of k))) at2 end refl h (subst (λ z. ReadsTo z text at2 end) same x))
 
--- nothing more is to read behind a value alone
+-- nothing more is to read after a value alone
 alone : {r : Rule Name} {t u : List ℕ} → Steers rules ahead (seq r empty) t u → Steers rules ahead r t u
 alone (on_both x on_empty) = x
 

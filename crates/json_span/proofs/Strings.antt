@@ -1,8 +1,7 @@
 -- The characters between two places of a text, without and with escapes.
-use Rattle.std.proofs.Common.{◌≡◌, ℕ, ◌+◌, ◌-◌, ◌<◌, ◌≤◌, List, [], ◌∷◌, ◌++◌, length, take, drop, get_or, true, false, refl, sym, ap, ◌∙◌, subst, arith, append_assoc, length-drop, append-nil, take-append-drop, Ok}
+use Rattle.std.proofs.Common.{◌≡◌, ℕ, ◌+◌, ◌-◌, ◌<◌, ◌≤◌, List, [], ◌∷◌, ◌++◌, length, take, drop, get_or, true, false, refl, sym, ap, ◌∙◌, subst, arith, length-drop, append-nil, take-append-drop, Ok}
 use Rattle.std.specs.Prelude.{slice_range}
 use Rattle.std.proofs.lemmas.List.{drop_more, take_rest, drop-drop, append_cancel_right, get_or-drop}
-use Rattle.std.specs.Char.{encode_utf8}
 use Rattle.std.specs.Str.{IsUtf8, IsCharBoundary}
 use Rattle.std.proofs.lemmas.Str.{IsCharBoundary-after_ascii}
 use Rattle.grammar.specs.Grammar.{within, alt, many, named, seq}
@@ -13,8 +12,6 @@ use Rattle.json_span.specs.Grammar.{unescaped, char, one, string}
 use Rattle.json_span.specs.Steered.{rules, table, ahead}
 use Rattle.json_span.specs.Characters.{CharactersAt, closing_quote, unescaped_byte, short_escape, unicode_escape, surrogate_pair}
 use Rattle.json_span.specs.Reading.{StringAt}
-use Rattle.std.proofs.Math.Logic.{∥∥₁_elim, ∥∥₁_prop}
-use Rattle.json_span.specs.inner.Escapes.{HasCharacters, BeginsEscape, StandsFor}
 use Rattle.json_span.specs.inner.Scan.{ReadsTo, Halts}
 use Rattle.json_span.specs.declared.bytes.Class.TheVariants.{One}
 use Rattle.json_span.proofs.Steered.{honest_json}
@@ -24,7 +21,7 @@ use Rattle.json_span.proofs.Shorts.{choice_read, is_value}
 use Rattle.json_span.proofs.Contents.{content_of_rest}
 use Rattle.json_span.proofs.CharacterScans as characters
 
--- the slice and the text behind it
+-- the slice and the text after it
 pub cut_at : (text : List ℕ) (at end : ℕ) → at ≤ end → drop at text ≡ slice_range text at end ++ drop end text
 cut_at text at end h =
     let e : at + (end - at) ≡ end = omega arith in
@@ -123,7 +120,7 @@ bad_string text at stop lt e x = scan.halt_name text string at stop (scan.halt_s
 pub no_string : (text : List ℕ) (at : ℕ) → at ≤ length text → scan.Sees text (within 34 34) at false → Halts (named string) text at at
 no_string text at h e = scan.halt_name text string at at (scan.halt_first text (one 34) (seq (many char) (one 34)) at at (row.halt_class text (One 34) at h e))
 
--- boundaries of characters: behind a byte of ASCII, and before one
+-- boundaries of characters: after a byte of ASCII, and before one
 pub behind_byte : (text : List ℕ) (c at : ℕ) → IsUtf8 text → c < 128 → at < length text → scan.Sees text (within c c) at true → IsCharBoundary text (at + 1)
 behind_byte text c at utf small lt e =
     let cut : drop at text ≡ get_or text at 0 ∷ drop (at + 1) text = drop_more text at 0 lt in
@@ -141,7 +138,7 @@ not_ended (surrogate_pair a b c d e f g h x) = omega arith
 pub content_within : (text s u : List ℕ) (at : ℕ) → CharactersAt (drop at text) s u → at < length text
 content_within text s u at x = omega (arith, not_ended x, length-drop at text)
 
--- behind the run there is a quote, and no more characters, or a backslash
+-- after the run there is a quote, and no more characters, or a backslash
 is_other : (b : ℕ) → b ≡ 92 → within 92 92 b ≡ false → ⊥
 is_other b e f = let g : within 92 92 92 ≡ false = subst (λ z. within 92 92 z ≡ false) e f in cc
 
@@ -156,32 +153,10 @@ ends_here _ _ _ (surrogate_pair {e = b} e h p q i j r v x) f g = absurd (is_othe
 pub rest_slice : (text bytes : List ℕ) (at : ℕ) → bytes ≡ text → take (length bytes - at) (drop at bytes) ≡ drop at text
 rest_slice text bytes at e = take_rest bytes at ∙ ap (drop at) e
 
--- behind a run of plain bytes a backslash begins an escape
-pub escape_begins : (text bytes : List ℕ) (from at stop : ℕ) → bytes ≡ text → HasCharacters (drop from text) → ((s u : List ℕ) → CharactersAt (drop from text) s u → (rest : List ℕ) × CharactersAt (drop at text) rest u) → ReadsTo (many unescaped) text at stop → scan.Sees text (within 92 92) stop true →
-    BeginsEscape (take (length bytes - stop) (drop stop bytes))
-escape_begins text bytes from at stop e has left x sees = ∥∥₁_elim has ∥∥₁_prop (λ (s, u, k).
-    let (rest, k1) = left s u k in
-    let (rest2, k2, e2) = plain_takes text at stop x rest u k1 in
-    let lt : stop < length text = content_within text rest2 u stop k2 in
-    let first_ : get_or (drop stop text) 0 0 ≡ 92 = ap (λ z. get_or z 0 0) (byte_at text 92 stop lt sees) in
-    rw (rest_slice text bytes stop e) (∣ (rest2, u, k2, first_) ∣₁))
-
-pub escape_takes : (text escape : List ℕ) (at len character : ℕ) → escape ≡ drop at text → StandsFor escape character len → (s u : List ℕ) → CharactersAt (drop at text) s u → (rest : List ℕ) × CharactersAt (drop (at + len) text) rest u × (s ≡ encode_utf8 character ++ rest)
-escape_takes text escape at len character e st s u k =
-    let (r, k2, q) = st s u (subst (λ z. CharactersAt z s u) (sym e) k) in
-    (r, subst (λ z. CharactersAt z r u) (ap (drop len) e ∙ drop-drop len at text) k2, q)
-
+-- after an escape a character begins, or the text ends
 pub escape_boundary : (text escape : List ℕ) (at len : ℕ) → IsUtf8 text → escape ≡ drop at text → at ≤ length text → 0 < len → len ≤ length escape → get_or escape (len - 1) 0 < 128 → IsCharBoundary text (at + len)
 escape_boundary text escape at len utf e h some le small =
     let long : length escape ≡ length text - at = ap length e ∙ length-drop at text in
     let same : get_or escape (len - 1) 0 ≡ get_or text (at + (len - 1)) 0 = ap (λ z. get_or z (len - 1) 0) e ∙ get_or-drop at text (len - 1) 0 in
     let last : get_or text (at + (len - 1)) 0 < 128 = subst (λ z. z < 128) same small in
     subst (IsCharBoundary text) (omega arith) (IsCharBoundary-after_ascii text (at + (len - 1)) utf (omega arith) last)
-
--- the characters so far, a run and an escape
-pub longer : (s before run character rest rest2 rest3 : List ℕ) → s ≡ before ++ rest → rest ≡ run ++ rest2 → rest2 ≡ character ++ rest3 → s ≡ ((before ++ run) ++ character) ++ rest3
-longer s before run character rest rest2 rest3 e f g =
-    e ∙ ap (λ z. before ++ z) (f ∙ ap (λ z. run ++ z) g) ∙ sym (append_assoc before run (character ++ rest3)) ∙ sym (append_assoc (before ++ run) character rest3)
-
-pub whole_run : (s before run rest rest2 : List ℕ) → s ≡ before ++ rest → rest ≡ run ++ rest2 → rest2 ≡ [] → before ++ run ≡ s
-whole_run s before run rest rest2 e f g = sym (e ∙ ap (λ z. before ++ z) (f ∙ ap (λ z. run ++ z) g ∙ append-nil run))

@@ -19,7 +19,7 @@ pub data Answer : Type 0 where
   shows : Placed → Answer
   -- the first flaw of the value that the text shows
   flawed : Flaw → Answer
-  -- the end of the longest front of a text that shows no value
+  -- the end of the longest viable prefix of a text that shows no value
   stops : ℕ → Answer
 
 abbrev pub IsAnswer : List ℕ → Answer → Type 0

@@ -1,5 +1,5 @@
 -- Values whose texts are UTF-8 and whose lists are not long.
-use Rattle.std.specs.Prelude.{◌≡◌, ◌≤◌, ℕ, List, length}
+use Rattle.std.specs.Prelude.{◌≤◌, ℕ, List, length}
 use Rattle.std.specs.Str.{IsUtf8}
 use Rattle.json_span.specs.Plain.{PlainValue, plain_null, plain_boolean, plain_number, plain_string, plain_array, plain_object, Plains, no_plains, plains, PlainMembers, no_plain_members, plain_members, plains_in, plain_entries_in}
 use Rattle.json_span.specs.Says.{SaysText}

@@ -14,12 +14,12 @@ use Rattle.json_span.specs.Says.{Says, SaysText, plain_of}
 abbrev pub TextsShow : Type 0
 TextsShow = (text : List ℕ) → Derives grammar json_text text ↔ ((n : Placed) × Shows text n)
 
--- a text is a front of a JSON text exactly where some text goes on from it to a JSON text
+-- a text is a viable prefix exactly where some text goes on from it to a JSON text
 abbrev pub TextFrontsArePrefixes : Type 0
 TextFrontsArePrefixes = (text : List ℕ) →
     IsFront grammar json_text text ↔ ((rest : List ℕ) × Derives grammar json_text (text ++ rest))
 
--- a front goes on by ASCII alone, to a JSON text that is UTF-8 where the front is
+-- a viable prefix goes on by ASCII alone, to a JSON text that is UTF-8 where the prefix is
 pub record GoesOn (text : List ℕ) : Type 0 where
   pub rest : List ℕ
   pub ascii : IsAscii rest

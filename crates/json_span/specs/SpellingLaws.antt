@@ -1,6 +1,7 @@
 -- Laws of how strings are written.
 use Rattle.std.specs.Prelude.{◌≡◌, ℕ, List, ◌∷◌, ◌++◌, true}
 use Rattle.std.specs.List.{join_by, list_all}
+use Rattle.tk_io.specs.Characters.{quote}
 use Rattle.json_span.specs.Reading.{StringAt}
 use Rattle.json_span.specs.Spelling.{inside_text, string_text, are_bytes, are_plain}
 use Rattle.json_span.specs.Composing.{separated}
@@ -26,4 +27,4 @@ InsidesJoin = (between : List ℕ) (names : List (List ℕ)) → are_plain betwe
 abbrev pub JoinedReadBack : Type 0
 JoinedReadBack = (between : List ℕ) (names : List (List ℕ)) (u : List ℕ) → are_plain between ≡ true →
     are_bytes between ≡ true → list_all are_bytes names ≡ true →
-    StringAt (34 ∷ (join_by inside_text between names ++ (34 ∷ u))) (separated between names) u
+    StringAt (quote ∷ (join_by inside_text between names ++ (quote ∷ u))) (separated between names) u

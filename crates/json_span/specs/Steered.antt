@@ -1,4 +1,4 @@
--- The grammar as a reader with one byte ahead wants it: the blanks of a structural character stand behind it alone.
+-- The grammar as a reader with one byte ahead wants it: the blanks of a structural character stand after it alone.
 use Rattle.std.specs.Prelude.{ℕ, [], ◌∷◌}
 use Rattle.grammar.specs.Grammar.{Rule, empty, seq, alt, many, named}
 use Rattle.grammar.specs.Predict.{Ahead}
@@ -29,11 +29,11 @@ before_of curly = seq (named string) (seq ws (symbol 58))
 abbrev pub list_item_of : Bracket → Rule Name
 list_item_of b = seq (before_of b) (seq (named value) ws)
 
--- behind a value of the list
+-- after a value of the list
 abbrev pub more_of : Bracket → Rule Name
 more_of b = seq (many (seq (symbol 44) (list_item_of b))) (one (close_of b))
 
--- behind the open bracket
+-- after the open bracket
 abbrev pub inside_of : Bracket → Rule Name
 inside_of b = alt (one (close_of b)) (seq (list_item_of b) (more_of b))
 

@@ -1,5 +1,8 @@
 -- The types of values, and the byte with which each begins.
 use Rattle.std.specs.Prelude.{ℕ, ◌==◌, if◌then◌else◌}
+use Rattle.tk_io.specs.Characters.{quote}
+use Rattle.json_span.specs.Letters.{small_f, small_n, small_t}
+use Rattle.json_span.specs.Steered.{square, curly, open_of}
 use Rattle.json_span.specs.Tree.{Tree, a_null, a_boolean, a_number, a_string, an_array, an_object}
 use Rattle.json_span.specs.declared.value_type.ValueType.{ValueType}
 use Rattle.json_span.specs.declared.value_type.ValueType.TheVariants.{Null, Boolean, Number, String, Array, Object}
@@ -15,9 +18,9 @@ type_of (an_object ms) = Object
 -- what the first byte of a value says of it
 abbrev pub type_of_byte : ℕ → ValueType
 type_of_byte c =
-    if c == 110 then Null else
-    (if c == 116 then Boolean else
-    (if c == 102 then Boolean else
-    (if c == 34 then String else
-    (if c == 91 then Array else
-    (if c == 123 then Object else Number)))))
+    if c == small_n then Null else
+    (if c == small_t then Boolean else
+    (if c == small_f then Boolean else
+    (if c == quote then String else
+    (if c == open_of square then Array else
+    (if c == open_of curly then Object else Number)))))

@@ -49,7 +49,8 @@ fn alternative_of(byte: u8) -> Option<Alternative>
 /// What begins there.
 pub(crate) fn alternative_at(text: &str, at: usize) -> Option<Alternative>
     requires { at ≤ length text.now }
-    ensures found { IfSome result (λ k. begins (first ahead (rule_of_alternative k)) (drop at text.now) ≡ true) }
+    ensures found { IfSome result (λ k.
+        begins (first ahead (rule_of_alternative k)) (drop at text.now) ≡ true) }
     ensures bound { IfSome result (λ k. at < length text.now) }
     ensures none { IfNone result (begins (first ahead (rules value)) (drop at text.now) ≡ false) }
 {

@@ -1,6 +1,7 @@
-//! Building the tree of a value, down to a depth. Behind a flaw the syntax alone is read on.
+//! Building the tree of a value, down to a depth. After a flaw the syntax alone is read on.
 
-ghost use Rattle.std.specs.Prelude.{◌≡◌, ◌+◌, ◌≤◌, ◌<◌, ◌^◌, true, false, length, drop, IfOk, IfErr, OnOk};
+ghost use Rattle.std.specs.Prelude.{◌≡◌, ◌+◌, ◌≤◌, ◌<◌, ◌^◌, true, false, length, drop};
+ghost use Rattle.std.specs.Prelude.{IfOk, IfErr, OnOk};
 ghost use Rattle.grammar.specs.Grammar.{named};
 ghost use Rattle.grammar.specs.Predict.{begins, first};
 ghost use Rattle.json_span.specs.Grammar.{value};
@@ -8,7 +9,8 @@ ghost use Rattle.json_span.specs.Steered.{ahead, list_of, square, curly};
 ghost use Rattle.json_span.specs.inner.Alternatives.{bracket_of};
 ghost use Rattle.json_span.specs.inner.Scan.{ReadsTo};
 ghost use Rattle.json_span.specs.inner.Skipping.{StopsAt};
-ghost use Rattle.json_span.specs.inner.Building.{IsNext, IsBuilt, Opens, HaltsBehind, IsSmall, IsClosed, end_of_built};
+ghost use Rattle.json_span.specs.inner.Building.{IsNext, IsBuilt, Opens, HaltsBehind};
+ghost use Rattle.json_span.specs.inner.Building.{IsSmall, IsClosed, end_of_built};
 
 use crate::alternative::{Alternative, Bracket, alternative_at};
 use crate::bytes::{Class, has, row_end};
@@ -29,7 +31,7 @@ pub(crate) enum Built {
 }
 
 impl Built {
-    /// The offset behind the value.
+    /// The offset after the value.
     pub(crate) fn end(&self) -> usize
         ensures { result ≡ end_of_built self.now }
     {
@@ -40,16 +42,16 @@ impl Built {
     }
 }
 
-/// Where a list goes on behind a value.
+/// Where a list goes on after a value.
 #[derive(Clone, Copy, Debug)]
 enum Next {
-    /// Behind a comma and its blanks.
+    /// After a comma and its blanks.
     Item(usize),
-    /// Behind the bracket that closes the list.
+    /// After the bracket that closes the list.
     Closed(usize),
 }
 
-// Reads on behind a value of a list.
+// Reads on after a value of a list.
 fn next_of(text: &str, at: usize, bracket: Bracket) -> Result<Next, usize>
     requires { at ≤ length text.now }
     ensures ok { IfOk result (λ n. IsNext (bracket_of bracket) text.now at n) }
@@ -63,7 +65,7 @@ fn next_of(text: &str, at: usize, bracket: Bracket) -> Result<Next, usize>
     Ok(Next::Closed(end))
 }
 
-// Puts the span of a list in its place, once all values in it stand behind that place.
+// Puts the span of a list in its place, once all values in it stand after that place.
 fn close(nodes: &mut Vec<Span>, index: usize, name: u32, name_end: u32, start: u32, end: u32)
     requires within { index < length nodes.old.items }
     requires small { length nodes.old.items < 2 ^ 32 }
@@ -93,7 +95,8 @@ pub(crate) fn build_value(
 ) -> Result<Built, Stop>
     requires within { at ≤ length text.now }
     requires small { IsSmall text.now at nodes.old.items }
-    ensures ok { IfOk result (λ b. IsBuilt text.now at room name name_end nodes.old.items nodes.new.items b) }
+    ensures ok { IfOk result (λ b.
+        IsBuilt text.now at room name name_end nodes.old.items nodes.new.items b) }
     ensures names { OnOk result (names.new.items ≡ names.old.items) }
     ensures stop { IfErr result (λ e. StopsAt (named value) text.now at e) }
 {
@@ -133,7 +136,8 @@ fn build_list(
     requires within { at < length text.now }
     requires opens { begins (first ahead (list_of (bracket_of bracket))) (drop at text.now) ≡ true }
     requires small { IsSmall text.now at nodes.old.items }
-    ensures ok { IfOk result (λ b. IsBuilt text.now at room name name_end nodes.old.items nodes.new.items b) }
+    ensures ok { IfOk result (λ b.
+        IsBuilt text.now at room name name_end nodes.old.items nodes.new.items b) }
     ensures names { OnOk result (names.new.items ≡ names.old.items) }
     ensures stop { IfErr result (λ e. StopsAt (named value) text.now at e) }
 {
@@ -199,7 +203,8 @@ fn build_array(
 ) -> Result<Built, Stop>
     requires opens { Opens square text.now at inner }
     requires small { IsSmall text.now at nodes.old.items }
-    ensures ok { IfOk result (λ b. IsBuilt text.now at (room + 1) name name_end nodes.old.items nodes.new.items b) }
+    ensures ok { IfOk result (λ b.
+        IsBuilt text.now at (room + 1) name name_end nodes.old.items nodes.new.items b) }
     ensures names { OnOk result (names.new.items ≡ names.old.items) }
     ensures stop { IfErr result (λ e. StopsAt (named value) text.now at e) }
 {
@@ -245,7 +250,8 @@ fn build_object(
 ) -> Result<Built, Stop>
     requires opens { Opens curly text.now at inner }
     requires small { IsSmall text.now at nodes.old.items }
-    ensures ok { IfOk result (λ b. IsBuilt text.now at (room + 1) name name_end nodes.old.items nodes.new.items b) }
+    ensures ok { IfOk result (λ b.
+        IsBuilt text.now at (room + 1) name name_end nodes.old.items nodes.new.items b) }
     ensures names { OnOk result (names.new.items ≡ names.old.items) }
     ensures stop { IfErr result (λ e. StopsAt (named value) text.now at e) }
 {

@@ -20,13 +20,13 @@ pub(crate) enum Class {
     /// A hexadecimal digit other than `D` and `d`.
     NotD,
     D,
-    /// The digits below those that make a surrogate behind a `d`.
+    /// The digits below those that make a surrogate after a `d`.
     BelowHigh,
-    /// The digits that make a high surrogate behind a `d`.
+    /// The digits that make a high surrogate after a `d`.
     High,
-    /// The digits that make a low surrogate behind a `d`.
+    /// The digits that make a low surrogate after a `d`.
     Low,
-    /// The bytes behind the backslash of a short escape.
+    /// The bytes after the backslash of a short escape.
     Short,
 }
 

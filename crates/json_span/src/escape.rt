@@ -33,7 +33,10 @@ fn hex_value(byte: u8) -> u32
 // The number of four hexadecimal digits.
 fn unit_at(text: &[u8], at: usize) -> u32
     requires { at + 4 ≤ length text.now }
-    ensures value { (n : ℕ) → code_unit_of (get_or text.now at 0) (get_or text.now (at + 1) 0) (get_or text.now (at + 2) 0) (get_or text.now (at + 3) 0) ≡ Some n → result ≡ n }
+    ensures value { (n : ℕ)
+        → code_unit_of (get_or text.now at 0) (get_or text.now (at + 1) 0)
+        (get_or text.now (at + 2) 0) (get_or text.now (at + 3) 0) ≡ Some n
+        → result ≡ n }
     ensures small { result < 65536 }
 {
     let first = hex_value(text[at]);

@@ -12,7 +12,7 @@ use std::rc::Rc;
 use tk_io::{NoMemory, Text};
 
 /// The members of an object that are still to come, in written order.
-#[derive(Clone, Copy)]
+#[derive(Clone, Copy, Debug)]
 pub struct Fields<'d, 's> {
     document: &'d Rc<Document<'s>>,
     at: usize,
@@ -21,7 +21,7 @@ pub struct Fields<'d, 's> {
 }
 
 /// A member: its name, the byte offsets of the name's string, and its value.
-#[derive(Clone, Copy)]
+#[derive(Clone, Copy, Debug)]
 pub struct Field<'d, 's> {
     document: &'d Rc<Document<'s>>,
     at: usize,
@@ -35,7 +35,8 @@ impl<'d, 's> Fields<'d, 's> {
     // The members from this place to the other.
     pub(crate) fn new(document: &'d Rc<Document<'s>>, at: usize, stop: usize) -> Fields<'d, 's>
         requires { MembersIn document.now.value at stop }
-        ensures { (ms : Members) → MembersLieIn document.entry.now.value at stop ms → fields_view result ≡ entries_in ms }
+        ensures { (ms : Members) → MembersLieIn document.entry.now.value at stop ms
+            → fields_view result ≡ entries_in ms }
     {
         Fields { document, at, stop }
     }
@@ -74,7 +75,7 @@ impl<'d, 's> Iterator for Fields<'d, 's> {
 
     ghost remaining = { item_count fields_view };
 
-    /// The next member, and none behind the last one.
+    /// The next member, and none after the last one.
     fn next(&mut self) -> Option<Field<'d, 's>> {
         if self.at >= self.stop {
             return None;
@@ -106,7 +107,7 @@ impl<'d, 's> Field<'d, 's> {
         span_at(self.document, self.at).name as usize
     }
 
-    /// The offset behind the last byte of its name's string.
+    /// The offset after the last byte of its name's string.
     pub fn end(self) -> usize
         ensures { result ≡ (field_view self.entry).end }
     {

@@ -9,7 +9,7 @@ use crate::table::Document;
 use std::rc::Rc;
 
 /// The elements of an array that are still to come, in written order.
-#[derive(Clone, Copy)]
+#[derive(Clone, Copy, Debug)]
 pub struct Items<'d, 's> {
     document: &'d Rc<Document<'s>>,
     at: usize,
@@ -24,7 +24,8 @@ impl<'d, 's> Items<'d, 's> {
     // The values from this place to the other.
     pub(crate) fn new(document: &'d Rc<Document<'s>>, at: usize, stop: usize) -> Items<'d, 's>
         requires { ElementsIn document.now.value at stop }
-        ensures { (ns : Elements) → AllLieIn document.entry.now.value at stop ns → items_view result ≡ elements_in ns }
+        ensures { (ns : Elements) → AllLieIn document.entry.now.value at stop ns
+            → items_view result ≡ elements_in ns }
     {
         Items { document, at, stop }
     }
@@ -51,7 +52,7 @@ impl<'d, 's> Iterator for Items<'d, 's> {
 
     ghost remaining = { item_count items_view };
 
-    /// The next element, and none behind the last one.
+    /// The next element, and none after the last one.
     fn next(&mut self) -> Option<NodeRef<'d, 's>> {
         if self.at >= self.stop {
             return None;

@@ -85,7 +85,8 @@ pub(crate) fn read_name(text: &str, at: usize) -> Result<NameSpan, usize>
 fn are_same(alloc: Global, text: &str, a: NameSpan, b: NameSpan) -> Result<bool, NoMemory>
     requires first { (e : Entry) × IsNameOf text.now a e }
     requires second { (e : Entry) × IsNameOf text.now b e }
-    ensures { IfOk result (λ r. (e f : Entry) → IsNameOf text.now a e → IsNameOf text.now b f → r ≡ bytes_eq e.name f.name) }
+    ensures { IfOk result (λ r. (e f : Entry) → IsNameOf text.now a e → IsNameOf text.now b f
+        → r ≡ bytes_eq e.name f.name) }
 {
     if a.is_plain && b.is_plain {
         let bytes = text.as_bytes();
@@ -100,7 +101,9 @@ fn are_same(alloc: Global, text: &str, a: NameSpan, b: NameSpan) -> Result<bool,
 fn is_before(alloc: Global, text: &str, names: &[NameSpan], i: usize) -> Result<bool, NoMemory>
     requires within { i < length names.now }
     requires are { (es : List Entry) × AreNamesOf text.now names.now es }
-    ensures { IfOk result (λ b. (es : List Entry) (e : Entry) → AreNamesOf text.now names.now es → slice_get es i ≡ Some e → b ≡ is_seen (reversed_names (take i es) []) e.name) }
+    ensures { IfOk result (λ b. (es : List Entry) (e : Entry) → AreNamesOf text.now names.now es
+        → slice_get es i ≡ Some e
+        → b ≡ is_seen (reversed_names (take i es) []) e.name) }
 {
     for k in 0..i {
         if are_same(alloc, text, names[k], names[i])? {
@@ -123,7 +126,8 @@ fn flaw_in_pairs(alloc: Global, text: &str, names: &[NameSpan]) -> Result<Option
     Ok(None)
 }
 
-// The names in their order, each with its place among those of the object; equal names stay in the order of the text.
+// The names in their order, each with its place among those of the object; equal names stay in the
+// order of the text.
 fn sort_names<'s>(
     alloc: Global,
     text: &'s str,
@@ -191,7 +195,8 @@ fn flaw_of_names(alloc: Global, text: &str, names: &[NameSpan]) -> Result<Option
     flaw_in_order(alloc, text, names)
 }
 
-/// Takes off the names from a place on, those of an object, and answers the first one that repeats another.
+/// Takes off the names from a place on, those of an object, and answers the first one that repeats
+/// another.
 pub(crate) fn close_names(
     alloc: Global,
     text: &str,

@@ -16,9 +16,9 @@ use std::alloc::Global;
 use std::rc::Rc;
 use tk_io::{NoMemory, Text};
 
-/// A value of a JSON text, with a share of the table of the text's values. It is two words, and a copy of it is a count.
-/// Offsets are bytes of the text.
-#[derive(Drop)]
+/// A value of a JSON text, with a share of the table of the text's values. It is two words, and a
+/// copy of it is a count. Offsets are bytes of the text.
+#[derive(Debug, Drop)]
 pub struct Node<'s> {
     document: Rc<Document<'s>>,
     at: usize,
@@ -34,7 +34,8 @@ impl<'s> Node<'s> {
     // The value that stands at this place.
     pub(crate) fn new(document: Rc<Document<'s>>, at: usize) -> Node<'s>
         requires { ValueIn document.value at }
-        ensures { (a z : ℕ) (t : Placed) → LiesIn document.entry.value a z at t → node_view result ≡ t }
+        ensures { (a z : ℕ) (t : Placed) → LiesIn document.entry.value a z at t
+            → node_view result ≡ t }
     {
         Node { document, at }
     }
@@ -61,7 +62,7 @@ impl<'s> Node<'s> {
         self.as_ref().start()
     }
 
-    /// The offset behind its last byte.
+    /// The offset after its last byte.
     pub fn end(&self) -> usize
         ensures { result ≡ end_of (node_view self.now) }
     {

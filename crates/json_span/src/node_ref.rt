@@ -18,9 +18,9 @@ use std::alloc::Global;
 use std::rc::Rc;
 use tk_io::{NoMemory, Text};
 
-/// A value of a JSON text, borrowed from a [`Node`] of the text. Offsets are bytes of the text. Nothing of a value is decoded
-/// or copied before it is asked for.
-#[derive(Clone, Copy)]
+/// A value of a JSON text, borrowed from a [`Node`] of the text. Offsets are bytes of the text.
+/// Nothing of a value is decoded or copied before it is asked for.
+#[derive(Clone, Copy, Debug)]
 pub struct NodeRef<'d, 's> {
     document: &'d Rc<Document<'s>>,
     at: usize,
@@ -30,7 +30,8 @@ pub struct NodeRef<'d, 's> {
 /// The span of the value that stands at this place.
 pub(crate) fn span_at(document: &Rc<Document<'_>>, at: usize) -> Span
     requires { ValueIn document.now.value at }
-    ensures { (a z : ℕ) (t : Placed) → LiesIn document.now.value a z at t → result ≡ span a z (start_of t) (end_of t) (at + size t) }
+    ensures { (a z : ℕ) (t : Placed) → LiesIn document.now.value a z at t
+        → result ≡ span a z (start_of t) (end_of t) (at + size t) }
 {
     document.nodes[at]
 }
@@ -44,20 +45,24 @@ impl<'d, 's> NodeRef<'d, 's> {
     // The value that stands at this place.
     pub(crate) fn new(document: &'d Rc<Document<'s>>, at: usize) -> NodeRef<'d, 's>
         requires { ValueIn document.now.value at }
-        ensures { (a z : ℕ) (t : Placed) → LiesIn document.entry.now.value a z at t → ref_view result ≡ t }
+        ensures { (a z : ℕ) (t : Placed) → LiesIn document.entry.now.value a z at t
+            → ref_view result ≡ t }
     {
         NodeRef { document, at }
     }
 
     fn span(self) -> Span
-        ensures { result ≡ span self.entry.stands.0.0 self.entry.stands.0.1.0 (start_of (ref_view self.entry)) (end_of (ref_view self.entry)) (self.entry.at + size (ref_view self.entry)) }
+        ensures { result ≡ span self.entry.stands.0.0 self.entry.stands.0.1.0
+            (start_of (ref_view self.entry)) (end_of (ref_view self.entry))
+            (self.entry.at + size (ref_view self.entry)) }
     {
         span_at(self.document, self.at)
     }
 
     // Its first byte.
     fn first_byte(self) -> u8
-        ensures { slice_get self.entry.document.now.value.text.now (start_of (ref_view self.entry)) ≡ Some result }
+        ensures { slice_get self.entry.document.now.value.text.now
+            (start_of (ref_view self.entry)) ≡ Some result }
     {
         let start = self.span().start as usize;
         self.document.text.as_bytes()[start]
@@ -78,7 +83,7 @@ impl<'d, 's> NodeRef<'d, 's> {
         self.span().start as usize
     }
 
-    /// The offset behind its last byte.
+    /// The offset after its last byte.
     pub fn end(self) -> usize
         ensures { result ≡ end_of (ref_view self.entry) }
     {

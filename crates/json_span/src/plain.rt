@@ -3,7 +3,8 @@
 ghost use Rattle.std.specs.Prelude.{◌≡◌, ◌==◌, length, map, slice_get, option_map, [], OnOk, OnErr};
 ghost use Rattle.json_span.specs.Plain.{plain_boolean_in, plain_number_in, plain_string_in};
 ghost use Rattle.json_span.specs.Plain.{plain_array_in, plain_object_in};
-ghost use Rattle.json_span.specs.PlainView.{plain_view, plain_field_view, plain_items_view, plain_fields_view};
+ghost use Rattle.json_span.specs.PlainView.{plain_view, plain_field_view};
+ghost use Rattle.json_span.specs.PlainView.{plain_items_view, plain_fields_view};
 ghost use Rattle.json_span.specs.PlainView.{lent_plain, lent_field, IsItemAdded, IsFieldAdded};
 
 use std::alloc::Global;

@@ -20,7 +20,7 @@ use tk_io::Steps;
 /// Why a text was not read. Offsets are bytes.
 #[derive(Clone, Copy, Debug, PartialEq, Eq)]
 pub enum JsonFault {
-    /// The text is no JSON text of RFC 8259; up to this offset it is the front of one, and no further.
+    /// No JSON text of RFC 8259: up to this offset it is a viable prefix, and no further.
     Syntax(usize),
     /// A name that repeats an earlier one of its object, by the offsets of its string.
     Dup(usize, usize),
@@ -98,14 +98,15 @@ fn read_text<'s>(alloc: Global, text: &'s str) -> Result<Node<'s>, JsonFault>
     read_short(alloc, text)
 }
 
-/// The one value that the text shows (RFC 8259), each part at the slice from its first to its last byte. It is one
-/// step of `parses`, whatever it answers.
+/// The one value that the text shows (RFC 8259), each part at the slice from its first to its last
+/// byte. It is one step of `parses`, whatever it answers.
 ///
 /// # Errors
 ///
-/// [`JsonFault::Syntax`] exactly where the grammar does not read the text. Of a text that it reads, [`JsonFault::Dup`]
-/// or [`JsonFault::Deep`], whichever stands first: names of one object must differ once their escapes are read, and at
-/// most 64 brackets may be open at once. [`JsonFault::NoMemory`], also for a text of 4 GiB or more.
+/// [`JsonFault::Syntax`] exactly where the grammar does not read the text. Of a text that it reads,
+/// [`JsonFault::Dup`] or [`JsonFault::Deep`], whichever stands first: names of one object must
+/// differ once their escapes are read, and at most 64 brackets may be open at once.
+/// [`JsonFault::NoMemory`], also for a text of 4 GiB or more.
 pub fn read<'s, L: Ledger>(
     alloc: Global,
     text: &'s str,

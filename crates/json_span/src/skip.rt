@@ -1,6 +1,8 @@
-//! Reading the syntax alone, with a list of open brackets: one byte for each, so depth has no bound.
+//! Reading the syntax alone, with a list of open brackets: one byte for each, so depth has no
+//! bound.
 
-ghost use Rattle.std.specs.Prelude.{◌≡◌, ◌≤◌, ◌<◌, ◌++◌, [], ◌∷◌, length, drop, IfOk, IfErr, true, false};
+ghost use Rattle.std.specs.Prelude.{◌≡◌, ◌≤◌, ◌<◌, ◌++◌, [], ◌∷◌, length, drop, true, false};
+ghost use Rattle.std.specs.Prelude.{IfOk, IfErr};
 ghost use Rattle.grammar.specs.Grammar.{named, seq};
 ghost use Rattle.grammar.specs.Predict.{begins, first};
 ghost use Rattle.json_span.specs.Grammar.{value, ws, one};
@@ -50,7 +52,7 @@ pub(crate) fn before_end(text: &str, at: usize, bracket: Bracket) -> Result<usiz
     }
 }
 
-/// The end of the colon behind a name, and of the blanks around it.
+/// The end of the colon after a name, and of the blanks around it.
 pub(crate) fn colon_end(text: &str, at: usize) -> Result<usize, usize>
     requires { at ≤ length text.now }
     ensures { Scans (seq ws (symbol 58)) text.now at result }
@@ -105,7 +107,8 @@ pub(crate) fn scalar_end(text: &str, at: usize, scalar: Scalar) -> Result<usize,
 // Reads on where a value is to come.
 fn begin(text: &str, at: usize, brackets: &mut Vec<Bracket>) -> Result<Place, Stop>
     requires { at ≤ length text.now }
-    ensures leads { IfOk result (λ p. ContinuesAs text.now (left_of true brackets.old.items) at (left_of p.wants brackets.new.items) p.at) }
+    ensures leads { IfOk result (λ p. ContinuesAs text.now
+        (left_of true brackets.old.items) at (left_of p.wants brackets.new.items) p.at) }
     ensures forward { IfOk result (λ p. at < p.at) }
     ensures within { IfOk result (λ p. p.at ≤ length text.now) }
     ensures stop { IfErr result (λ e. StopsAt (left_of true brackets.old.items) text.now at e) }
@@ -127,7 +130,8 @@ fn begin(text: &str, at: usize, brackets: &mut Vec<Bracket>) -> Result<Place, St
 fn open(text: &str, at: usize, bracket: Bracket, brackets: &mut Vec<Bracket>) -> Result<Place, Stop>
     requires within { at < length text.now }
     requires opens { begins (first ahead (list_of (bracket_of bracket))) (drop at text.now) ≡ true }
-    ensures leads { IfOk result (λ p. ContinuesAs text.now (left_of true brackets.old.items) at (left_of p.wants brackets.new.items) p.at) }
+    ensures leads { IfOk result (λ p. ContinuesAs text.now
+        (left_of true brackets.old.items) at (left_of p.wants brackets.new.items) p.at) }
     ensures forward { IfOk result (λ p. at < p.at) }
     ensures within { IfOk result (λ p. p.at ≤ length text.now) }
     ensures stop { IfErr result (λ e. StopsAt (left_of true brackets.old.items) text.now at e) }
@@ -151,7 +155,8 @@ fn open(text: &str, at: usize, bracket: Bracket, brackets: &mut Vec<Bracket>) ->
 // Opens each square bracket from there on that has another right after it.
 fn open_row(text: &str, from: usize, brackets: &mut Vec<Bracket>) -> Result<usize, NoMemory>
     requires { from ≤ length text.now }
-    ensures leads { IfOk result (λ e. ContinuesAs text.now (left_of true brackets.old.items) from (left_of true brackets.new.items) e) }
+    ensures leads { IfOk result (λ e. ContinuesAs text.now
+        (left_of true brackets.old.items) from (left_of true brackets.new.items) e) }
     ensures forward { IfOk result (λ e. from ≤ e) }
     ensures within { IfOk result (λ e. e ≤ length text.now) }
 {
@@ -166,7 +171,7 @@ fn open_row(text: &str, from: usize, brackets: &mut Vec<Bracket>) -> Result<usiz
     Ok(at)
 }
 
-// Reads on behind a value of a list, whose bracket was taken off the open ones.
+// Reads on after a value of a list, whose bracket was taken off the open ones.
 fn go_on(
     text: &str,
     at: usize,
@@ -174,10 +179,13 @@ fn go_on(
     brackets: &mut Vec<Bracket>,
 ) -> Result<Place, Stop>
     requires { at ≤ length text.now }
-    ensures leads { IfOk result (λ p. ContinuesAs text.now (left_of false (brackets.old.items ++ bracket ∷ [])) at (left_of p.wants brackets.new.items) p.at) }
+    ensures leads { IfOk result (λ p. ContinuesAs text.now
+        (left_of false (brackets.old.items ++ bracket ∷ [])) at
+        (left_of p.wants brackets.new.items) p.at) }
     ensures forward { IfOk result (λ p. at < p.at) }
     ensures within { IfOk result (λ p. p.at ≤ length text.now) }
-    ensures stop { IfErr result (λ e. StopsAt (left_of false (brackets.old.items ++ bracket ∷ [])) text.now at e) }
+    ensures stop { IfErr result (λ e.
+        StopsAt (left_of false (brackets.old.items ++ bracket ∷ [])) text.now at e) }
 {
     let behind = blanks_end(text, at);
     if !has(text, behind, Class::One(b',')) {
@@ -205,7 +213,8 @@ fn skip(
 ) -> Result<usize, Stop>
     requires { from ≤ length text.now }
     ensures end { IfOk result (λ e. ReadsTo (left_of wants_first brackets.items) text.now from e) }
-    ensures stop { IfErr result (λ e. StopsAt (left_of wants_first brackets.items) text.now from e) }
+    ensures stop { IfErr result (λ e.
+        StopsAt (left_of wants_first brackets.items) text.now from e) }
 {
     let mut at = from;
     let mut wants = wants_first;
@@ -232,7 +241,7 @@ pub(crate) fn value_end(alloc: Global, text: &str, at: usize) -> Result<usize, S
     skip(text, at, true, Vec::new(alloc))
 }
 
-/// The end of the list whose bracket is open, behind one of its values.
+/// The end of the list whose bracket is open, after one of its values.
 pub(crate) fn list_end(
     alloc: Global,
     text: &str,
@@ -241,7 +250,8 @@ pub(crate) fn list_end(
 ) -> Result<usize, Stop>
     requires { at ≤ length text.now }
     ensures end { IfOk result (λ e. ReadsTo (seq ws (more_of (bracket_of bracket))) text.now at e) }
-    ensures stop { IfErr result (λ e. StopsAt (seq ws (more_of (bracket_of bracket))) text.now at e) }
+    ensures stop { IfErr result (λ e.
+        StopsAt (seq ws (more_of (bracket_of bracket))) text.now at e) }
 {
     let mut brackets = Vec::new(alloc);
     brackets.push(bracket)?;

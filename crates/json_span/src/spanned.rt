@@ -1,4 +1,5 @@
-//! Texts, with the spans of their values as an independent reader gives them: level by level, each value with its name's before it.
+//! Texts, with the spans of their values as an independent reader gives them: level by level, each
+//! value with its name's before it.
 
 pub(crate) static FIRST: [(&str, &str); 50] = [
     (

@@ -8,7 +8,7 @@ ghost use Rattle.json_span.specs.inner.Scan.{Scans};
 use crate::bytes::{Class, has, row_end};
 use crate::scan::plain_end;
 
-/// The end of a string, behind its closing quote.
+/// The end of a string, after its closing quote.
 pub(crate) fn string_end(text: &str, at: usize) -> Result<usize, usize>
     requires { at ≤ length text.now }
     ensures { Scans (named string) text.now at result }
@@ -54,7 +54,7 @@ fn unicode_end(text: &str, at: usize) -> Result<usize, usize>
     behind_d_end(text, second)
 }
 
-// The rest of an escape's digits behind a first digit `d`.
+// The rest of an escape's digits after a first digit `d`.
 fn behind_d_end(text: &str, at: usize) -> Result<usize, usize>
     requires { at ≤ length text.now }
     ensures { Scans behind_d text.now at result }

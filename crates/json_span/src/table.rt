@@ -1,6 +1,7 @@
 //! The table of a text's values.
 
-/// The offsets of a member's name (0 where there is none) and of a value, and the place behind the value's last part.
+/// The offsets of a member's name (0 where there is none) and of a value, and the place after the
+/// value's last part.
 #[derive(Clone, Copy, Debug)]
 pub(crate) struct Span {
     pub(crate) name: u32,
@@ -11,7 +12,7 @@ pub(crate) struct Span {
 }
 
 /// A text, and the spans of its values, each before its parts.
-#[derive(Drop)]
+#[derive(Debug, Drop)]
 pub(crate) struct Document<'s> {
     pub(crate) text: &'s str,
     pub(crate) nodes: Vec<Span>,

@@ -1,4 +1,5 @@
-//! Texts with the answers that an independent reader gives to them, large texts, and each call once.
+//! Texts with the answers that an independent reader gives to them, large texts, and each call
+//! once.
 
 ghost use Rattle.std.specs.Prelude.{◌≡◌, ◌<◌};
 
@@ -147,7 +148,7 @@ fn long_string(rt: HostRuntime) -> Result<(), Fail> {
     Ok(())
 }
 
-/// What stands behind a million characters of a string, and where the text is refused.
+/// What stands after a million characters of a string, and where the text is refused.
 static LONG: [(&str, usize); 2] = [("\u{1f}", 1000006), (r"\q", 1000007)];
 
 #[test]

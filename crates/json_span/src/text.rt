@@ -13,7 +13,8 @@ use crate::scan::plain_end;
 use std::alloc::Global;
 use tk_io::{NoMemory, Text};
 
-/// The characters of the string that stands there: a slice of the text where no escape stands in it.
+/// The characters of the string that stands there: a slice of the text where no escape stands in
+/// it.
 pub(crate) fn string_text<'s>(alloc: Global, text: &'s str, at: usize) -> Result<Text<'s>, NoMemory>
     requires { StandsString text.now at }
     ensures { IfOk result (λ t. (s : List ℕ) (end : ℕ) → IsString text.entry.now at s end → t ≡ s) }
@@ -26,11 +27,12 @@ pub(crate) fn string_text<'s>(alloc: Global, text: &'s str, at: usize) -> Result
     Text::owned(alloc, characters.as_str())
 }
 
-/// Whether these are the characters of the string that stands there. Only a string with an escape is decoded, and nothing is
-/// kept of it.
+/// Whether these are the characters of the string that stands there. Only a string with an escape
+/// is decoded, and nothing is kept of it.
 pub(crate) fn is_string_of(text: &str, at: usize, characters: &str) -> bool
     requires { StandsString text.now at }
-    ensures { (s : List ℕ) (end : ℕ) → IsString text.now at s end → result ≡ bytes_eq s characters.now }
+    ensures { (s : List ℕ) (end : ℕ) → IsString text.now at s end
+        → result ≡ bytes_eq s characters.now }
 {
     let plain = plain_end(text, at + 1);
     if has(text, plain, Class::One(b'"')) {
@@ -44,7 +46,8 @@ fn decode(alloc: Global, text: &str, from: usize) -> Result<String, NoMemory>
     requires within { from ≤ length text.now }
     requires boundary { IsCharBoundary text.now from }
     requires content { HasCharacters (drop from text.now) }
-    ensures { IfOk result (λ t. (s u : List ℕ) → CharactersAt (drop from text.now) s u → string_bytes t ≡ s) }
+    ensures { IfOk result (λ t. (s u : List ℕ) → CharactersAt (drop from text.now) s u
+        → string_bytes t ≡ s) }
 {
     let mut characters = String::new(alloc);
     let mut at = from;
@@ -64,7 +67,8 @@ fn decode(alloc: Global, text: &str, from: usize) -> Result<String, NoMemory>
 fn are_characters(text: &str, from: usize, characters: &[u8]) -> bool
     requires within { from ≤ length text.now }
     requires content { HasCharacters (drop from text.now) }
-    ensures { (s u : List ℕ) → CharactersAt (drop from text.now) s u → result ≡ bytes_eq s characters.now }
+    ensures { (s u : List ℕ) → CharactersAt (drop from text.now) s u
+        → result ≡ bytes_eq s characters.now }
 {
     let mut rest = characters;
     let mut at = from;

@@ -75,7 +75,8 @@ pub(crate) static READ: [&str; 68] = [
     r#"{"a":{"$type":"dimension","$value":{"value":4,"unit":"em"}}}"#,
 ];
 
-/// Texts that the grammar does not read, and where their longest prefix ends that goes on to a text.
+/// Texts that the grammar does not read, and where their longest prefix ends that goes on to a
+/// text.
 pub(crate) static SYNTAX: [(&str, usize); 137] = [
     ("", 0),
     (" ", 1),
@@ -238,8 +239,8 @@ pub(crate) static DUP: [(&str, usize, usize); 18] = [
     (r#"{"x":[{"y":1,"y":2}],"x":1}"#, 13, 16),
 ];
 
-/// What stands first, what opens each of so many levels, what stands in the innermost, what closes how many of them, what
-/// stands last, and why the text of them is not read.
+/// What stands first, what opens each of so many levels, what stands in the innermost, what closes
+/// how many of them, what stands last, and why the text of them is not read.
 type Levels = (
     &'static str,
     (&'static str, usize),

@@ -1,6 +1,7 @@
 // How a string is written.
 ghost use Rattle.std.specs.Prelude.{◌≡◌, ◌∷◌, List, ℕ, true, ◌++◌, ◌<◌, OnOk, OnErr};
 ghost use Rattle.lane_scan.specs.Bytes.{is_special};
+ghost use Rattle.tk_io.specs.Characters.{quote};
 ghost use Rattle.tk_io.specs.Writing.{Extends};
 ghost use Rattle.json_span.specs.Spelling.{hex_digit, byte_text, inside_text, string_text};
 ghost use Rattle.json_span.specs.Spelling.{are_bytes};
@@ -61,7 +62,8 @@ fn put_string(text: &[u8], out: &mut Bytes) -> Result<(), NoMemory>
     out.append(b"\"")
 }
 
-/// The string of these bytes in quotes; it reads back as they are (`spelling_laws`). Where memory runs out nothing is written.
+/// The string of these bytes in quotes; it reads back as they are (`spelling_laws`). Where memory
+/// runs out nothing is written.
 pub fn write_string_bytes(text: &[u8], out: &mut Bytes) -> Result<(), NoMemory>
     ensures text { OnOk result (out.new ≡ out.old ++ string_text text.now) }
     ensures err { OnErr result (out.new ≡ out.old) }
@@ -81,13 +83,15 @@ pub fn write_string(text: &str, out: &mut Bytes) -> Result<(), NoMemory>
     write_string_bytes(text.as_bytes(), out)
 }
 
-/// The inside of the string, without its quotes. Several of them, with plain characters between each two, are the inside of the joined string
-/// (`spelling_laws`). Where memory runs out nothing is written.
+/// The inside of the string, without its quotes. Several of them, with plain characters between
+/// each two, are the inside of the joined string (`spelling_laws`). Where memory runs out nothing
+/// is written.
 pub fn write_string_inside(text: &str, out: &mut Bytes) -> Result<(), NoMemory>
     ensures text { OnOk result (out.new ≡ out.old ++ inside_text text.now) }
     ensures err { OnErr result (out.new ≡ out.old) }
     // Between quotes it reads back, whatever follows.
-    ensures reads { (u : List ℕ) → StringAt (34 ∷ (inside_text text.now ++ (34 ∷ u))) text.now u }
+    ensures reads { (u : List ℕ)
+        → StringAt (quote ∷ (inside_text text.now ++ (quote ∷ u))) text.now u }
     ensures bytes { are_bytes text.now ≡ true }
 {
     let start = out.len();

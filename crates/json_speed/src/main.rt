@@ -1,6 +1,8 @@
-//! Times nothing itself: reads the JSON text on standard input again and again, so that `bench/json` can time it.
+//! Times nothing itself: reads the JSON text on standard input again and again, so that
+//! `bench/json` can time it.
 //!
-//! Word: the number of rounds. It prints the sum of the offsets at which the values that were read end.
+//! Argument: the number of rounds. It prints the sum of the offsets at which the values that were
+//! read end.
 #![tactic(auto)]
 
 ghost use Rattle.std.specs.Prelude.{◌≡◌, ◌<◌};

@@ -39,7 +39,7 @@ none_behind list name i m s l j d k r = sorted.behind_greater nat_list_cmp_total
 pub stands_there : (list : List Member) (name : List ℕ) (i : ℕ) (m : Member) → i < length list → text_cmp (get_or list i m).name name ≡ Equal → IsPlaceOf list name i
 stands_there list name i m h l = (h, λ d. ap (λ x. x.name) (same_item list i d m h) ∙ text_cmp-IsAntisymmetric (get_or list i m).name name l)
 
--- behind the last, where that is less
+-- after the last, where that is less
 pub behind_last : (list : List Member) (name : List ℕ) (last : Member) → T (is_sorted text_cmp (entries_of list)) → 0 < length list → last ≡ get_or list (length list - 1) last → text_cmp last.name name ≡ Less → IsGapFor list name (length list)
 behind_last list name last s some e l =
     let at_last : text_cmp (get_or list (length list - 1) last).name name ≡ Less = subst (λ x. text_cmp x.name name ≡ Less) e l in (

@@ -16,7 +16,7 @@ use Rattle.token_tree.specs.Laws.{Ascend}
 use Rattle.token_tree.specs.Texts.{is_reserved, is_name}
 use Rattle.token_tree.specs.Shape.{Break, members_in, entries_at, is_object, has, are_token, is_token, has_token_form, has_group_form, at_value, at_name, token_member_breaks, token_breaks, root_breaks, reserved_breaks, group_member_breaks, group_breaks, child_breaks, shape_breaks}
 
--- each break starts behind the one before, all from one place through another
+-- each break starts after the one before, all from one place through another
 abbrev Chain : ℕ → ℕ → List Break → Type 0
 Chain low high [] = Unit {0}
 Chain low high (b ∷ bs) = (low ≤ b.start) × (b.start ≤ high) × Chain (b.start + 1) high bs
@@ -37,7 +37,7 @@ one_of : (t : Bool) (low high : ℕ) (xs ys : List Break) → Chain low high xs 
 one_of true low high xs ys c d = c
 one_of false low high xs ys c d = d
 
--- a byte less is left behind a structural character
+-- a byte less is left after a structural character
 past_token : {c : ℕ} {t u : List ℕ} → Reads rules (symbol c) t u → length u < length t
 past_token (both (one_byte h) w) = omega (arith, no_longer w)
 
@@ -105,7 +105,7 @@ mutual
       (lower start low (end_of n) _ (omega arith) (member_break valued s start end n s0))
       (more_token_members more valued (end_of n + 1) high (omega arith) q)
 
--- a token's breaks, all behind its bracket
+-- a token's breaks, all after its bracket
 token_chain : {total : ℕ} {t u : List ℕ} {v : Tree} → Shape total t v u → (low high : ℕ) → low + length t ≡ total → high + length u ≡ total → Chain (low + 1) high (token_breaks (entries_in (members_in v)))
 token_chain (null_shape r) low high p q = tt
 token_chain (false_shape r) low high p q = tt

@@ -35,7 +35,7 @@ module _ {K X Z : Type 0} {R : K → K → Ordering} (o : IsTotalOrder R) (f : Z
   below_at x (z ∷ zs) zero d h l = less _ (first _ _ h)
   below_at x (z ∷ zs) (suc i) d h l = below_at x zs i d (second _ _ h) (omega (arith, l))
 
-  -- what is before a lesser key is less, and what is behind a greater one is greater
+  -- what is before a lesser key is less, and what is after a greater one is greater
   pub before_less : (zs : List Z) (i j : ℕ) (k : K) (c d : Z) → T (is_sorted R (map f zs)) → i ≤ j → j < length zs → R (key_at zs j d) k ≡ Less → R (key_at zs i c) k ≡ Less
   before_less [] i j k c d h m l e = absurd (omega (arith, l))
   before_less (z ∷ zs) zero zero k c d h m l e = e

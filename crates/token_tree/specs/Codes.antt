@@ -1,19 +1,17 @@
 -- Codes of definitions, by which a proof tells them apart.
 use Rattle.std.specs.Prelude.{◌≡◌, ℕ, Bool, true, false, List, Option, Some, None, unwrap_or}
 use Rattle.std.proofs.Common.{ap, ap₂, refl}
-use Rattle.std.specs.Coded.{Coded, code_by, coded_ℕ, coded_bool, coded_list, coded_option, coded×}
+use Rattle.std.specs.Coded.{Coded, code_by, coded_ℕ, coded_bool, coded_option, coded×}
 use base.Stored.{Gv, gnil, gnum, gcons}
 use Rattle.name_path.specs.declared.kind.Kind.{Kind}
 use Rattle.name_path.specs.declared.kind.Kind.TheVariants.{Color, Dimension, FontFamily, FontWeight, Duration, CubicBezier, Number, StrokeStyle, Border, Transition, Shadow, Gradient, Typography}
 use Rattle.name_path.specs.Kinds.{kind_name}
+pub use Rattle.json_span.specs.CodedText.{coded_text}
 use Rattle.json_span.specs.Tree.{Tree, a_null, a_boolean, a_number, a_string, an_array, an_object, Placed, placed, Elements, no_elements, an_element, Members, no_members, a_member}
 use Rattle.token_tree.specs.declared.mark.Mark.{Mark}
 use Rattle.token_tree.specs.declared.mark.Mark.TheVariants.{No, Yes, Because}
 use Rattle.token_tree.specs.Texts.{kind_named}
 use Rattle.token_tree.specs.Tree.{Definition}
-
-abbrev pub coded_text : Coded (List ℕ)
-coded_text = coded_list coded_ℕ
 
 -- a JSON value
 

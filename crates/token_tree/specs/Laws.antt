@@ -12,7 +12,7 @@ use Rattle.token_tree.specs.Tree.{Definition, child_at}
 use Rattle.token_tree.specs.Shape.{Break, shape_breaks, shape_of, slice_of, entries_at, is_object, is_child, child_of, group_of}
 use Rattle.token_tree.specs.Promise.{IsDefinition, StandsIn}
 
--- each break starts behind the one before, and none before this place
+-- each break starts after the one before, and none before this place
 abbrev pub Ascend : ℕ → List Break → Type 0
 Ascend from [] = Unit {0}
 Ascend from (b ∷ bs) = (from ≤ b.start) × Ascend (b.start + 1) bs

@@ -45,7 +45,7 @@ read_step (b ∷ c ∷ bs) =
     else if (b == tilde) && (c == digit_zero + 1) then solidus ∷ read_step bs
     else b ∷ read_step (c ∷ bs)
 
--- the steps of a pointer behind its '#', and the names between braces, whether the text is spelled so or not
+-- the steps of a pointer after its '#', and the names between braces, whether the text is spelled so or not
 abbrev pub pointer_steps : List ℕ → List (List ℕ)
 pointer_steps text = map read_step (drop 1 (slice_split (λ b. b == solidus) text))
 

@@ -6,9 +6,9 @@ use name_path::Kind;
 use std::marker::Model;
 use tk_io::Text;
 
-/// A token as it is written in a file. It is seen as plain data, and it is always what its `source` shows: that is the
-/// text of an object without a flaw, which is a token and breaks no rule.
-#[derive(Drop)]
+/// A token as it is written in a file. It is seen as plain data, and it is always what its `source`
+/// shows: that is the text of an object without a flaw, which is a token and breaks no rule.
+#[derive(Debug, Drop)]
 pub struct TokenDef<'s> {
     /// The name of the file.
     pub file: &'s str,
@@ -16,7 +16,7 @@ pub struct TokenDef<'s> {
     pub source: &'s str,
     /// The byte offset of `source` in the file's text.
     pub start: usize,
-    /// The byte offset behind it.
+    /// The byte offset after it.
     pub end: usize,
     /// What stands under `$value`, or under `$ref`.
     pub value: Node<'s>,

@@ -45,8 +45,8 @@ fn place_from_end<'s>(list: &[Member<'s>], name: &Text<'s>) -> Result<usize, usi
     place(list, name)
 }
 
-/// Puts the child under a copy of the name in its place, or replaces the child of the name. Where memory runs out the list
-/// stays.
+/// Puts the child under a copy of the name in its place, or replaces the child of the name. Where
+/// memory runs out the list stays.
 pub(crate) fn put_child<'s>(
     list: &mut Vec<Member<'s>>,
     name: &Text<'s>,

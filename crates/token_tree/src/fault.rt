@@ -26,7 +26,8 @@ pub enum Rule {
 /// Why a file has no shape.
 #[derive(Clone, Copy, Debug, PartialEq, Eq)]
 pub enum ShapeFault {
-    /// The first rule that is broken, and the byte offsets of the beginning and the end of its span.
+    /// The first rule that is broken, and the byte offsets of the beginning and the end of its
+    /// span.
     Broken(Rule, usize, usize),
     /// Memory ran out.
     NoMemory,

@@ -5,9 +5,9 @@ ghost use Rattle.token_tree.specs.Laws.{GroupsNamed, KindsNamed, NamesTest};
 
 use json_span::json_laws;
 
-/// The breaks of a file stand in the order of its text; a definition is decided by its file's name, its source and where
-/// that starts, and so is the shape of a value, by its slice; and at a name of a group stands what the object's member of
-/// that name shows.
+/// The breaks of a file stand in the order of its text; a definition is decided by its file's name,
+/// its source and where that starts, and so is the shape of a value, by its slice; and at a name of
+/// a group stands what the object's member of that name shows.
 pub fn shape_laws()
     ensures ascend { BreaksAscend }
     ensures one { OneDefinition }

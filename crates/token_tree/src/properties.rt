@@ -1,4 +1,5 @@
-//! The properties that a token or a group may have: which are there, and whether they have their form.
+//! The properties that a token or a group may have: which are there, and whether they have their
+//! form.
 
 ghost use Rattle.std.specs.Prelude.{◌≡◌, IfOk};
 ghost use Rattle.json_span.specs.View.{json_view, fields_view};

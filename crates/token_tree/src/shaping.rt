@@ -13,12 +13,13 @@ use crate::tree::Group;
 use json_span::Node;
 use std::alloc::Global;
 
-/// The groups and tokens of a file, or of an object in it: the file's name, its text, and the value of the text that is
-/// the root (Format Module 2025.10, groups and tokens).
+/// The groups and tokens of a file, or of an object in it: the file's name, its text, and the value
+/// of the text that is the root (Format Module 2025.10, groups and tokens).
 ///
 /// # Errors
 ///
-/// [`ShapeFault::Broken`] exactly where a rule is broken, with the first break in the order of the text.
+/// [`ShapeFault::Broken`] exactly where a rule is broken, with the first break in the order of the
+/// text.
 pub fn shape<'s>(
     alloc: Global,
     file: &'s str,

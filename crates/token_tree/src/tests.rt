@@ -1,4 +1,5 @@
-//! Files with the shapes that an independent reader gives them, a tree looked at part by part, and each call once.
+//! Files with the shapes that an independent reader gives them, a tree looked at part by part, and
+//! each call once.
 
 ghost use Rattle.std.specs.Prelude.{◌≡◌, ◌<◌};
 

@@ -7,7 +7,8 @@ ghost use Rattle.token_tree.specs.Answer.{TellsFirst, IsObjectOf};
 ghost use Rattle.token_tree.specs.Promise.{StandsIn};
 ghost use Rattle.token_tree.specs.Shape.{are_token, has_token_form, is_object, slice_of};
 ghost use Rattle.token_tree.specs.Shape.{token_breaks, token_member_breaks, token_value};
-ghost use Rattle.token_tree.specs.Shape.{extensions_of, said_deprecated, said_description, said_kind};
+ghost use Rattle.token_tree.specs.Shape.{extensions_of, said_deprecated, said_description};
+ghost use Rattle.token_tree.specs.Shape.{said_kind};
 ghost use Rattle.token_tree.specs.inner.Outcomes.{ExtensionsStand, def_at, slice_view};
 
 use crate::definition::TokenDef;

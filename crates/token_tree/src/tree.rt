@@ -21,7 +21,7 @@ use std::rc::Rc;
 use tk_io::{NoMemory, Text};
 
 /// A group: what it says of itself, and its members.
-#[derive(Drop)]
+#[derive(Debug, Drop)]
 #[cycle(group)]
 pub struct Group<'s> {
     /// `$type`, where given.
@@ -42,12 +42,13 @@ pub struct Extends<'s> {
     pub file: &'s str,
     /// The byte offset of the string that names it.
     pub start: usize,
-    /// The byte offset behind that string.
+    /// The byte offset after that string.
     pub end: usize,
 }
 
-/// The members of a group, seen as a finite map from name to token or group, in byte order of names. Copies share them.
-#[derive(Drop)]
+/// The members of a group, seen as a finite map from name to token or group, in byte order of
+/// names. Copies share them.
+#[derive(Debug, Drop)]
 #[cycle(group)]
 pub struct Members<'s> {
     alloc: Global,
@@ -56,7 +57,7 @@ pub struct Members<'s> {
 }
 
 /// A member of a group under its name.
-#[derive(Drop)]
+#[derive(Debug, Drop)]
 #[cycle(group)]
 pub struct Member<'s> {
     pub name: Text<'s>,
@@ -64,7 +65,7 @@ pub struct Member<'s> {
 }
 
 /// A token or a group. Trees share both.
-#[derive(Drop)]
+#[derive(Debug, Drop)]
 #[cycle(group)]
 pub enum Child<'s> {
     Token(Rc<TokenDef<'s>>),
@@ -160,7 +161,8 @@ impl<'s> Members<'s> {
         }
     }
 
-    /// The i-th member in byte order of names, counted from 0; none where i is not below the length.
+    /// The i-th member in byte order of names, counted from 0; none where i is not below the
+    /// length.
     pub fn at(&self, i: usize) -> Option<(&Text<'s>, &Child<'s>)>
         ensures { option_map entry_view result ≡ slice_get (map.entries self.now) i }
     {
@@ -186,8 +188,9 @@ impl<'s> Members<'s> {
         }
     }
 
-    /// Adds the member under a copy of the name, or replaces the member of the name. Where memory runs out the child is
-    /// dropped and the members stay. Other copies of the members stay as well.
+    /// Adds the member under a copy of the name, or replaces the member of the name. Where memory
+    /// runs out the child is dropped and the members stay. Other copies of the members stay as
+    /// well.
     pub fn put(&mut self, name: &Text<'s>, child: Child<'s>) -> Result<(), NoMemory>
         ensures ok { OnOk result (self.new ≡ insert self.old name.now (child_view child.entry)) }
         // What stands at each name afterwards.

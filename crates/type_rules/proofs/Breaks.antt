@@ -15,7 +15,7 @@ pub stays : {A B T : Type 0} (p : Checked A) (f : A → Checked B) (x : ValueFau
 stays p f x (Ok y) h b = tt
 stays p f x (Err e) h b = let P : ValueFault → Type 0 = λ z. IsBreak (p >>= f) z in subst P (sym h) (break_stays p f x b)
 
--- what the check behind a sound one finds
+-- what the check after a sound one finds
 pub next_ok : {A B : Type 0} (p : Checked A) (f : A → Checked B) (a : A) (r : Result B ValueFault) → p ≡ Ok a → IfOk r (λ x. f a ≡ Ok x) → IfOk r (λ x. (p >>= f) ≡ Ok x)
 next_ok p f a (Ok y) e h = ap (λ q. q >>= f) e ∙ h
 next_ok p f a (Err y) e h = tt

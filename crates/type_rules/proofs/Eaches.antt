@@ -10,7 +10,7 @@ use Rattle.type_rules.specs.Answer.{IsBreak}
 use Rattle.type_rules.specs.Forms.{each}
 
 module _ {A : Type 0} where
-  -- these items, and those that are found behind them
+  -- these items, and those that are found after them
   abbrev pub behind : List A → Checked (List A) → Checked (List A)
   behind xs r = r >>= λ ys. Ok (xs ++ ys)
 
@@ -23,7 +23,7 @@ module _ {A : Type 0} where
   more xs x (Err b) = refl
 
   module _ (check : Value → Checked A) (vs : List Value) (i : ℕ) where
-    -- the item at the index, then those behind it
+    -- the item at the index, then those after it
     module _ (v : Value) (first : drop i vs ≡ v ∷ drop (i + 1) vs) where
       step : each check i (drop i vs) ≡ (under (decimal i) (check v) >>= λ x. each check (i + 1) (drop (i + 1) vs) >>= λ xs. Ok (x ∷ xs))
       step = ap (each check i) first

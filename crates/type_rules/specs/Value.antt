@@ -6,6 +6,7 @@ use Rattle.std.specs.Char.{is_ascii_hexdigit, to_ascii_lowercase}
 use Rattle.std.specs.Fmt.{decimal}
 use Rattle.std.specs.List.{list_all}
 use Rattle.std.specs.Str.{bytes_eq}
+use Rattle.tk_io.specs.Characters.{number_sign}
 use Rattle.json_span.specs.Plain.{plain_string_in}
 use Rattle.json_span.specs.PlainView.{Value, ValueEntry}
 use Rattle.dec_fix.specs.Decimal.{Decimal}
@@ -143,7 +144,10 @@ alpha_in v = do
 -- '#' and six hexadecimal digits, of which the digits are kept in lower case
 abbrev pub hex_digits : List ℕ → Option (List ℕ)
 hex_digits [] = None
-hex_digits (mark ∷ digits) = if (mark == 35) && ((length digits == 6) && list_all is_ascii_hexdigit digits) then Some (map to_ascii_lowercase digits) else None
+hex_digits (mark ∷ digits) =
+    if (mark == number_sign) && ((length digits == 6) && list_all is_ascii_hexdigit digits) then
+    Some (map to_ascii_lowercase digits)
+    else None
 
 unfoldable pub hex_in : Value → Checked (Option (List ℕ))
 hex_in v = do

@@ -78,7 +78,7 @@ fn in_lower_case(digits: &[u8]) -> [u8; 6]
     hex
 }
 
-// The six digits behind '#', in lower case.
+// The six digits after '#', in lower case.
 fn hex_digits(text: &str) -> Option<[u8; 6]>
     ensures { result ≡ hex_digits text.now }
 {
@@ -117,8 +117,8 @@ fn hex_under<'s>(
     }
 }
 
-/// An object of a word `colorSpace`, a list `components`, and optionally a number `alpha` and a text `hex`, checked in
-/// this order. An absent `alpha` is 1.
+/// An object of a word `colorSpace`, a list `components`, and optionally a number `alpha` and a
+/// text `hex`, checked in this order. An absent `alpha` is 1.
 impl<'s> Part<'s> for Color {
     type Typed = Color;
 

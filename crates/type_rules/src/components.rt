@@ -125,8 +125,8 @@ fn ranged_components<'s>(
     })
 }
 
-/// The components that the value is: a list of exactly three, of which, after the forms of all three, each lies in its
-/// range in this space.
+/// The components that the value is: a list of exactly three, of which, after the forms of all
+/// three, each lies in its range in this space.
 pub(crate) fn components_of<'s>(
     alloc: Global,
     space: Space,

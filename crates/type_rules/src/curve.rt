@@ -14,7 +14,8 @@ use dec_fix::Dec;
 use json_span::Plain;
 use std::alloc::Global;
 
-/// A cubic Bézier curve from (0, 0) to (1, 1) by its two control points. `x1` and `x2` are within 0 to 1.
+/// A cubic Bézier curve from (0, 0) to (1, 1) by its two control points. `x1` and `x2` are within 0
+/// to 1.
 #[derive(Clone, Copy, Debug, PartialEq, Eq)]
 pub struct Curve {
     pub x1: Dec,
@@ -61,7 +62,8 @@ fn ranged_curve<'s>(alloc: Global, curve: Curve) -> Result<Curve, ValueFault<'s>
     })
 }
 
-/// A list of exactly four numbers, of which, after the forms of all four, the first and the third lie within 0 to 1.
+/// A list of exactly four numbers, of which, after the forms of all four, the first and the third
+/// lie within 0 to 1.
 impl<'s> Part<'s> for Curve {
     type Typed = Curve;
 

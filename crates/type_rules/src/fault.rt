@@ -69,8 +69,8 @@ impl ValueRule {
 /// Why a value has no type.
 #[derive(Debug, Drop)]
 pub enum ValueFault<'s> {
-    /// The first rule that is broken, and the steps from the value to the part that breaks it: names of members, and
-    /// indices of items in decimal digits.
+    /// The first rule that is broken, and the steps from the value to the part that breaks it:
+    /// names of members, and indices of items in decimal digits.
     Broken { rule: ValueRule, trail: Trail<'s> },
     /// Memory ran out.
     NoMemory,
@@ -109,7 +109,7 @@ pub fn or_broken<'s, T>(
     }
 }
 
-// The step, and behind it these steps.
+// The step, and after it these steps.
 fn before<'s>(alloc: Global, step: Text<'s>, steps: &Trail<'s>) -> Result<Trail<'s>, NoMemory>
     ensures { IfOk result (λ trail. trail ≡ step.entry ∷ steps.now) }
 {
@@ -150,7 +150,8 @@ fn outside_item<'s>(alloc: Global, i: usize, fault: ValueFault<'s>) -> ValueFaul
     }
 }
 
-/// What was found of the member of this name, seen from its object: a broken rule has the name as its first step.
+/// What was found of the member of this name, seen from its object: a broken rule has the name as
+/// its first step.
 pub fn under<'s, T>(
     alloc: Global,
     name: &'s str,
@@ -165,7 +166,8 @@ pub fn under<'s, T>(
     }
 }
 
-/// What was found of the i-th item, counted from 0, seen from its list: a broken rule has the index as its first step.
+/// What was found of the i-th item, counted from 0, seen from its list: a broken rule has the index
+/// as its first step.
 pub fn at_item<'s, T>(
     alloc: Global,
     i: usize,

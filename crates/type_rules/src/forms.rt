@@ -14,8 +14,8 @@ use json_span::{Plain, PlainFields, PlainItems};
 use std::alloc::Global;
 use tk_io::Text;
 
-/// The number that the value is. A number that is not within the bounds of those that are read breaks the rule on wide
-/// numbers, and every other value that on shapes.
+/// The number that the value is. A number that is not within the bounds of those that are read
+/// breaks the rule on wide numbers, and every other value that on shapes.
 #[tactic(auto, unfolding(crate::specs::Forms::number_in))]
 pub fn check_number<'s>(alloc: Global, plain: &Plain<'s>) -> Result<Dec, ValueFault<'s>>
     ensures ok { IfOk result (λ number. number_in (plain_view plain.now) ≡ Ok number) }

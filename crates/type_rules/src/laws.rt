@@ -6,8 +6,9 @@ ghost use Rattle.type_rules.specs.Laws.{CurvesKeep, FamiliesKeep, WeightsKeep, N
 ghost use Rattle.type_rules.specs.Laws.{SharesAreParts, StepsLead, ItemsStand, SpacesNamed};
 ghost use Rattle.type_rules.specs.Laws.{SizeUnitsNamed, TimeUnitsNamed, WeightsNamed};
 
-/// A value has the kind under which it is read, and lies in the ranges of the kind; its numbers are such as are read.
-/// Each such value is the value of some plain value. Where a rule is broken, the steps lead from the value to a part of it.
+/// A value has the kind under which it is read, and lies in the ranges of the kind; its numbers are
+/// such as are read. Each such value is the value of some plain value. Where a rule is broken, the
+/// steps lead from the value to a part of it.
 pub fn value_laws()
     ensures kinds { KindsStay }
     ensures keeps { ValuesKeep }

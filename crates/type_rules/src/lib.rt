@@ -1,8 +1,9 @@
-//! The types of values (Design Tokens Format Module 2025.10, and its Color Module): what a value without references is
-//! under a simple kind, or the first rule that it breaks and the steps to the part that breaks it.
+//! The types of values (Design Tokens Format Module 2025.10, and its Color Module): what a value
+//! without references is under a simple kind, or the first rule that it breaks and the steps to the
+//! part that breaks it.
 //!
-//! The parts of values of other kinds are checked by the same calls: each checks one part, and `under` and `at_item` tell
-//! its fault as seen from the value that holds the part.
+//! The parts of values of other kinds are checked by the same calls: each checks one part, and
+//! `under` and `at_item` tell its fault as seen from the value that holds the part.
 #![tactic(auto)]
 
 mod color;

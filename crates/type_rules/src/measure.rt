@@ -12,8 +12,8 @@ use dec_fix::Dec;
 use json_span::Plain;
 use std::alloc::Global;
 
-/// The number and the unit that the value is: an object of a number `value` and a text `unit` out of the table, checked
-/// in this order. Another text breaks the rule.
+/// The number and the unit that the value is: an object of a number `value` and a text `unit` out
+/// of the table, checked in this order. Another text breaks the rule.
 pub(crate) fn measure_of<'s, U: Copy>(
     alloc: Global,
     rule: ValueRule,

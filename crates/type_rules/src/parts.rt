@@ -1,5 +1,6 @@
-//! Parts of values: under the names of members, and at the places of items. A missing part breaks the rule on shapes at
-//! its object or list; what a part breaks has the name or the index as its first step.
+//! Parts of values: under the names of members, and at the places of items. A missing part breaks
+//! the rule on shapes at its object or list; what a part breaks has the name or the index as its
+//! first step.
 
 ghost use Rattle.std.specs.Prelude.{◌≡◌, ℕ, [], ◌∷◌, Ok, IfOk, IfErr};
 ghost use Rattle.std.specs.Fmt.{decimal};
@@ -95,7 +96,8 @@ pub fn list_of<'s, P: Part<'s>>(
     each_part::<P>(alloc, items)
 }
 
-/// The items of the list of one or more that the value is, each as a part. A list of none breaks the rule on shapes.
+/// The items of the list of one or more that the value is, each as a part. A list of none breaks
+/// the rule on shapes.
 pub fn some_of<'s, P: Part<'s>>(
     alloc: Global,
     plain: &Plain<'s>,

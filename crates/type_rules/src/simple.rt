@@ -51,11 +51,12 @@ impl<'s> Simple<'s> {
     }
 }
 
-/// The value under a kind whose values are made of no values of other kinds, or the first rule that it breaks.
+/// The value under a kind whose values are made of no values of other kinds, or the first rule that
+/// it breaks.
 ///
 /// # Errors
-/// `Broken` with the first broken rule in the order of the kind's parts, and the steps to the part that breaks it;
-/// `NoMemory` where memory runs out.
+/// `Broken` with the first broken rule in the order of the kind's parts, and the steps to the part
+/// that breaks it; `NoMemory` where memory runs out.
 pub fn check_simple<'s>(
     alloc: Global,
     kind: Kind,

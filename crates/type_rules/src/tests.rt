@@ -1,4 +1,5 @@
-//! Each call once, on values made by hand. The layer that checks values of every kind has the table of whole values.
+//! Each call once, on values made by hand. The layer that checks values of every kind has the table
+//! of whole values.
 
 use crate::*;
 use dec_fix::Dec;

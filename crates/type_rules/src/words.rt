@@ -21,8 +21,8 @@ pub fn meaning<T: Copy>(table: &[(&str, T)], word: &str) -> Option<T>
     None
 }
 
-/// What the text that the value is stands for by the table. A text that the table does not have breaks the rule, and
-/// every other value that on shapes.
+/// What the text that the value is stands for by the table. A text that the table does not have
+/// breaks the rule, and every other value that on shapes.
 pub fn word_of<'s, T: Copy>(
     alloc: Global,
     rule: ValueRule,

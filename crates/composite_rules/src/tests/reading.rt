@@ -1,4 +1,5 @@
-//! Plain values of JSON texts without escapes and blanks, also of objects with equal names, which `json_span` refuses.
+//! Plain values of JSON texts without escapes and blanks, also of objects with equal names, which
+//! `json_span` refuses.
 
 use json_span::{Plain, PlainField, PlainFields, PlainItems};
 use std::alloc::Global;

@@ -1,5 +1,5 @@
-//! Values under their kinds with the answers of an independent reader: the typed value, or `!`, the first rule that is
-//! broken and the steps to the part that breaks it.
+//! Values under their kinds with the answers of an independent reader: the typed value, or `!`, the
+//! first rule that is broken and the steps to the part that breaks it.
 
 pub(super) const DIMENSIONS: &str = r##"
 {"value":4,"unit":"px"}|4 px

@@ -35,7 +35,7 @@ abbrev pub flaw_of_built : Built → Option Flaw
 flaw_of_built (Whole end) = None
 flaw_of_built (Flawed f end) = Some (flaw_view f)
 
--- a whole value is kept as its spans behind the old ones
+-- a whole value is kept as its spans after the old ones
 abbrev pub IsKept : ℕ → ℕ → List Span → List Span → Built → Placed → Type 0
 IsKept name name_end old new (Whole end) tree =
     (new ≡ old ++ spans name name_end (length old) tree) × (length new ≤ end)
@@ -78,7 +78,7 @@ IsNext b text at (Closed end) = IsClose b text at end
 abbrev pub HaltsBehind : Bracket → List ℕ → ℕ → ℕ → Type 0
 HaltsBehind b text at stop = Halts (seq ws (more_of b)) text at stop
 
--- a list's span, whose next value stands behind all that were kept, is put in its place
+-- a list's span, whose next value stands after all that were kept, is put in its place
 abbrev pub IsClosed : List Span → ℕ → ℕ → ℕ → ℕ → ℕ → List Span → Type 0
 IsClosed old index name name_end start end new = new ≡ set old index (span name name_end start end (length old))
 

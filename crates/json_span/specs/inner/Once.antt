@@ -9,6 +9,7 @@ use Rattle.std.proofs.Math.Nat.{ℕ_set}
 use Rattle.json_span.specs.Tree.{Tree, a_null, a_boolean, a_number, a_string, an_array, an_object, Placed, placed, Elements, no_elements, an_element, Members, no_members, a_member, Entry}
 use Rattle.json_span.specs.Reading.{StringAt}
 use Rattle.json_span.specs.Characters.{CharactersAt}
+use Rattle.json_span.specs.CodedText.{coded_text}
 use Rattle.json_span.specs.inner.SameContents.{same_content}
 use Rattle.json_span.specs.Table.{size, sizes, size_inside, member_sizes, span, spans, spans_inside, spans_of, member_spans, truth_byte, HasType, IsString, Fits, FitsAt, AllFit, MembersFit, Lies, AllLie, MembersLie, MemberLies, Standing, MemberStanding, AllStanding, MembersStanding}
 use Rattle.json_span.specs.declared.table.Span.{Span}
@@ -32,9 +33,6 @@ same_truth true true e = refl
 same_truth false false e = refl
 same_truth true false e = absurd (omega (arith, e))
 same_truth false true e = absurd (omega (arith, e))
-
-pub coded_text : Coded (List ℕ)
-coded_text = coded_list coded_ℕ
 
 pub string_at_one : (t s u s2 u2 : List ℕ) → StringAt t s u → StringAt t s2 u2 → s ≡ s2
 string_at_one t s u s2 u2 p q =

@@ -9,7 +9,7 @@ use Rattle.json_span.specs.declared.alternative.Bracket.{Bracket}
 use Rattle.json_span.specs.declared.stop.Stop.{Stop}
 use Rattle.json_span.specs.declared.stop.Stop.TheVariants.{Syntax, NoMemory}
 
--- behind a value, with this to read behind the outermost bracket
+-- after a value, with this to read after the outermost bracket
 abbrev pub closing_then : List Bracket → Rule Name → Rule Name
 closing_then [] rest = rest
 closing_then (b ∷ bs) rest = closing_then bs (seq ws (seq (more_of (bracket_of b)) rest))
@@ -17,7 +17,7 @@ closing_then (b ∷ bs) rest = closing_then bs (seq ws (seq (more_of (bracket_of
 abbrev pub closing_of : List Bracket → Rule Name
 closing_of bs = closing_then bs empty
 
--- where a value is to come, or behind one
+-- where a value is to come, or after one
 abbrev pub left_of : Bool → List Bracket → Rule Name
 left_of true bs = seq (named value) (closing_of bs)
 left_of false bs = closing_of bs

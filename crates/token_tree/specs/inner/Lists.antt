@@ -24,7 +24,7 @@ IsGapFor list name i = (i ≤ length list) × IsPartitionPoint (λ m. text_cmp m
 abbrev pub child_in : List ℕ → List ℕ → Entry → Option (List ℕ × ChildData)
 child_in file text e = if is_child e.name then Some (e.name, child_of file text e.value) else None
 
--- an item in front, where there is one
+-- an item before the others, where there is one
 abbrev pub with_front : {A : Type 0} → Option A → List A → List A
 with_front None xs = xs
 with_front (Some x) xs = x ∷ xs

@@ -1,9 +1,8 @@
-use Rattle.std.proofs.Common.{[], true, false, refl, sym, ◌∙◌, subst, arith, rules, append-nil, Ok}
+use Rattle.std.proofs.Common.{[], true, false, refl, sym, ◌∙◌, arith, rules, append-nil, Ok}
 use Rattle.std.proofs.lemmas.Result.{err_from_is_err_and}
 use Rattle.json_span.specs.Steered.{square, curly}
 use Rattle.json_span.specs.inner.Alternatives.{bracket_of}
 use Rattle.json_span.specs.inner.Scan.{rule_of}
-use Rattle.json_span.specs.inner.Building.{Opens}
 use Rattle.json_span.specs.declared.alternative.Bracket.TheVariants.{Square, Curly}
 use Rattle.json_span.specs.declared.alternative.Alternative.TheVariants.{Scalar}
 use Rattle.json_span.specs.declared.stop.Stop.TheVariants.{Syntax}
@@ -12,7 +11,6 @@ use Rattle.json_span.proofs.AlternativesRead.{value_scan, value_stops, no_value}
 use Rattle.json_span.proofs.Lists as list
 use Rattle.json_span.proofs.MemberLists as members
 use Rattle.json_span.proofs.Gives as gives
-use Rattle.json_span.proofs.Naming as naming
 use Rattle.json_span.proofs.build.+value.Goals as goal
 
 pub build_array-loop-end-init : goal.build_array-loop-end-init
@@ -27,77 +25,55 @@ build_array-loop-end-init t c = record {
 
 pub build_array-returns-in_err-end-clause-stop : goal.build_array-returns-in_err-end-clause-stop
 build_array-returns-in_err-end-clause-stop t c =
-    let T = c.args.text.now in
     let l = c.loop-end in
-    let held = l.invariant in
-    let nothing = skip.reach_nothing T l.next held.within in
+    let nothing = skip.reach_nothing c.args.text.now l.next l.invariant.within in
     let p = err_from_is_err_and c.from_residual-in_err-end.result c.from_residual-in_err-end.ensures.1 in
-    rw (p.1, p.2) (list.bad_value T square c.args.at l.next held.leads l.next c.in_err-end.field-0.0 nothing c.in_err-end.ensures.stop)
+    rw (p.1, p.2) (list.bad_value c.args.text.now square c.args.at l.next l.invariant.leads l.next c.in_err-end.field-0.0 nothing c.in_err-end.ensures.stop)
 
 pub build_array-returns-in_err-end-in-Flawed-clause-stop : goal.build_array-returns-in_err-end-in-Flawed-clause-stop
 build_array-returns-in_err-end-in-Flawed-clause-stop t c =
-    let T = c.args.text.now in
     let l = c.loop-end in
-    let held = l.invariant in
-    let nothing = skip.reach_nothing T l.next held.within in
+    let nothing = skip.reach_nothing c.args.text.now l.next l.invariant.within in
     let b = gives.built_as c.in-Flawed.is c.in_ok-end.ensures.ok in
     let failed = c.from_residual-in_err-end-in-Flawed in
     let p = err_from_is_err_and failed.result failed.ensures.1 in
-    rw (p.1, p.2) (list.bad_rest T square c.args.at l.next held.leads l.next c.in-Flawed.end c.in_err-end-in-Flawed.field-0.0 nothing b.reads c.in_err-end-in-Flawed.ensures.stop)
+    rw (p.1, p.2) (list.bad_rest c.args.text.now square c.args.at l.next l.invariant.leads l.next c.in-Flawed.end c.in_err-end-in-Flawed.field-0.0 nothing b.reads c.in_err-end-in-Flawed.ensures.stop)
 
 pub build_array-returns-in-Flawed-clause-ok : goal.build_array-returns-in-Flawed-clause-ok
 build_array-returns-in-Flawed-clause-ok t c =
-    let T = c.args.text.now in
-    let l = c.loop-end in
-    let held = l.invariant in
-    let nothing = skip.reach_nothing T l.next held.within in
-    let b = gives.built_as c.in-Flawed.is c.in_ok-end.ensures.ok in
-    gives.array_flawed c.requires.1.1.0 held.leads held.elements held.within b c.in_ok-end-in-Flawed.ensures.end
+    let held = c.loop-end.invariant in
+    gives.array_flawed c.requires.1.1.0 held.leads held.elements held.within (gives.built_as c.in-Flawed.is c.in_ok-end.ensures.ok) c.in_ok-end-in-Flawed.ensures.end
 
 pub build_array-returns-in_err-item-clause-stop : goal.build_array-returns-in_err-item-clause-stop
 build_array-returns-in_err-item-clause-stop t c =
-    let T = c.args.text.now in
     let l = c.loop-end in
-    let held = l.invariant in
-    let nothing = skip.reach_nothing T l.next held.within in
+    let nothing = skip.reach_nothing c.args.text.now l.next l.invariant.within in
     let b = gives.built_as c.in-Whole.is c.in_ok-end.ensures.ok in
     let failed = c.from_residual-in_err-item in
     let p = err_from_is_err_and failed.result failed.ensures.1 in
-    rw (p.1, p.2) (list.bad_rest T square c.args.at l.next held.leads l.next c.in-Whole.end (Syntax c.in_err-item.field-0.0) nothing b.reads c.in_err-item.ensures.stop)
+    rw (p.1, p.2) (list.bad_rest c.args.text.now square c.args.at l.next l.invariant.leads l.next c.in-Whole.end (Syntax c.in_err-item.field-0.0) nothing b.reads c.in_err-item.ensures.stop)
 
 pub build_array-loop-end-preserved : goal.build_array-loop-end-preserved
 build_array-loop-end-preserved t c =
-    let T = c.args.text.now in
-    let l = c.loop-end in
-    let held = l.invariant in
-    let nothing = skip.reach_nothing T l.next held.within in
+    let held = c.loop-end.invariant in
     let b = gives.built_as c.in-Whole.is c.in_ok-end.ensures.ok in
-    let goes_on = c.in_ok-item.ensures.ok in
-    let comma = gives.next_as square T c.in-Whole.end c.in-Item.is goes_on in
+    let comma = gives.next_as square c.args.text.now c.in-Whole.end c.in-Item.is c.in_ok-item.ensures.ok in
     let (h, leads, left, more) = gives.array_next c.requires.1.1.0 held.leads held.elements held.within b comma in
-    record { within = h; leads = leads; elements = left; index = search rules; same = c.in_ok-end.ensures.names ∙ held.same; small = record { short = held.small.short; places = omega (arith, b.kept.1, list.past_comma T c.in-Whole.end c.in-Item.item comma) } }
+    record { within = h; leads = leads; elements = left; index = search rules; same = c.in_ok-end.ensures.names ∙ held.same; small = gives.small_after c.in-Whole.end held.small b.kept.1 comma }
 
 pub build_array-loop-end-smaller : goal.build_array-loop-end-smaller
 build_array-loop-end-smaller t c =
-    let T = c.args.text.now in
-    let l = c.loop-end in
-    let held = l.invariant in
-    let nothing = skip.reach_nothing T l.next held.within in
+    let held = c.loop-end.invariant in
     let b = gives.built_as c.in-Whole.is c.in_ok-end.ensures.ok in
-    let goes_on = c.in_ok-item.ensures.ok in
-    let comma = gives.next_as square T c.in-Whole.end c.in-Item.is goes_on in
+    let comma = gives.next_as square c.args.text.now c.in-Whole.end c.in-Item.is c.in_ok-item.ensures.ok in
     let more = (gives.array_next c.requires.1.1.0 held.leads held.elements held.within b comma).3 in
     omega arith
 
 pub build_array-returns-in-Closed-clause-ok : goal.build_array-returns-in-Closed-clause-ok
 build_array-returns-in-Closed-clause-ok t c =
-    let T = c.args.text.now in
-    let l = c.loop-end in
-    let held = l.invariant in
-    let nothing = skip.reach_nothing T l.next held.within in
+    let held = c.loop-end.invariant in
     let b = gives.built_as c.in-Whole.is c.in_ok-end.ensures.ok in
-    let goes_on = c.in_ok-item.ensures.ok in
-    let close = gives.next_as square T c.in-Whole.end c.in-Closed.is goes_on in
+    let close = gives.next_as square c.args.text.now c.in-Whole.end c.in-Closed.is c.in_ok-item.ensures.ok in
     gives.array_whole c.requires.1.1.0 held.leads held.elements held.within b close (search rules)
 
 pub build_list-returns-then-room-eq0-clause-ok : goal.build_list-returns-then-room-eq0-clause-ok
@@ -111,25 +87,13 @@ build_list-returns-then-has-clause-ok t c =
 
 pub build_list-build_array-requires : goal.build_list-build_array-requires
 build_list-build_array-requires t c =
-    let T = c.args.text.now in
-    let o : Opens (bracket_of c.args.bracket) T c.args.at c.blanks_end-inner.result = record {
-      bound = c.requires.1.1.0;
-      opens = c.requires.1.1.1.0;
-      blanks = c.blanks_end-inner.ensures;
-      some = skip.close_sees T [] c.args.bracket (rule_of c.close.result) c.blanks_end-inner.result false c.close.ensures (sym c.if-has.ensures.test);
-    } in
-    (search rules, (subst (λ z. Opens (bracket_of z) T c.args.at c.blanks_end-inner.result) c.in-Square.is o, c.requires.1.1.1.1))
+    let some = skip.close_sees c.args.text.now [] c.args.bracket (rule_of c.close.result) c.blanks_end-inner.result false c.close.ensures (sym c.if-has.ensures.test) in
+    (search rules, (gives.opens_as c.in-Square.is c.requires.1.1.0 c.requires.1.1.1.0 c.blanks_end-inner.ensures some, c.requires.1.1.1.1))
 
 pub build_list-build_object-requires : goal.build_list-build_object-requires
 build_list-build_object-requires t c =
-    let T = c.args.text.now in
-    let o : Opens (bracket_of c.args.bracket) T c.args.at c.blanks_end-inner.result = record {
-      bound = c.requires.1.1.0;
-      opens = c.requires.1.1.1.0;
-      blanks = c.blanks_end-inner.ensures;
-      some = skip.close_sees T [] c.args.bracket (rule_of c.close.result) c.blanks_end-inner.result false c.close.ensures (sym c.if-has.ensures.test);
-    } in
-    (search rules, (subst (λ z. Opens (bracket_of z) T c.args.at c.blanks_end-inner.result) c.in-Curly.is o, c.requires.1.1.1.1))
+    let some = skip.close_sees c.args.text.now [] c.args.bracket (rule_of c.close.result) c.blanks_end-inner.result false c.close.ensures (sym c.if-has.ensures.test) in
+    (search rules, (gives.opens_as c.in-Curly.is c.requires.1.1.0 c.requires.1.1.1.0 c.blanks_end-inner.ensures some, c.requires.1.1.1.1))
 
 pub build_value-returns-in_ok-push-in-Some-Scalar-clause-ok : goal.build_value-returns-in_ok-push-in-Some-Scalar-clause-ok
 build_value-returns-in_ok-push-in-Some-Scalar-clause-ok t c =
@@ -160,161 +124,91 @@ build_object-loop-own-init t c = record {
 
 pub build_object-returns-in_err-own-clause-stop : goal.build_object-returns-in_err-own-clause-stop
 build_object-returns-in_err-own-clause-stop t c =
-    let T = c.args.text.now in
     let l = c.loop-own in
-    let held = l.invariant in
     let p = err_from_is_err_and c.from_residual-in_err-own.result c.from_residual-in_err-own.ensures.1 in
-    rw (p.1, p.2) (list.bad_name T c.args.at l.next held.leads (Syntax c.in_err-own.field-0.0) c.in_err-own.ensures.stop)
+    rw (p.1, p.2) (list.bad_name c.args.text.now c.args.at l.next l.invariant.leads (Syntax c.in_err-own.field-0.0) c.in_err-own.ensures.stop)
 
 pub build_object-returns-in_err-value-clause-stop : goal.build_object-returns-in_err-value-clause-stop
 build_object-returns-in_err-value-clause-stop t c =
-    let T = c.args.text.now in
     let l = c.loop-own in
-    let held = l.invariant in
-    let n = c.in_ok-own.own in
-    let read = c.in_ok-own.ensures.ok in
-    let own = naming.named_at T l.next n read in
     let p = err_from_is_err_and c.from_residual-in_err-value.result c.from_residual-in_err-value.ensures.1 in
-    rw (p.1, p.2) (list.bad_colon T c.args.at l.next n.end held.leads c.in_err-value.field-0.0 c.in_ok-own.ensures.ok.reads c.in_err-value.ensures)
+    rw (p.1, p.2) (list.bad_colon c.args.text.now c.args.at l.next c.in_ok-own.own.end l.invariant.leads c.in_err-value.field-0.0 c.in_ok-own.ensures.ok.reads c.in_err-value.ensures)
 
 pub build_object-returns-in_err-built-clause-stop : goal.build_object-returns-in_err-built-clause-stop
 build_object-returns-in_err-built-clause-stop t c =
-    let T = c.args.text.now in
     let l = c.loop-own in
-    let held = l.invariant in
-    let n = c.in_ok-own.own in
-    let read = c.in_ok-own.ensures.ok in
-    let own = naming.named_at T l.next n read in
-    let before = gives.name_before read.reads c.in_ok-value.ensures in
+    let before = gives.name_before c.in_ok-own.ensures.ok.reads c.in_ok-value.ensures in
     let p = err_from_is_err_and c.from_residual-in_err-built.result c.from_residual-in_err-built.ensures.1 in
-    rw (p.1, p.2) (list.bad_value T curly c.args.at l.next held.leads c.in_ok-value.value c.in_err-built.field-0.0 before c.in_err-built.ensures.stop)
+    rw (p.1, p.2) (list.bad_value c.args.text.now curly c.args.at l.next l.invariant.leads c.in_ok-value.value c.in_err-built.field-0.0 before c.in_err-built.ensures.stop)
 
 pub build_object-returns-in_err-end-in-Flawed-clause-stop : goal.build_object-returns-in_err-end-in-Flawed-clause-stop
 build_object-returns-in_err-end-in-Flawed-clause-stop t c =
-    let T = c.args.text.now in
     let l = c.loop-own in
-    let held = l.invariant in
-    let n = c.in_ok-own.own in
-    let read = c.in_ok-own.ensures.ok in
-    let own = naming.named_at T l.next n read in
-    let before = gives.name_before read.reads c.in_ok-value.ensures in
-    let b = gives.built_at read.start c.in-Flawed.is c.in_ok-built.ensures.ok in
+    let m = gives.member_read c.in_ok-own.ensures.ok c.in_ok-value.ensures c.in-Flawed.is c.in_ok-built.ensures.ok in
     let failed = c.from_residual-in_err-end-in-Flawed in
     let p = err_from_is_err_and failed.result failed.ensures.1 in
-    rw (p.1, p.2) (list.bad_rest T curly c.args.at l.next held.leads c.in_ok-value.value c.in-Flawed.end c.in_err-end-in-Flawed.field-0.0 before b.reads c.in_err-end-in-Flawed.ensures.stop)
+    rw (p.1, p.2) (list.bad_rest c.args.text.now curly c.args.at l.next l.invariant.leads c.in_ok-value.value c.in-Flawed.end c.in_err-end-in-Flawed.field-0.0 (gives.name_before m.name m.colon) m.built.reads c.in_err-end-in-Flawed.ensures.stop)
 
 pub build_object-returns-in-Flawed-clause-ok : goal.build_object-returns-in-Flawed-clause-ok
 build_object-returns-in-Flawed-clause-ok t c =
-    let T = c.args.text.now in
-    let l = c.loop-own in
-    let held = l.invariant in
-    let n = c.in_ok-own.own in
-    let read = c.in_ok-own.ensures.ok in
-    let own = naming.named_at T l.next n read in
-    let b = gives.built_at read.start c.in-Flawed.is c.in_ok-built.ensures.ok in
-    let pushed = c.in_ok-built.ensures.names ∙ c.in_ok-push-2.ensures.items in
-    let are = gives.names_read held.members pushed held.base (own.is b.tree) in
+    let held = c.loop-own.invariant in
+    let m = gives.member_read c.in_ok-own.ensures.ok c.in_ok-value.ensures c.in-Flawed.is c.in_ok-built.ensures.ok in
+    let are = gives.names_read held.members m c.in_ok-push-2.ensures.items c.in_ok-built.ensures.names held.base in
     let told = c.in_ok-first-in-Flawed.ensures.flaw _ are in
-    rw c.unwrap_or.ensures (gives.object_flawed c.requires.1.1.0 held.leads held.members held.within read.reads own.stands c.in_ok-value.ensures c.in_ok-first-in-Flawed.first b told c.in_ok-end-in-Flawed.ensures.end)
+    rw c.unwrap_or.ensures (gives.object_flawed c.requires.1.1.0 held.leads held.members held.within c.in_ok-first-in-Flawed.first m told c.in_ok-end-in-Flawed.ensures.end)
 
 pub build_object-returns-in_err-item-clause-stop : goal.build_object-returns-in_err-item-clause-stop
 build_object-returns-in_err-item-clause-stop t c =
-    let T = c.args.text.now in
     let l = c.loop-own in
-    let held = l.invariant in
-    let n = c.in_ok-own.own in
-    let read = c.in_ok-own.ensures.ok in
-    let own = naming.named_at T l.next n read in
-    let before = gives.name_before read.reads c.in_ok-value.ensures in
-    let b = gives.built_at read.start c.in-Whole.is c.in_ok-built.ensures.ok in
+    let m = gives.member_read c.in_ok-own.ensures.ok c.in_ok-value.ensures c.in-Whole.is c.in_ok-built.ensures.ok in
     let failed = c.from_residual-in_err-item in
     let p = err_from_is_err_and failed.result failed.ensures.1 in
-    rw (p.1, p.2) (list.bad_rest T curly c.args.at l.next held.leads c.in_ok-value.value c.in-Whole.end (Syntax c.in_err-item.field-0.0) before b.reads c.in_err-item.ensures.stop)
+    rw (p.1, p.2) (list.bad_rest c.args.text.now curly c.args.at l.next l.invariant.leads c.in_ok-value.value c.in-Whole.end (Syntax c.in_err-item.field-0.0) (gives.name_before m.name m.colon) m.built.reads c.in_err-item.ensures.stop)
 
 pub build_object-loop-own-preserved : goal.build_object-loop-own-preserved
 build_object-loop-own-preserved t c =
-    let T = c.args.text.now in
-    let l = c.loop-own in
-    let held = l.invariant in
-    let n = c.in_ok-own.own in
-    let read = c.in_ok-own.ensures.ok in
-    let own = naming.named_at T l.next n read in
-    let b = gives.built_at read.start c.in-Whole.is c.in_ok-built.ensures.ok in
-    let pushed = c.in_ok-built.ensures.names ∙ c.in_ok-push-2.ensures.items in
-    let goes_on = c.in_ok-item.ensures.ok in
-    let comma = gives.next_as curly T c.in-Whole.end c.in-Item.is goes_on in
-    let (h, leads, left, more) = gives.object_next c.requires.1.1.0 held.leads held.members held.within read.reads own.stands c.in_ok-value.ensures b comma (own.is b.tree) pushed in
-    record { within = h; leads = leads; members = left; base = held.base; index = search rules; small = record { short = held.small.short; places = omega (arith, b.kept.1, list.past_comma T c.in-Whole.end c.in-Item.item comma) } }
+    let held = c.loop-own.invariant in
+    let m = gives.member_read c.in_ok-own.ensures.ok c.in_ok-value.ensures c.in-Whole.is c.in_ok-built.ensures.ok in
+    let comma = gives.next_as curly c.args.text.now c.in-Whole.end c.in-Item.is c.in_ok-item.ensures.ok in
+    let (h, leads, left, more) = gives.object_next c.requires.1.1.0 held.leads held.members held.within m comma c.in_ok-push-2.ensures.items c.in_ok-built.ensures.names in
+    record { within = h; leads = leads; members = left; base = held.base; index = search rules; small = gives.small_after c.in-Whole.end held.small m.built.kept.1 comma }
 
 pub build_object-loop-own-smaller : goal.build_object-loop-own-smaller
 build_object-loop-own-smaller t c =
-    let T = c.args.text.now in
-    let l = c.loop-own in
-    let held = l.invariant in
-    let n = c.in_ok-own.own in
-    let read = c.in_ok-own.ensures.ok in
-    let own = naming.named_at T l.next n read in
-    let b = gives.built_at read.start c.in-Whole.is c.in_ok-built.ensures.ok in
-    let pushed = c.in_ok-built.ensures.names ∙ c.in_ok-push-2.ensures.items in
-    let goes_on = c.in_ok-item.ensures.ok in
-    let comma = gives.next_as curly T c.in-Whole.end c.in-Item.is goes_on in
-    let more = (gives.object_next c.requires.1.1.0 held.leads held.members held.within read.reads own.stands c.in_ok-value.ensures b comma (own.is b.tree) pushed).3 in
+    let held = c.loop-own.invariant in
+    let m = gives.member_read c.in_ok-own.ensures.ok c.in_ok-value.ensures c.in-Whole.is c.in_ok-built.ensures.ok in
+    let comma = gives.next_as curly c.args.text.now c.in-Whole.end c.in-Item.is c.in_ok-item.ensures.ok in
+    let more = (gives.object_next c.requires.1.1.0 held.leads held.members held.within m comma c.in_ok-push-2.ensures.items c.in_ok-built.ensures.names).3 in
     omega arith
 
 pub build_object-close_names-requires-clause-are : goal.build_object-close_names-requires-clause-are
 build_object-close_names-requires-clause-are t c =
-    let T = c.args.text.now in
-    let l = c.loop-own in
-    let held = l.invariant in
-    let n = c.in_ok-own.own in
-    let read = c.in_ok-own.ensures.ok in
-    let own = naming.named_at T l.next n read in
-    let b = gives.built_at read.start c.in-Flawed.is c.in_ok-built.ensures.ok in
-    let pushed = c.in_ok-built.ensures.names ∙ c.in_ok-push-2.ensures.items in
-    let are = gives.names_read held.members pushed held.base (own.is b.tree) in
+    let held = c.loop-own.invariant in
+    let m = gives.member_read c.in_ok-own.ensures.ok c.in_ok-value.ensures c.in-Flawed.is c.in_ok-built.ensures.ok in
+    let are = gives.names_read held.members m c.in_ok-push-2.ensures.items c.in_ok-built.ensures.names held.base in
     (_, are)
 
 pub build_object-close_names-requires-in-Closed-clause-are : goal.build_object-close_names-requires-in-Closed-clause-are
 build_object-close_names-requires-in-Closed-clause-are t c =
-    let T = c.args.text.now in
-    let l = c.loop-own in
-    let held = l.invariant in
-    let n = c.in_ok-own.own in
-    let read = c.in_ok-own.ensures.ok in
-    let own = naming.named_at T l.next n read in
-    let b = gives.built_at read.start c.in-Whole.is c.in_ok-built.ensures.ok in
-    let pushed = c.in_ok-built.ensures.names ∙ c.in_ok-push-2.ensures.items in
-    let are = gives.names_read held.members pushed held.base (own.is b.tree) in
+    let held = c.loop-own.invariant in
+    let m = gives.member_read c.in_ok-own.ensures.ok c.in_ok-value.ensures c.in-Whole.is c.in_ok-built.ensures.ok in
+    let are = gives.names_read held.members m c.in_ok-push-2.ensures.items c.in_ok-built.ensures.names held.base in
     (_, are)
 
 pub build_object-returns-in-Some-clause-ok : goal.build_object-returns-in-Some-clause-ok
 build_object-returns-in-Some-clause-ok t c =
-    let T = c.args.text.now in
-    let l = c.loop-own in
-    let held = l.invariant in
-    let n = c.in_ok-own.own in
-    let read = c.in_ok-own.ensures.ok in
-    let own = naming.named_at T l.next n read in
-    let b = gives.built_at read.start c.in-Whole.is c.in_ok-built.ensures.ok in
-    let pushed = c.in_ok-built.ensures.names ∙ c.in_ok-push-2.ensures.items in
-    let are = gives.names_read held.members pushed held.base (own.is b.tree) in
-    let goes_on = c.in_ok-item.ensures.ok in
-    let close = gives.next_as curly T c.in-Whole.end c.in-Closed.is goes_on in
+    let held = c.loop-own.invariant in
+    let m = gives.member_read c.in_ok-own.ensures.ok c.in_ok-value.ensures c.in-Whole.is c.in_ok-built.ensures.ok in
+    let are = gives.names_read held.members m c.in_ok-push-2.ensures.items c.in_ok-built.ensures.names held.base in
+    let close = gives.next_as curly c.args.text.now c.in-Whole.end c.in-Closed.is c.in_ok-item.ensures.ok in
     let told = gives.told_as c.in-Some.is (c.in_ok-again-in-Closed.ensures.flaw _ are) in
-    gives.object_again c.requires.1.1.0 held.leads held.members held.within read.reads own.stands c.in_ok-value.ensures b close told
+    gives.object_again c.requires.1.1.0 held.leads held.members held.within m close told
 
 pub build_object-returns-in-Closed-clause-ok : goal.build_object-returns-in-Closed-clause-ok
 build_object-returns-in-Closed-clause-ok t c =
-    let T = c.args.text.now in
-    let l = c.loop-own in
-    let held = l.invariant in
-    let n = c.in_ok-own.own in
-    let read = c.in_ok-own.ensures.ok in
-    let own = naming.named_at T l.next n read in
-    let b = gives.built_at read.start c.in-Whole.is c.in_ok-built.ensures.ok in
-    let pushed = c.in_ok-built.ensures.names ∙ c.in_ok-push-2.ensures.items in
-    let are = gives.names_read held.members pushed held.base (own.is b.tree) in
-    let goes_on = c.in_ok-item.ensures.ok in
-    let close = gives.next_as curly T c.in-Whole.end c.in-Closed.is goes_on in
+    let held = c.loop-own.invariant in
+    let m = gives.member_read c.in_ok-own.ensures.ok c.in_ok-value.ensures c.in-Whole.is c.in_ok-built.ensures.ok in
+    let are = gives.names_read held.members m c.in_ok-push-2.ensures.items c.in_ok-built.ensures.names held.base in
+    let close = gives.next_as curly c.args.text.now c.in-Whole.end c.in-Closed.is c.in_ok-item.ensures.ok in
     let told = gives.told_as c.in_default.is (c.in_ok-again-in-Closed.ensures.flaw _ are) in
-    gives.object_whole c.requires.1.1.0 held.leads held.members held.within read.reads own.stands c.in_ok-value.ensures b close told (search rules)
+    gives.object_whole c.requires.1.1.0 held.leads held.members held.within m close told (search rules)

@@ -1,6 +1,5 @@
-use Rattle.std.proofs.Common.{◌≡◌, Some, sym, ap, ◌∙◌, arith, option_map}
-use Rattle.json_span.specs.Tree.{array_in, object_in}
-use Rattle.json_span.specs.View.{ref_view, json_view, items_view, fields_view}
+use Rattle.std.proofs.Common.{sym, ap, ◌∙◌, arith, option_map}
+use Rattle.json_span.specs.View.{ref_view, items_view, fields_view}
 use Rattle.json_span.proofs.PlainCopies.{array_larger, object_larger, array_copied, object_copied}
 use Rattle.json_span.proofs.copying.+copying.Goals as goal
 

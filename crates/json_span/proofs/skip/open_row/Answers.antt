@@ -1,4 +1,4 @@
-use Rattle.std.proofs.Common.{◌+◌, sym, arith}
+use Rattle.std.proofs.Common.{sym, arith}
 use Rattle.json_span.proofs.Skips as skip
 use Rattle.json_span.proofs.skip.open_row.Goals as goal
 

@@ -3,7 +3,7 @@ use Rattle.std.specs.Prelude.{slice_range}
 use Rattle.std.specs.Coded.{Coded-set}
 use Rattle.std.proofs.Math.Logic.{∥∥₁_elim}
 use Rattle.std.proofs.lemmas.Result.{IfOk-weaker}
-use Rattle.json_span.specs.inner.Once.{coded_text}
+use Rattle.json_span.specs.CodedText.{coded_text}
 use Rattle.json_span.specs.Table.{IsString}
 use Rattle.json_span.proofs.Lying.{quote_seen, name_inside, name_read, content_at, has_content}
 use Rattle.json_span.proofs.Strings as string

@@ -8,7 +8,7 @@ on_any : {A B P : Type 0} (r : Result A B) → P → OnErr r P
 on_any (Ok x) p = tt
 on_any (Err x) p = p
 
--- a run is put behind what was written
+-- a run is put after what was written
 run_added : (old mid new run : List ℕ) → Extends old mid → new ≡ mid ++ run → Extends old new
 run_added old mid new run p e = extends_more old mid new p (run, e)
 

@@ -1,4 +1,4 @@
--- What is before is less, and what is behind is greater.
+-- What is before is less, and what is after is greater.
 use Rattle.std.proofs.Common.{◌≡◌, ℕ, ◌-◌, ◌<◌, ◌≤◌, length, get_or, Less, Greater}
 use Rattle.tk_io.specs.Order.{text_cmp}
 use Rattle.token_tree.specs.declared.tree.Member.{Member}
