@@ -54,7 +54,7 @@ pub(crate) fn whole_spot<'a, 's>(
     }))
 }
 
-/// The part behind a step.
+/// The part after a step.
 fn part_node<'a, 's>(content: &Content<'a, 's>, step: &str) -> Option<NodeRef<'a, 's>>
     requires { length (content_items content.now) < 2 ^ 64 }
     ensures { option_map ref_view result ≡ part_under step.now (content_parts content.now) }
@@ -66,7 +66,7 @@ fn part_node<'a, 's>(content: &Content<'a, 's>, step: &str) -> Option<NodeRef<'a
     }
 }
 
-/// The part of a place behind a step, which leads to this value.
+/// The part of a place after a step, which leads to this value.
 pub(crate) fn part_spot<'a, 's>(
     alloc: Global,
     place: &Place<'s>,
@@ -94,7 +94,7 @@ pub(crate) fn part_spot<'a, 's>(
 }
 
 impl<'a, 's> Spot<'a, 's> {
-    /// The part behind a step; none where the step leads to nothing.
+    /// The part after a step; none where the step leads to nothing.
     pub(crate) fn part(
         &self,
         alloc: Global,

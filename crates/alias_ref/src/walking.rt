@@ -224,7 +224,7 @@ fn walk_fields<'a, 's>(
     Ok(list)
 }
 
-/// Walks the part behind a step.
+/// Walks the part after a step.
 #[cycle(walking)]
 fn walk_part<'a, 's>(
     alloc: Global,

@@ -134,7 +134,7 @@ capped_up a s h r q e ih = elim (cases_lt 1000000 h) [
 ]
 
 module _ (nodes : List GroupAt) (needs : ℕ → List ℕ) (table : List ℕ) where
-  -- the heights behind the ones that the table shows
+  -- the heights of which the table shows the capped ones
   record Behind (ws : List ℕ) : Type 0 where
     heights : List ℕ
     come : AllCome needs (λ v hs. height_of (group_in nodes v) hs) ws heights
