@@ -80,7 +80,7 @@ alias_spelled text path e = go (is_token_path (curly_names text) && bytes_eq tex
         subst (SpellsPath text) h (test_path (curly_names text) (and_left _ (bytes_eq text (curly_text (curly_names text))) t), same_text text (curly_text (curly_names text)) (and_right (is_token_path (curly_names text)) _ t))
     go false t f = absurd (cc)
 
--- the steps before `$value` and behind it are a cut
+-- the steps before `$value` and after it are a cut
 cut_value : (steps : List (List ℕ)) → IsValueCut steps (before_value steps) (behind_value steps)
 cut_value [] = (All-nil (λ t. t ≢ value_step), inr (refl, refl))
 cut_value (s ∷ steps) = go (bytes_eq s value_step) refl (cut_value steps)

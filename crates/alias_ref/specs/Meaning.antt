@@ -32,7 +32,7 @@ mutual
     means_parts : {p : Place} {c : Container} {steps : List Step} {es : List ValueEntry} → T p ≡ Some (parts c steps) → EachMeans T p steps es → Means T p (put_together c es)
     means_target : {p q : Place} {v : Value} → Leads T p q → Means T q v → Means T p v
 
-  -- the parts of p behind these steps mean these values, in order
+  -- the parts of p after these steps mean these values, in order
   pub data EachMeans (T : Tokens) : Place → List Step → List ValueEntry → Type 0 where
     none_left : {p : Place} → EachMeans T p [] []
     one_more : {p : Place} {s : Step} {steps : List Step} {v : Value} {es : List ValueEntry} → Means T (part p s) v → EachMeans T p steps es → EachMeans T p (s ∷ steps) (record { name = s; value = v } ∷ es)

@@ -1,4 +1,4 @@
--- The references that texts spell, as readings that compute: curly aliases, and pointers by RFC 6901 behind a '#'.
+-- The references that texts spell, as readings that compute: curly aliases, and pointers by RFC 6901 after a '#'.
 use Rattle.std.specs.Prelude.{ℕ, ◌-◌, Bool, false, ◌&&◌, ◌||◌, ◌==◌, nat_le, if◌then◌else◌, List, [], ◌∷◌, length, Option, Some, None, slice_index}
 use Rattle.std.specs.Str.{bytes_eq}
 use Rattle.tk_io.specs.Characters.{left_brace, right_brace}
@@ -21,7 +21,7 @@ is_token_path (name ∷ next ∷ path) = is_name name && is_token_path (next ∷
 abbrev pub alias_named : List ℕ → Option (List (List ℕ))
 alias_named text = if is_token_path (curly_names text) && bytes_eq text (curly_text (curly_names text)) then Some (curly_names text) else None
 
--- the steps before the first `$value`, and those behind it
+-- the steps before the first `$value`, and those after it
 abbrev pub before_value : List (List ℕ) → List (List ℕ)
 before_value [] = []
 before_value (step ∷ steps) = if bytes_eq step value_step then [] else step ∷ before_value steps

@@ -150,7 +150,7 @@ written_as role (a_string text) = text_written role text
 written_as role (an_array ns) = parts array (steps_of (parts_by_index 0 (elements_in ns)))
 written_as role (an_object ms) = object_written (entries_in ms)
 
--- the role of a string behind a step
+-- the role of a string after a step
 abbrev pub role_behind : Step → Role
 role_behind s = if bytes_eq s (codes "$ref") then of_ref else of_value
 

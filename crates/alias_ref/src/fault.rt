@@ -14,7 +14,7 @@ pub enum RefRule {
     RefSyntax,
     /// A reference names an absent token, or a step of it no member or item.
     RefTarget,
-    /// References lead in a ring.
+    /// References lead in a cycle.
     Cycle,
     /// A place stands after 256 others on its branch.
     Deep,

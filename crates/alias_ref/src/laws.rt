@@ -2,7 +2,12 @@
 
 ghost use Rattle.alias_ref.specs.Answer.{OneResolved, OneFirstBreak, NeverBoth};
 ghost use Rattle.alias_ref.specs.Unchanged.{DifferDecides};
-ghost use Rattle.alias_ref.specs.Laws.{AliasesNamed, PointersNamed, OneLead, OneEnd, OneMeaning, OneKind, OneLinks, RingsAreReal, BreaksAreReal, UnbrokenMeans, UnbrokenIsSound, UnbrokenDepth, UnbrokenHasKind, UnbrokenHasLinks, MeaningsFit, PartsMean, LinksAreReal, LinksAreAll, SourceDecides, RefsOfSource, WrittenAreListed, ListedAreWritten, UnchangedIsAlike};
+ghost use Rattle.alias_ref.specs.Laws.{AliasesNamed, PointersNamed, OneLead, OneEnd, OneMeaning};
+ghost use Rattle.alias_ref.specs.Laws.{OneKind, OneLinks, RingsAreReal, BreaksAreReal};
+ghost use Rattle.alias_ref.specs.Laws.{UnbrokenMeans, UnbrokenIsSound, UnbrokenDepth};
+ghost use Rattle.alias_ref.specs.Laws.{UnbrokenHasKind, UnbrokenHasLinks, MeaningsFit, PartsMean};
+ghost use Rattle.alias_ref.specs.Laws.{LinksAreReal, LinksAreAll, SourceDecides, RefsOfSource};
+ghost use Rattle.alias_ref.specs.Laws.{WrittenAreListed, ListedAreWritten, UnchangedIsAlike};
 
 /// The readings of texts are exact: an alias names the path that its text spells, and a pointer the place.
 pub fn references_named()

@@ -4,7 +4,8 @@ ghost use Rattle.std.specs.Prelude.{◌≡◌, ◌≤◌, length, Some, false, I
 ghost use Rattle.alias_ref.specs.Written.{is_misspelled};
 ghost use Rattle.alias_ref.specs.inner.Contents.{content_view};
 ghost use Rattle.alias_ref.specs.inner.Spots.{IsSpot, HasStarts, IsSameBranch};
-ghost use Rattle.alias_ref.specs.inner.Walks.{settling, passing, leading, passing_on, HasGone, HasEnded};
+ghost use Rattle.alias_ref.specs.inner.Walks.{settling, passing, leading, passing_on, HasGone};
+ghost use Rattle.alias_ref.specs.inner.Walks.{HasEnded};
 
 use crate::content::Content;
 use crate::fault::{RefFault, RefRule};

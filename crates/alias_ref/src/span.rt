@@ -36,7 +36,7 @@ pub fn span_of<'s>(flat: &Flat<'s>, place: &Place<'s>) -> (usize, usize)
     (node.start(), node.end())
 }
 
-/// The part behind a step, where the value is no reference. No string has parts, so none has to be read.
+/// The part after a step, where the value is no reference. No string has parts, so none has to be read.
 fn next_node<'a, 's>(node: NodeRef<'a, 's>, step: &str) -> Option<NodeRef<'a, 's>>
     requires short { (ns : List Placed) → array_in (json_view node) ≡ Some ns → length ns < 2 ^ 64 }
     ensures { (role : Role) → option_map ref_view result

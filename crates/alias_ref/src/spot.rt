@@ -1,6 +1,7 @@
 //! Where a walk stands.
 
-ghost use Rattle.std.specs.Prelude.{◌≡◌, ◌<◌, ◌^◌, ℕ, Some, None, false, length, option_map, IfOk, IfSome, IfNone};
+ghost use Rattle.std.specs.Prelude.{◌≡◌, ◌<◌, ◌^◌, ℕ, Some, None, false, length, option_map, IfOk};
+ghost use Rattle.std.specs.Prelude.{IfSome, IfNone};
 ghost use Rattle.std.specs.FinMap as map;
 ghost use Rattle.alias_ref.specs.Written.{whole, part, part_under, is_reference};
 ghost use Rattle.alias_ref.specs.Laws.{Flat as FlatTree};
@@ -54,7 +55,7 @@ pub(crate) fn whole_spot<'a, 's>(
     }))
 }
 
-/// The part behind a step.
+/// The part after a step.
 fn part_node<'a, 's>(content: &Content<'a, 's>, step: &str) -> Option<NodeRef<'a, 's>>
     requires { length (content_items content.now) < 2 ^ 64 }
     ensures { option_map ref_view result ≡ part_under step.now (content_parts content.now) }
@@ -66,7 +67,7 @@ fn part_node<'a, 's>(content: &Content<'a, 's>, step: &str) -> Option<NodeRef<'a
     }
 }
 
-/// The part of a place behind a step, which leads to this value.
+/// The part of a place after a step, which leads to this value.
 pub(crate) fn part_spot<'a, 's>(
     alloc: Global,
     place: &Place<'s>,
@@ -94,7 +95,7 @@ pub(crate) fn part_spot<'a, 's>(
 }
 
 impl<'a, 's> Spot<'a, 's> {
-    /// The part behind a step; none where the step leads to nothing.
+    /// The part after a step; none where the step leads to nothing.
     pub(crate) fn part(
         &self,
         alloc: Global,

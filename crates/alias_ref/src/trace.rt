@@ -1,6 +1,7 @@
 //! The trace of a walk: the places that are being visited, and how many visits there were.
 
-ghost use Rattle.std.specs.Prelude.{◌≡◌, ◌≤◌, ◌+◌, ◌∷◌, ◌++◌, [], ℕ, List, Contains, length, drop, map, Some, IfOk, OnOk, false};
+ghost use Rattle.std.specs.Prelude.{◌≡◌, ◌≤◌, ◌+◌, ◌∷◌, ◌++◌, [], ℕ, List, Contains, length, drop};
+ghost use Rattle.std.specs.Prelude.{map, Some, IfOk, OnOk, false};
 ghost use Rattle.name_path.specs.declared.place.Place.{Place};
 ghost use Rattle.alias_ref.specs.Written.{Tokens};
 ghost use Rattle.alias_ref.specs.Visits.{visit, since, ref_break};

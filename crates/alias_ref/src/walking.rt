@@ -6,8 +6,10 @@ ghost use Rattle.alias_ref.specs.Written.{is_misspelled, part};
 ghost use Rattle.alias_ref.specs.inner.Contents.{content_view};
 ghost use Rattle.alias_ref.specs.inner.Linking.{kind_with, lent, links_added};
 ghost use Rattle.alias_ref.specs.inner.Spots.{IsSpot, IsHolder, IsPartAt, HasStarts, IsSameBranch};
-ghost use Rattle.alias_ref.specs.inner.Walks.{walking, walking_on, walking_parts, HasSeen, IsMeantAt};
-ghost use Rattle.alias_ref.specs.inner.Walks.{IsKindAt, HasLinks, HasLinksOf, item_parts, field_parts};
+ghost use Rattle.alias_ref.specs.inner.Walks.{walking, walking_on, walking_parts, HasSeen};
+ghost use Rattle.alias_ref.specs.inner.Walks.{IsMeantAt};
+ghost use Rattle.alias_ref.specs.inner.Walks.{IsKindAt, HasLinks, HasLinksOf, item_parts};
+ghost use Rattle.alias_ref.specs.inner.Walks.{field_parts};
 ghost use Rattle.alias_ref.specs.inner.Walks.{ItemsMean, FieldsMean};
 
 use crate::content::Content;
@@ -224,7 +226,7 @@ fn walk_fields<'a, 's>(
     Ok(list)
 }
 
-/// Walks the part behind a step.
+/// Walks the part after a step.
 #[cycle(walking)]
 fn walk_part<'a, 's>(
     alloc: Global,

@@ -17,7 +17,7 @@ use Rattle.group_inherit.specs.Merging.{named, empty_group}
 use Rattle.group_inherit.specs.Expansion.{without_extension, expanded, Expands, expands, AreExpanded, no_member, own_token, child_group, IsInherited, no_target}
 use Rattle.group_inherit.specs.Extension.{GroupPath, group_of, group_at, at_path, groups_from, groups_among, groups_in, children_in, extension_of, target_path, names_of_groups, needs_of, needs, Lost, lost_at, lost_among, has_group, lost_targets, how_many, count_of, tokens_height, greatest_raised, height_of}
 use Rattle.group_inherit.specs.inner.Numbering.{GroupAt, LacksName, AreNamed, AreNamedAmong, AreNamedIn}
-use Rattle.group_inherit.specs.Answer.{IsCounted, IsSound}
+use Rattle.group_inherit.specs.Answer.{most_members, most_levels, most_told, IsCounted, IsSound}
 use Rattle.group_inherit.proofs.Finding.{goes_on}
 use Rattle.group_inherit.proofs.Naming.{sorted_lacks, sorted_rest, get_here, get_later}
 use Rattle.group_inherit.proofs.OrderedTrees.{again}
@@ -193,10 +193,10 @@ bare_no_ring tree b = no_ring (needs tree) [] (comes_end (needs tree) (λ path c
 
 -- The verdict.
 
-pub bare_counted : (tree : Group) (shown : ℕ) → IsBare tree → shown ≡ min (members_of tree) 1000000 → shown ≤ 16384 → IsCounted tree
+pub bare_counted : (tree : Group) (shown : ℕ) → IsBare tree → shown ≡ min (members_of tree) most_told → shown ≤ most_members → IsCounted tree
 bare_counted tree shown b is h = (members_of tree, bare_count tree b, omega (arith, is, h))
 
-pub bare_sound : (tree : Group) (shown levels : ℕ) → IsBare tree → shown ≡ min (members_of tree) 1000000 → levels ≡ min (levels_of tree) 1000000 → shown ≤ 16384 → levels ≤ 64 → IsSound tree
+pub bare_sound : (tree : Group) (shown levels : ℕ) → IsBare tree → shown ≡ min (members_of tree) most_told → levels ≡ min (levels_of tree) most_told → shown ≤ most_members → levels ≤ most_levels → IsSound tree
 bare_sound tree shown levels b is high h k = record {
   targets = bare_targets tree b;
   rings = bare_no_ring tree b;

@@ -15,7 +15,7 @@ abbrev pub among : List (List ℕ) → Nearest → List (List ℕ × Child) → 
 among [] near es = None
 among (name ∷ rest) near es = option_and_then (λ c. token_below rest near c) (find text_cmp name es)
 
--- .. where the members stand at a front of it
+-- .. where the members stand at a prefix of it
 abbrev pub under_among : List (List ℕ) → Nearest → List (List ℕ × Child) → List (List ℕ) → Option Flattened
 under_among front near es path = option_and_then (λ rest. among rest near es) (behind front path)
 

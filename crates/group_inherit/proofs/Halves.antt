@@ -15,7 +15,7 @@ module _ {K : Type 0} {R : K → K → Ordering} (o : IsTotalOrder R) where
   past : (k x y : K) → R x y ≡ Less → R k y ≡ Greater → R k x ≡ Greater
   past k x y a b = o.antisymm k x ∙ ap ordering_reverse (o.trans x y k a (turned k y b))
 
-  -- what stands before the place of a key is behind that key
+  -- a key is after what stands before its place
   passed_at : (k x y : K) → R k y ≡ Equal → R x y ≡ Less → R k x ≡ Greater
   passed_at k x y t l = o.congr k y x t ∙ (o.antisymm y x ∙ ap ordering_reverse l)
 

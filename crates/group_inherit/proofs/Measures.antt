@@ -4,6 +4,7 @@ use Rattle.std.specs.FinMap as map_of
 use Rattle.std.specs.FinMap.Entries.{is_sorted}
 use Rattle.tk_io.specs.Order.{text_cmp}
 use Rattle.token_tree.specs.Tree.{Properties, Child, Named, children_of, group_with}
+use Rattle.group_inherit.specs.Answer.{most_told}
 use Rattle.group_inherit.specs.inner.Bare.{AreBare, IsSize, IsChildSize, members_among, members_in, levels_among, levels_in}
 use Rattle.group_inherit.proofs.OrderedTrees.{entries_again}
 
@@ -12,22 +13,22 @@ Entries = List (List ℕ × Child)
 
 -- the size so far, and what is left of the members
 pub record Measuring (es left : Entries) (members levels : ℕ) : Type 0 where
-  pub many : min (members + members_among (children_of left)) 1000000 ≡ min (members_among (children_of es)) 1000000
-  pub high : min (max levels (levels_among (children_of left))) 1000000 ≡ min (levels_among (children_of es)) 1000000
+  pub many : min (members + members_among (children_of left)) most_told ≡ min (members_among (children_of es)) most_told
+  pub high : min (max levels (levels_among (children_of left))) most_told ≡ min (levels_among (children_of es)) most_told
   pub bare : AreBare (children_of left) → AreBare (children_of es)
-  pub most : members ≤ 1000000
-  pub low : levels ≤ 1000000
+  pub most : members ≤ most_told
+  pub low : levels ≤ most_told
 
 pub no_member : (es : Entries) → Measuring es es 0 0
 no_member es = record { many = omega arith; high = omega arith; bare = λ b. b; most = omega arith; low = omega arith }
 
-count_more : (members a r n m : ℕ) → m ≡ min a 1000000 → n ≡ min (members + 1 + m) 1000000 → min (n + r) 1000000 ≡ min (members + suc (a + r)) 1000000
+count_more : (members a r n m : ℕ) → m ≡ min a most_told → n ≡ min (members + 1 + m) most_told → min (n + r) most_told ≡ min (members + suc (a + r)) most_told
 count_more members a r n m e f = omega (arith, e, f)
 
-height_more : (levels a r n h : ℕ) → h ≡ min a 1000000 → n ≡ max levels h → min (max n r) 1000000 ≡ min (max levels (max a r)) 1000000
+height_more : (levels a r n h : ℕ) → h ≡ min a most_told → n ≡ max levels h → min (max n r) most_told ≡ min (max levels (max a r)) most_told
 height_more levels a r n h e f = omega (arith, e, f)
 
-pub member_more : (es left rest : Entries) (e : List ℕ × Child) (members levels m h n k : ℕ) → left ≡ e ∷ rest → IsChildSize e.1 m h → n ≡ min (members + 1 + m) 1000000 → k ≡ max levels h
+pub member_more : (es left rest : Entries) (e : List ℕ × Child) (members levels m h n k : ℕ) → left ≡ e ∷ rest → IsChildSize e.1 m h → n ≡ min (members + 1 + m) most_told → k ≡ max levels h
     → Measuring es left members levels → Measuring es rest n k
 member_more es left rest e members levels m h n k cut s is up w =
     let v : Measuring es (e ∷ rest) members levels = subst (λ (l : Entries). Measuring es l members levels) cut w in

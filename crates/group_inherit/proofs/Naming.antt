@@ -65,7 +65,7 @@ lacked name (child other c cs) l = elim (cases_Bool (eq_by_cmp text_cmp name oth
   | inr e ↦ get_there other c cs name e ∙ lacked name cs l.1
 ]
 
--- a child that is found among the others is found behind one more, whose name they lack
+-- a child that is found among the others is found after one more, whose name they lack
 pub get_later : (name : List ℕ) (c : Child) (cs : Children) (q : List ℕ) (d : Child) → LacksName name cs → map_of.get (named cs) q ≡ Some d → map_of.get (named (child name c cs)) q ≡ Some d
 get_later name c cs q d l e = elim (cases_Bool (eq_by_cmp text_cmp q name)) [
   | inl t ↦ absurd (none-some d (sym (lacked name cs l) ∙ (ap (λ (x : List ℕ). map_of.get (named cs) x) (sym (same_name q name t)) ∙ e)))

@@ -9,7 +9,7 @@ use Rattle.ring.specs.Routes.{IsRing, HasNoRing}
 use Rattle.token_tree.specs.Tree.{Extension, Group}
 use Rattle.group_inherit.specs.declared.fault.TreeFault.{TreeFault}
 use Rattle.group_inherit.specs.declared.fault.TreeFault.TheVariants.{ExtendsTarget, ExtendsCycle, TooManyTokens, TooHigh, NoMemory}
-use Rattle.group_inherit.specs.Answer.{IsFirstLost, IsRingAt, IsCounted, IsLow, IsTreeBreak, IsSound, IsFlat}
+use Rattle.group_inherit.specs.Answer.{most_members, most_levels, most_told, IsFirstLost, IsRingAt, IsCounted, IsLow, IsTreeBreak, IsSound, IsFlat}
 use Rattle.group_inherit.proofs.Expansions.{one_expansion}
 use Rattle.group_inherit.specs.Extension.{GroupPath, Lost, at_path, needs, lost_targets, Counts, Heights, count_of, height_of, ring_extension}
 use Rattle.group_inherit.specs.Flattening.{Flattened, flat_of}
@@ -38,10 +38,10 @@ lost_some tree path span (e, at, is) none = first_of_none (record { path = path;
 ring_some : (tree : Group) (ring : List GroupPath) → IsRing (needs tree) [] ring → HasNoRing (needs tree) [] → ⊥
 ring_some tree ring is none = none is.route is.first.closed
 
-counted_more : (tree : Group) (n : ℕ) → Counts tree [] n → 16384 < n → IsCounted tree → ⊥
+counted_more : (tree : Group) (n : ℕ) → Counts tree [] n → most_members < n → IsCounted tree → ⊥
 counted_more tree n is more (m, is_m, few) = omega (arith, more, few, one_count tree n m is is_m)
 
-higher : (tree : Group) (n : ℕ) → Heights tree [] n → 64 < n → IsLow tree → ⊥
+higher : (tree : Group) (n : ℕ) → Heights tree [] n → most_levels < n → IsLow tree → ⊥
 higher tree n is more (m, is_m, few) = omega (arith, more, few, one_height tree n m is is_m)
 
 one_lost : (losts : List Lost) (p q : GroupPath) (s t : Span) → IsFirstLost losts p s → IsFirstLost losts q t → ExtendsTarget p s ≡ ExtendsTarget q t
@@ -59,8 +59,8 @@ one_ring_at tree p q s t (ring, (d, at, is)) (ring_too, (e, at_too, is_too)) =
       some_same : {x y : Extension} → Some x ≡ Some y → x ≡ y
       some_same h = cc
 
-one_count_shown : (tree : Group) (a b m n : ℕ) → Counts tree [] m → a ≡ min m 1000000 → Counts tree [] n → b ≡ min n 1000000 → a ≡ b
-one_count_shown tree a b m n is shown is_too shown_too = shown ∙ (ap (λ (k : ℕ). min k 1000000) (one_count tree m n is is_too) ∙ sym shown_too)
+one_count_shown : (tree : Group) (a b m n : ℕ) → Counts tree [] m → a ≡ min m most_told → Counts tree [] n → b ≡ min n most_told → a ≡ b
+one_count_shown tree a b m n is shown is_too shown_too = shown ∙ (ap (λ (k : ℕ). min k most_told) (one_count tree m n is is_too) ∙ sym shown_too)
 
 -- a tree breaks one rule first
 pub one_break : (tree : Group) (a b : TreeFault) → a ≢ NoMemory → b ≢ NoMemory → IsTreeBreak tree a → IsTreeBreak tree b → a ≡ b

@@ -41,7 +41,7 @@ module _ {X : Type 0} where
   AreBelow at [] = Unit {0}
   AreBelow at (r ∷ rs) = ((next : List ℕ) × (rest : GroupPath) × (r.0 ≡ at ++ next ∷ rest)) × AreBelow at rs
 
-  -- .. by a name behind this one
+  -- .. by a name after this one
   abbrev AreBehind : GroupPath → List ℕ → List (GroupPath × X) → Type 0
   AreBehind at name [] = Unit {0}
   AreBehind at name (r ∷ rs) = ((next : List ℕ) × (rest : GroupPath) × (text_cmp name next ≡ Less) × (r.0 ≡ at ++ next ∷ rest)) × AreBehind at name rs

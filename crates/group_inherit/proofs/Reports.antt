@@ -10,9 +10,6 @@ use Rattle.ring.specs.Routes.{IsChain, IsRoute, IsRing}
 use Rattle.ring.proofs.Ends.{in_cases, leads_tail}
 use Rattle.ring.proofs.Renamings.{in_map, in_names}
 use Rattle.token_tree.specs.Tree.{Extension, Group}
-use Rattle.group_inherit.specs.declared.fault.TreeFault.{TreeFault}
-use Rattle.group_inherit.specs.declared.fault.TreeFault.TheVariants.{ExtendsTarget, ExtendsCycle, TooManyTokens, TooHigh, NoMemory}
-use Rattle.group_inherit.specs.inner.Faults.{IsReportOf, IsRingFault}
 use Rattle.group_inherit.specs.Merging.{either}
 use Rattle.group_inherit.specs.Extension.{GroupPath, at_path, extension_of, group_names, needs_of, needs, target_path, same_path, where_target, extension_to, head_or, extension_along, extension_around, ring_extension}
 use Rattle.group_inherit.specs.inner.Numbering.{GroupAt, group_in, path_in, AreNeeds, extension_after, extension_in}
@@ -128,11 +125,3 @@ module _ (tree : Group) (nodes : List GroupAt) (at_tree : (v : ℕ) → v < leng
   pub reported_at : (ring : List ℕ) → All (λ w. w < length nodes) ring → extension_in nodes ring ≡ ring_extension tree (map (path_in nodes) ring)
   reported_at [] all = refl
   reported_at (v ∷ vs) all = along_named v (v ∷ vs) all
-
--- a ring that is reported is a fault
-pub report_fault : (nodes : List GroupAt) (needs : ℕ → List ℕ) (ring : List ℕ) (f : TreeFault) → IsRing needs 0 ring → All (λ w. w < length nodes) ring → IsReportOf nodes ring f → IsRingFault nodes needs f
-report_fault nodes needs ring (ExtendsTarget path span) r all h = absurd h
-report_fault nodes needs ring (ExtendsCycle paths span) r all h = (ring, r, all, h)
-report_fault nodes needs ring (TooManyTokens shown) r all h = absurd h
-report_fault nodes needs ring (TooHigh height) r all h = absurd h
-report_fault nodes needs ring NoMemory r all h = tt

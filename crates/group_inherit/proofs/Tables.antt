@@ -3,7 +3,7 @@ use Rattle.std.proofs.Common.{◌≡◌, ℕ, zero, suc, ◌+◌, ◌<◌, List,
 use Rattle.std.proofs.lemmas.Bool.{cases_eq}
 use Rattle.std.proofs.lemmas.List.{take_more, get_or-map, length-map}
 use Rattle.std.proofs.lemmas.Option.{slice_get_read}
-use Rattle.std.proofs.lemmas.List.Elements.{All-nil, All-cons, All-head, All-tail}
+use Rattle.std.proofs.lemmas.List.Elements.{All-nil, All-cons, All-head, All-tail, All-get_or}
 use Rattle.token_tree.specs.Tree.{Group as GroupData}
 use Rattle.token_tree.specs.View.{group_view}
 use Rattle.token_tree.specs.declared.tree.Group.{Group}
@@ -83,7 +83,7 @@ expansion_more nodes table order k v g h e within known is u i =
 
 -- What holds of all numbers of a row holds of those of the child groups and of the target's.
 
-pub all_left : (P : ℕ → Type 0) (xs ys : List ℕ) → All P (xs ++ ys) → All P xs
+all_left : (P : ℕ → Type 0) (xs ys : List ℕ) → All P (xs ++ ys) → All P xs
 all_left P [] ys a = All-nil P
 all_left P (x ∷ xs) ys a = All-cons P x xs (All-head P x (xs ++ ys) a) (all_left P xs ys (All-tail P x (xs ++ ys) a))
 
@@ -95,24 +95,52 @@ some_within : (P : ℕ → Type 0) (o : Option ℕ) → All P (option_to_list o)
 some_within P None a = tt
 some_within P (Some w) a = All-head P w [] a
 
-pub target_within : (P : ℕ → Type 0) (row : Row) → All P (numbers_of row) → IfSome row.target P
+target_within : (P : ℕ → Type 0) (row : Row) → All P (numbers_of row) → IfSome row.target P
 target_within P row a = some_within P row.target (all_right P row.children.items (option_to_list row.target) a)
 
 -- The row of a number, and what it says of its group.
 
-pub known_row : (nodes : List GroupAt) (rows : List Row) (v : ℕ) (row : Row) → AreRows nodes rows → v < length rows → row ≡ get_or rows v row → IsRowOf nodes v row × (needs_by rows v ≡ numbers_of row)
+known_row : (nodes : List GroupAt) (rows : List Row) (v : ℕ) (row : Row) → AreRows nodes rows → v < length rows → row ≡ get_or rows v row → IsRowOf nodes v row × (needs_by rows v ≡ numbers_of row)
 known_row nodes rows v row each h e =
     let there : slice_get rows v ≡ Some row = slice_get_read rows (length rows) v row refl h e in
     (each v row there, needs_by_row rows v row there)
 
-pub children_many : (nodes : List GroupAt) (v : ℕ) (row : Row) (g : GroupData) → IsRowOf nodes v row → group_in nodes v ≡ g → length row.children.items ≡ length (group_names g)
+children_many : (nodes : List GroupAt) (v : ℕ) (row : Row) (g : GroupData) → IsRowOf nodes v row → group_in nodes v ≡ g → length row.children.items ≡ length (group_names g)
 children_many nodes v row g is itself =
     sym (length-map row.children.items (path_in nodes))
     ∙ (ap length is.children
     ∙ (length-map (group_names (group_in nodes v)) (λ (name : List ℕ). path_in nodes v ++ name ∷ []) ∙ ap (λ (h : GroupData). length (group_names h)) itself))
 
-pub group_read : (nodes : List Node) (v : ℕ) (n : Node) → v < length nodes → group_in (nodes_view nodes) v ≡ group_view (get_or nodes v n).group.now
+group_read : (nodes : List Node) (v : ℕ) (n : Node) → v < length nodes → group_in (nodes_view nodes) v ≡ group_view (get_or nodes v n).group.now
 group_read nodes v n h = ap (λ (m : GroupAt). m.1) (get_or-map node_view nodes v n nowhere h)
+
+-- What stands in the row of a group of an order. The groups' tables have so many entries.
+pub record RowAt (nodes : List Node) (rows : List Row) (v : ℕ) (row : Row) (n : Node) (many : ℕ) : Type 0 where
+  pub here : v < length nodes
+  pub is_row : IsRowOf (nodes_view nodes) v row
+  pub own : needs_by rows v ≡ numbers_of row
+  pub itself : group_in (nodes_view nodes) v ≡ group_view (get_or nodes v n).group.now
+  pub children : All (λ w. w < many) row.children.items
+  pub target : IfSome row.target (λ w. w < many)
+  pub names : length row.children.items ≡ length (group_names (group_view (get_or nodes v n).group.now))
+
+pub row_at : (nodes : List Node) (rows : List Row) (order : List ℕ) (k : ℕ) (row : Row) (n : Node) (many : ℕ) → AreRows (nodes_view nodes) rows → length rows ≡ length nodes → All (λ v. v < length nodes) order
+    → k < length order → row ≡ get_or rows (get_or order k 0) row → many ≡ length nodes → RowAt nodes rows (get_or order k 0) row n many
+row_at nodes rows order k row n many each long within h e len =
+    let v = get_or order k 0 in
+    let here : v < length nodes = All-get_or (λ x. x < length nodes) order k 0 h within in
+    let known = known_row (nodes_view nodes) rows v row each (omega (arith, here, long)) e in
+    let all : All (λ w. w < many) (numbers_of row) = subst (λ (m : ℕ). All (λ w. w < m) (numbers_of row)) (length-map nodes node_view ∙ sym len) known.0.within in
+    let itself = group_read nodes v n here in
+    record {
+      here = here;
+      is_row = known.0;
+      own = known.1;
+      itself = itself;
+      children = all_left (λ w. w < many) row.children.items (option_to_list row.target) all;
+      target = target_within (λ w. w < many) row all;
+      names = children_many (nodes_view nodes) v row (group_view (get_or nodes v n).group.now) known.0 itself;
+    }
 
 -- what holds of a table holds of the slice that shows it
 pub in_slice : (tree : GroupData) (table slice : List Group) (g h : GroupData) (path : GroupPath) (row : Row) → slice ≡ table → g ≡ h

@@ -179,6 +179,13 @@ named_option : (path : ℕ → GroupPath) (o : Option ℕ) → map path (option_
 named_option path None = refl
 named_option path (Some w) = refl
 
+-- what a row names is what its group needs
+pub row_needs : (nodes : List GroupAt) (v : ℕ) (row : Row) → IsRowOf nodes v row → map (path_in nodes) (numbers_of row) ≡ needs_of (path_in nodes v) (group_in nodes v)
+row_needs nodes v row r =
+    map-append (path_in nodes) row.children.items (option_to_list row.target)
+    ∙ (ap (λ (ps : List GroupPath). ps ++ map (path_in nodes) (option_to_list row.target)) r.children
+    ∙ ap (λ (ps : List GroupPath). child_paths (path_in nodes v) (group_in nodes v) ++ ps) (named_option (path_in nodes) row.target ∙ ap option_to_list r.target))
+
 module _ (nodes : List GroupAt) (rows : List Row) (lists : List (Vec ℕ Global)) (long : length rows ≡ length nodes) (each : AreRows nodes rows) (same : AreListed rows lists) where
   pub lists_long : length lists ≡ length nodes
   lists_long = sym (length-map lists (λ l. l.items)) ∙ (ap length same ∙ (length-map rows numbers_of ∙ long))
@@ -190,12 +197,7 @@ module _ (nodes : List GroupAt) (rows : List Row) (lists : List (Vec ℕ Global)
   pub lists_needs : AreNeeds nodes lists
   lists_needs v h =
       let t = row_there rows v (omega (arith, h, long)) in
-      let row = t.0 in
-      let r = each v row t.1 in
-      ap (map (path_in nodes)) (needs_same rows lists same v ∙ needs_by_row rows v row t.1)
-      ∙ (map-append (path_in nodes) row.children.items (option_to_list row.target)
-      ∙ (ap (λ (ps : List GroupPath). ps ++ map (path_in nodes) (option_to_list row.target)) r.children
-      ∙ ap (λ (ps : List GroupPath). child_paths (path_in nodes v) (group_in nodes v) ++ ps) (named_option (path_in nodes) row.target ∙ ap option_to_list r.target)))
+      ap (map (path_in nodes)) (needs_same rows lists same v ∙ needs_by_row rows v t.0 t.1) ∙ row_needs nodes v t.0 (each v t.0 t.1)
 
   pub lists_follow : (order : List ℕ) → Follows (needs_in lists) [] order → Follows (needs_by rows) [] order
   lists_follow order f =

@@ -1,21 +1,22 @@
 -- From the numbered groups to the tree: its breaks, and that it has none.
-use Rattle.std.proofs.Common.{◌≡◌, ℕ, ◌<◌, List, [], refl, sym, ap, ◌∙◌, subst, length, arith, Vec}
+use Rattle.std.proofs.Common.{◌≡◌, ℕ, ◌<◌, min, List, [], get_or, refl, sym, ap, ◌∙◌, subst, length, arith, All, Vec}
 use Rattle.std.proofs.lemmas.List.{length-map}
 use Rattle.std.specs.declared.alloc.Global.{Global}
 use Rattle.ring.specs.Graph.{needs_in, IsGraph}
 use Rattle.ring.specs.Routes.{IsRing, HasNoRing}
-use Rattle.ring.specs.Values.{Comes}
+use Rattle.ring.specs.Values.{Comes, IsTotal}
 use Rattle.token_tree.specs.Tree.{Group, group}
 use Rattle.group_inherit.specs.declared.fault.TreeFault.{TreeFault}
 use Rattle.group_inherit.specs.declared.fault.TreeFault.TheVariants.{ExtendsTarget, ExtendsCycle, TooManyTokens, TooHigh, NoMemory}
-use Rattle.group_inherit.specs.Extension.{GroupPath, groups_from, Lost, at_path, needs, lost_targets, count_of, height_of, ring_extension}
-use Rattle.group_inherit.specs.Answer.{IsFirstLost, IsTreeBreak, IsSound, IsCounted}
-use Rattle.group_inherit.specs.inner.Faults.{IsLostTarget, IsRingFault}
+use Rattle.group_inherit.specs.Extension.{GroupPath, groups_from, Lost, at_path, needs, lost_targets, count_of, Counts, ring_extension}
+use Rattle.group_inherit.specs.Answer.{most_told, IsFirstLost, IsTreeBreak}
+use Rattle.group_inherit.specs.inner.Faults.{IsLostTarget, IsReportOf}
 use Rattle.group_inherit.specs.inner.Numbering.{GroupAt, group_in, AreNamed, IsNumbering, Places, ArePlaces, EachKnown, EachRow, lost_nodes, AreRows, AreNeeds}
 use Rattle.group_inherit.specs.declared.targets.Row.{Row}
 use Rattle.group_inherit.specs.declared.numbered.Node.{Node}
 use Rattle.group_inherit.specs.inner.View.{node_view, nodes_view}
-use Rattle.group_inherit.specs.inner.Sizes.{IsCountedIn, IsLowIn, IsCountFault, IsHeightFault}
+use Rattle.group_inherit.specs.inner.Outcomes.{own_counts}
+use Rattle.group_inherit.proofs.Counting.{counts_are}
 use Rattle.group_inherit.proofs.Reports.{reported_at}
 use Rattle.group_inherit.proofs.Trees.{some_nodes, at_tree, each_known, each_row, lost_are, tree_ring, tree_no_ring, tree_value}
 
@@ -45,47 +46,33 @@ module _ (nodes : List GroupAt) (n : IsNumbering nodes) where
     pub needs_some : 0 < length lists
     needs_some = omega (arith, some_nodes (group_in nodes 0) nodes n.all n.named, long)
 
-    no_ring : HasNoRing (needs_in lists) 0 → HasNoRing (needs (group_in nodes 0)) []
+    pub no_ring : HasNoRing (needs_in lists) 0 → HasNoRing (needs (group_in nodes 0)) []
     no_ring r = tree_no_ring (group_in nodes 0) nodes n.all n.named lists graph long are r
 
     value : {V : Type 0} (step : Group → List V → V) (x : V) → Comes (needs_in lists) (λ v xs. step (group_in nodes v) xs) 0 x → Comes (needs (group_in nodes 0)) (λ path xs. step (at_path (group_in nodes 0) path) xs) [] x
     value step x c = tree_value (group_in nodes 0) nodes n.all n.named lists graph long are step x c
 
-    counted : IsCountedIn nodes (needs_in lists) → IsCounted (group_in nodes 0)
-    counted k = (k.0, value count_of k.0 k.1, k.2)
-
-    pub ring_break : (f : TreeFault) → IsRingFault nodes (needs_in lists) f → IsTreeBreak (group_in nodes 0) f
-    ring_break (ExtendsTarget path span) h = absurd h
-    ring_break (ExtendsCycle paths span) h =
-        let tree = group_in nodes 0 in
-        let ring = h.0 in
-        let rep = h.3 in (
+    -- a ring that is reported is a break
+    pub ring_break : (ring : List ℕ) (f : TreeFault) → IsRing (needs_in lists) 0 ring → All (λ v. v < length nodes) ring → IsReportOf nodes ring f → IsTreeBreak (group_in nodes 0) f
+    ring_break ring (ExtendsTarget path span) r all h = absurd h
+    ring_break ring (ExtendsCycle paths span) r all h =
+        let tree = group_in nodes 0 in (
           none,
           (
-            subst (λ (qs : List GroupPath). IsRing (needs tree) [] qs) (sym rep.same) (tree_ring tree nodes n.all n.named lists graph long are ring h.1),
-            (rep.extension, ap (ring_extension tree) rep.same ∙ (sym (reported_at tree nodes (at_tree tree nodes n.all n.named) ring h.2) ∙ rep.among), rep.at),
+            subst (λ (qs : List GroupPath). IsRing (needs tree) [] qs) (sym h.same) (tree_ring tree nodes n.all n.named lists graph long are ring r),
+            (h.extension, ap (ring_extension tree) h.same ∙ (sym (reported_at tree nodes (at_tree tree nodes n.all n.named) ring all) ∙ h.among), h.at),
           ),
         )
-    ring_break (TooManyTokens shown) h = absurd h
-    ring_break (TooHigh height) h = absurd h
-    ring_break NoMemory h = tt
+    ring_break ring (TooManyTokens shown) r all h = absurd h
+    ring_break ring (TooHigh height) r all h = absurd h
+    ring_break ring NoMemory r all h = tt
 
-    pub count_break : (f : TreeFault) → HasNoRing (needs_in lists) 0 → IsCountFault nodes (needs_in lists) f → IsTreeBreak (group_in nodes 0) f
-    count_break (ExtendsTarget path span) r h = absurd h
-    count_break (ExtendsCycle paths span) r h = absurd h
-    count_break (TooManyTokens shown) r h = (none, no_ring r, (h.0, value count_of h.0 h.1, h.2, h.3))
-    count_break (TooHigh height) r h = absurd h
-    count_break NoMemory r h = tt
-
-    pub height_break : (f : TreeFault) → HasNoRing (needs_in lists) 0 → IsCountedIn nodes (needs_in lists) → IsHeightFault nodes (needs_in lists) f → IsTreeBreak (group_in nodes 0) f
-    height_break (ExtendsTarget path span) r k h = absurd h
-    height_break (ExtendsCycle paths span) r k h = absurd h
-    height_break (TooManyTokens shown) r k h = absurd h
-    height_break (TooHigh height) r k h = (none, no_ring r, counted k, (value height_of height h.0, h.1))
-    height_break NoMemory r k h = tt
-
-    pub is_sound : HasNoRing (needs_in lists) 0 → IsCountedIn nodes (needs_in lists) → IsLowIn nodes (needs_in lists) → IsSound (group_in nodes 0)
-    is_sound r k l = record { targets = none; rings = no_ring r; counted = counted k; low = (l.0, value height_of l.0 l.1, l.2) }
+    -- the total of the root's members is its count
+    pub root_count : (own table : List ℕ) (shown : ℕ) → own ≡ own_counts nodes → shown ≡ get_or table 0 0 → IsTotal (needs_in lists) own 0 (get_or table 0 0)
+        → (k : ℕ) × Counts (group_in nodes 0) [] k × (shown ≡ min k most_told)
+    root_count own table shown e read t =
+        let u : IsTotal (needs_in lists) (own_counts nodes) 0 (get_or table 0 0) = subst (λ (xs : List ℕ). IsTotal (needs_in lists) xs 0 (get_or table 0 0)) e t in
+        (u.0, value count_of u.0 (counts_are nodes (needs_in lists) 0 u.0 u.1), read ∙ u.2)
 
 -- the numbers of the paths of nodes
 pub places_of : (ns : List Node) (places : Places) → ArePlaces (nodes_view ns) (length ns) places → ArePlaces (nodes_view ns) (length (nodes_view ns)) places

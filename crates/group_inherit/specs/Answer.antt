@@ -31,6 +31,10 @@ IsFirstLost losts path span = (e : Extension) × (slice_get losts 0 ≡ Some (re
 abbrev pub IsRingAt : Group → List GroupPath → Span → Type 0
 IsRingAt tree ring span = IsRing (needs tree) [] ring × ((e : Extension) × (ring_extension tree ring ≡ Some e) × (span ≡ span_of e))
 
+-- no groups of the tree need each other in a ring
+abbrev pub IsAcyclic : Group → Type 0
+IsAcyclic tree = HasNoRing (needs tree) []
+
 -- a tree's count, which is not too large
 abbrev pub IsCounted : Group → Type 0
 IsCounted tree = (n : ℕ) × Counts tree [] n × (n ≤ most_members)
@@ -43,14 +47,14 @@ IsLow tree = (n : ℕ) × Heights tree [] n × (n ≤ most_levels)
 abbrev pub IsTreeBreak : Group → TreeFault → Type 0
 IsTreeBreak tree (ExtendsTarget path span) = IsFirstLost (lost_targets tree) path span
 IsTreeBreak tree (ExtendsCycle ring span) = (lost_targets tree ≡ []) × IsRingAt tree ring span
-IsTreeBreak tree (TooManyTokens shown) = (lost_targets tree ≡ []) × HasNoRing (needs tree) [] × ((n : ℕ) × Counts tree [] n × (most_members < n) × (shown ≡ min n most_told))
-IsTreeBreak tree (TooHigh height) = (lost_targets tree ≡ []) × HasNoRing (needs tree) [] × IsCounted tree × (Heights tree [] height × (most_levels < height))
+IsTreeBreak tree (TooManyTokens shown) = (lost_targets tree ≡ []) × IsAcyclic tree × ((n : ℕ) × Counts tree [] n × (most_members < n) × (shown ≡ min n most_told))
+IsTreeBreak tree (TooHigh height) = (lost_targets tree ≡ []) × IsAcyclic tree × IsCounted tree × (Heights tree [] height × (most_levels < height))
 IsTreeBreak tree NoMemory = Unit {0}
 
 -- a tree that breaks none
 pub record IsSound (tree : Group) : Type 0 where
   pub targets : lost_targets tree ≡ []
-  pub rings : HasNoRing (needs tree) []
+  pub rings : IsAcyclic tree
   pub counted : IsCounted tree
   pub low : IsLow tree
 

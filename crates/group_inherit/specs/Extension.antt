@@ -118,13 +118,9 @@ how_many (child name c cs) = suc (how_many cs)
 abbrev pub count_of : Group → List ℕ → ℕ
 count_of g counts = how_many (children_in g) + sum counts
 
--- the counts of groups that have names of any kind, as paths or numbers
-abbrev pub CountsBy : {N : Type 0} → (N → List N) → (N → Group) → N → ℕ → Type 0
-CountsBy needs at = Comes needs (λ v counts. count_of (at v) counts)
-
--- .. of a tree, by paths
+-- the count of the group at a path of a tree
 abbrev pub Counts : Group → GroupPath → ℕ → Type 0
-Counts tree = CountsBy (needs tree) (at_path tree)
+Counts tree = Comes (needs tree) (λ path counts. count_of (at_path tree path) counts)
 
 -- Heights: the greatest of 0, 1 for a token, 1 more than that of each child group, and that of the target.
 
@@ -149,13 +145,9 @@ greatest_raised (name ∷ names) (h ∷ hs) = max (h + 1) (greatest_raised names
 abbrev pub height_of : Group → List ℕ → ℕ
 height_of g heights = max (tokens_height (children_in g)) (greatest_raised (group_names g) heights)
 
--- the heights of groups that have names of any kind
-abbrev pub HeightsBy : {N : Type 0} → (N → List N) → (N → Group) → N → ℕ → Type 0
-HeightsBy needs at = Comes needs (λ v heights. height_of (at v) heights)
-
--- .. of a tree, by paths
+-- the height of the group at a path of a tree
 abbrev pub Heights : Group → GroupPath → ℕ → Type 0
-Heights tree = HeightsBy (needs tree) (at_path tree)
+Heights tree = Comes (needs tree) (λ path heights. height_of (at_path tree path) heights)
 
 -- Where a ring is reported.
 

@@ -4,6 +4,5 @@ pub mod Numbering
 pub mod Tables
 pub mod Checking
 pub mod Bare
-pub mod Sizes
 pub mod Faults
 pub mod Outcomes

@@ -2,7 +2,7 @@
 
 ghost use Rattle.std.specs.Prelude.{◌≡◌, ◌+◌, ◌≤◌, min, max, IfErr, OnOk, IfSome};
 ghost use Rattle.token_tree.specs.View.{child_view, group_view};
-ghost use Rattle.group_inherit.specs.Answer.{IsSound, IsTreeBreak};
+ghost use Rattle.group_inherit.specs.Answer.{IsSound, IsTreeBreak, most_told};
 ghost use Rattle.group_inherit.specs.inner.Bare.{IsSize, IsChildSize};
 
 use crate::fault::TreeFault;
@@ -20,9 +20,9 @@ pub(crate) struct Size {
 
 // The size with one more member, which is so large itself.
 fn with_member(size: Size, member: Size) -> Size
-    requires most { size.members ≤ 1000000 }
-    requires few { member.members ≤ 1000000 }
-    ensures members { result.members ≡ min (size.members + 1 + member.members) 1000000 }
+    requires most { size.members ≤ most_told }
+    requires few { member.members ≤ most_told }
+    ensures members { result.members ≡ min (size.members + 1 + member.members) most_told }
     ensures levels { result.levels ≡ max size.levels member.levels }
 {
     Size {

@@ -5,7 +5,7 @@ ghost use Rattle.ring.specs.Graph.{needs_in, IsGraph};
 ghost use Rattle.ring.specs.Order.{Follows, IsOrder};
 ghost use Rattle.ring.specs.Lists.{In};
 ghost use Rattle.token_tree.specs.View.{group_view};
-ghost use Rattle.group_inherit.specs.Answer.{IsSound, IsTreeBreak};
+ghost use Rattle.group_inherit.specs.Answer.{IsAcyclic, IsCounted, IsSound, IsTreeBreak};
 ghost use Rattle.group_inherit.specs.Extension.{lost_targets};
 ghost use Rattle.group_inherit.specs.inner.Outcomes.{IsReady};
 ghost use Rattle.group_inherit.specs.inner.View.{nodes_view};
@@ -44,8 +44,8 @@ fn checked_rows<'s>(alloc: Global, nodes: &[Node<'_, 's>]) -> Result<Vec<Row>, T
 }
 
 // An order in which each group follows what it needs; or the first rule that is broken after that of targets: rings,
-// counts, heights.
-fn checked_order<'s>(
+// counts.
+fn counted_order<'s>(
     alloc: Global,
     nodes: &[Node<'_, 's>],
     needs: &[Vec<usize>],
@@ -55,18 +55,18 @@ fn checked_order<'s>(
     requires graph { IsGraph needs.now }
     requires long { length needs.now ≡ length nodes.now }
     requires needs { AreNeeds (nodes_view nodes.now) needs.now }
-    ensures sound { OnOk result (IsSound (group_in (nodes_view nodes.now) 0)) }
+    ensures rings { OnOk result (IsAcyclic (group_in (nodes_view nodes.now) 0)) }
+    ensures counted { OnOk result (IsCounted (group_in (nodes_view nodes.now) 0)) }
     ensures within { IfOk result (λ order. All (λ v. v < length needs.now) order.items) }
     ensures order { IfOk result (λ order. IsOrder (needs_in needs.now) 0 order.items) }
     ensures broken { IfErr result (IsTreeBreak (group_in (nodes_view nodes.now) 0)) }
 {
     let order = finish_order(alloc, nodes, needs)?;
     check_count(alloc, nodes, needs, order.as_slice())?;
-    check_height(alloc, nodes, needs, order.as_slice())?;
     Ok(order)
 }
 
-// The same of the groups' rows.
+// The same of the groups' rows, and heights.
 fn order_of<'s>(
     alloc: Global,
     nodes: &[Node<'_, 's>],
@@ -83,7 +83,8 @@ fn order_of<'s>(
     ensures broken { IfErr result (IsTreeBreak (group_in (nodes_view nodes.now) 0)) }
 {
     let lists = listed(alloc, rows)?;
-    let order = checked_order(alloc, nodes, lists.as_slice())?;
+    let order = counted_order(alloc, nodes, lists.as_slice())?;
+    check_height(alloc, nodes, rows, order.as_slice())?;
     Ok(order)
 }
 

@@ -2,7 +2,8 @@
 
 ghost use Rattle.std.specs.Prelude.{◌≡◌, ◌<◌, [], length, All, IfOk, IfSome};
 ghost use Rattle.ring.specs.Order.{Follows};
-ghost use Rattle.group_inherit.specs.inner.Outcomes.{AreExpansions, AreMembers, HaveNumbers, IsExpansion};
+ghost use Rattle.group_inherit.specs.inner.Outcomes.{AreExpansions, AreMembers, HaveNumbers};
+ghost use Rattle.group_inherit.specs.inner.Outcomes.{IsExpansion};
 ghost use Rattle.group_inherit.specs.inner.Numbering.{AreRows, IsNumbering, needs_by};
 ghost use Rattle.group_inherit.specs.inner.View.{nodes_view};
 

@@ -1,17 +1,18 @@
 //! Cycles of groups that need each other, as rings of their graph.
 
-ghost use Rattle.std.specs.Prelude.{◌≡◌, ◌<◌, ◌+◌, ℕ, Some, IfOk, IfErr, OnOk, All};
+ghost use Rattle.std.specs.Prelude.{◌≡◌, ◌<◌, ◌+◌, ℕ, [], Some, IfOk, IfErr, OnOk, All};
 ghost use Rattle.std.specs.Prelude.{length, map, slice_index_or};
 ghost use Rattle.ring.specs.Graph.{needs_in, IsGraph};
 ghost use Rattle.ring.specs.Order.{IsOrder};
-ghost use Rattle.ring.specs.Routes.{HasNoRing};
 ghost use Rattle.token_tree.specs.View.{group_view};
 ghost use Rattle.token_tree.specs.Tree.{Extension};
-ghost use Rattle.group_inherit.specs.inner.Faults.{IsRingFault, IsReportOf};
-ghost use Rattle.group_inherit.specs.Extension.{extension_to};
+ghost use Rattle.group_inherit.specs.Answer.{IsAcyclic, IsTreeBreak};
+ghost use Rattle.group_inherit.specs.Extension.{extension_to, lost_targets};
+ghost use Rattle.group_inherit.specs.inner.Faults.{IsReportOf};
 ghost use Rattle.group_inherit.specs.inner.Outcomes.{extension_view};
 ghost use Rattle.group_inherit.specs.inner.View.{nodes_view};
-ghost use Rattle.group_inherit.specs.inner.Numbering.{AreNeeds, path_in, extension_in};
+ghost use Rattle.group_inherit.specs.inner.Numbering.{AreNeeds, IsNumbering};
+ghost use Rattle.group_inherit.specs.inner.Numbering.{extension_in, group_in, path_in};
 
 use crate::fault::{TreeFault, span_of};
 use crate::numbered::Node;
@@ -101,14 +102,15 @@ pub(crate) fn finish_order<'s>(
     nodes: &[Node<'_, 's>],
     needs: &[Vec<usize>],
 ) -> Result<Vec<usize>, TreeFault<'s>>
+    requires numbering { IsNumbering (nodes_view nodes.now) }
+    requires targets { lost_targets (group_in (nodes_view nodes.now) 0) ≡ [] }
     requires graph { IsGraph needs.now }
-    requires some { 0 < length needs.now }
     requires long { length needs.now ≡ length nodes.now }
     requires needs { AreNeeds (nodes_view nodes.now) needs.now }
-    ensures no_ring { OnOk result (HasNoRing (needs_in needs.now) 0) }
+    ensures no_ring { OnOk result (IsAcyclic (group_in (nodes_view nodes.now) 0)) }
     ensures order { IfOk result (λ order. IsOrder (needs_in needs.now) 0 order.items) }
     ensures within { IfOk result (λ order. All (λ v. v < length needs.now) order.items) }
-    ensures ring { IfErr result (IsRingFault (nodes_view nodes.now) (needs_in needs.now)) }
+    ensures broken { IfErr result (IsTreeBreak (group_in (nodes_view nodes.now) 0)) }
 {
     match ring_or_order(alloc, needs, 0)? {
         Found::Order(order) => Ok(order),

@@ -1,20 +1,22 @@
 //! Counts and heights of groups.
 
-ghost use Rattle.std.specs.Prelude.{◌≡◌, ◌<◌, ◌≤◌, ◌+◌, [], IfOk, IfErr, OnOk, All};
-ghost use Rattle.std.specs.Prelude.{length, min, if◌then◌else◌};
+ghost use Rattle.std.specs.Prelude.{◌≡◌, ◌<◌, [], IfOk, IfErr, IfSome, OnOk, All, length};
 ghost use Rattle.ring.specs.Graph.{needs_in, IsGraph};
 ghost use Rattle.ring.specs.Order.{Follows};
 ghost use Rattle.ring.specs.Lists.{In};
 ghost use Rattle.token_tree.specs.View.{group_view};
-ghost use Rattle.group_inherit.specs.Extension.{children_in, group_names, tokens_height, needs_of};
-ghost use Rattle.group_inherit.specs.inner.Outcomes.{AreHeights, capped_height, own_counts};
+ghost use Rattle.group_inherit.specs.Answer.{IsAcyclic, IsCounted, IsLow, IsTreeBreak};
+ghost use Rattle.group_inherit.specs.Extension.{children_in, group_names, tokens_height};
+ghost use Rattle.group_inherit.specs.Extension.{lost_targets};
+ghost use Rattle.group_inherit.specs.inner.Numbering.{AreNeeds, AreRows, IsNumbering};
+ghost use Rattle.group_inherit.specs.inner.Numbering.{group_in, needs_by, numbers_of};
+ghost use Rattle.group_inherit.specs.inner.Outcomes.{AreHeights, HaveNumbers};
+ghost use Rattle.group_inherit.specs.inner.Outcomes.{capped_height, own_counts};
 ghost use Rattle.group_inherit.specs.inner.View.{nodes_view};
-ghost use Rattle.group_inherit.specs.inner.Numbering.{AreNeeds};
-ghost use Rattle.group_inherit.specs.inner.Sizes.{IsCountedIn, IsCountFault};
-ghost use Rattle.group_inherit.specs.inner.Sizes.{IsLowIn, IsHeightFault};
 
 use crate::fault::TreeFault;
 use crate::numbered::Node;
+use crate::targets::Row;
 use ring::capped_totals;
 use std::alloc::Global;
 use tk_io::NoMemory;
@@ -44,13 +46,17 @@ pub(crate) fn check_count<'s>(
     needs: &[Vec<usize>],
     order: &[usize],
 ) -> Result<(), TreeFault<'s>>
+    requires numbering { IsNumbering (nodes_view nodes.now) }
+    requires targets { lost_targets (group_in (nodes_view nodes.now) 0) ≡ [] }
+    requires rings { IsAcyclic (group_in (nodes_view nodes.now) 0) }
     requires graph { IsGraph needs.now }
     requires long { length needs.now ≡ length nodes.now }
+    requires needs { AreNeeds (nodes_view nodes.now) needs.now }
     requires within { All (λ v. v < length needs.now) order.now }
     requires order { Follows (needs_in needs.now) [] order.now }
     requires root { In 0 order.now }
-    ensures ok { OnOk result (IsCountedIn (nodes_view nodes.now) (needs_in needs.now)) }
-    ensures broken { IfErr result (IsCountFault (nodes_view nodes.now) (needs_in needs.now)) }
+    ensures ok { OnOk result (IsCounted (group_in (nodes_view nodes.now) 0)) }
+    ensures broken { IfErr result (IsTreeBreak (group_in (nodes_view nodes.now) 0)) }
 {
     let own = own_counts(alloc, nodes)?;
     let counts = capped_totals(alloc, needs, order, own.as_slice())?;
@@ -59,17 +65,6 @@ pub(crate) fn check_count<'s>(
         return Err(TreeFault::TooManyTokens(count));
     }
     Ok(())
-}
-
-// How many child groups a group has that needs so many groups.
-fn child_groups(group: &Group<'_>, needs: usize) -> usize
-    requires { needs ≡ length (needs_of [] (group_view group.now)) }
-    ensures { result ≡ length (group_names (group_view group.now)) }
-{
-    match &group.extends {
-        None => needs,
-        Some(_) => needs - 1,
-    }
 }
 
 // 1 where there is a token, so that there are more members than child groups.
@@ -83,47 +78,41 @@ fn tokens_height(group: &Group<'_>, children: usize) -> u64
     0
 }
 
-fn raised(height: u64, is_child: bool) -> u64
-    ensures { result ≡ if is_child then min (height + 1) 18446744073709551615 else height }
+// The height of a group, or a million where that is more, from those in the table of what its row names.
+fn height_at(group: &Group<'_>, row: &Row, table: &[u64]) -> u64
+    requires within { All (λ w. w < length table.now) row.now.children.items }
+    requires target { IfSome row.now.target (λ w. w < length table.now) }
+    requires many { HaveNumbers group.now.members row.now.children.items }
+    ensures { result ≡ capped_height (group_view group.now) table.now (numbers_of row.now) }
 {
-    if is_child {
-        return height.saturating_add(1);
+    let mut height = tokens_height(group, row.children.len());
+    for child in row.children.as_slice() {
+        height = height.max(table[*child].saturating_add(1));
     }
-    height
-}
-
-// The height of a group, or a million where that is more, from those in the table of what it needs.
-fn height_at(group: &Group<'_>, needs: &[usize], table: &[u64]) -> u64
-    requires within { All (λ w. w < length table.now) needs.now }
-    requires long { length needs.now ≡ length (needs_of [] (group_view group.now)) }
-    ensures { result ≡ capped_height (group_view group.now) table.now needs.now }
-{
-    let children = child_groups(group, needs.len());
-    let mut height = tokens_height(group, children);
-    for (i, need) in needs.iter().enumerate() {
-        height = height.max(raised(table[*need], i < children));
+    match row.target {
+        None => height.min(LIMIT),
+        Some(target) => height.max(table[target]).min(LIMIT),
     }
-    height.min(LIMIT)
 }
 
 // The height of each group of an order, or a million where that is more.
 fn capped_heights(
     alloc: Global,
     nodes: &[Node<'_, '_>],
-    needs: &[Vec<usize>],
+    rows: &[Row],
     order: &[usize],
 ) -> Result<Vec<u64>, NoMemory>
-    requires graph { IsGraph needs.now }
-    requires long { length needs.now ≡ length nodes.now }
-    requires needs { AreNeeds (nodes_view nodes.now) needs.now }
-    requires within { All (λ v. v < length needs.now) order.now }
-    requires order { Follows (needs_in needs.now) [] order.now }
-    ensures long { IfOk result (λ table. length table.items ≡ length needs.now) }
-    ensures heights { IfOk result (λ table. AreHeights nodes.now needs.now order.now table.items) }
+    requires numbering { IsNumbering (nodes_view nodes.now) }
+    requires rows { AreRows (nodes_view nodes.now) rows.now }
+    requires long { length rows.now ≡ length nodes.now }
+    requires within { All (λ v. v < length nodes.now) order.now }
+    requires order { Follows (needs_by rows.now) [] order.now }
+    ensures long { IfOk result (λ table. length table.items ≡ length nodes.now) }
+    ensures heights { IfOk result (λ table. AreHeights nodes.now order.now table.items) }
 {
-    let mut table = vec![in alloc; 0; needs.len()]?;
+    let mut table = vec![in alloc; 0; nodes.len()]?;
     for v in order {
-        table[*v] = height_at(nodes[*v].group, needs[*v].as_slice(), table.as_slice());
+        table[*v] = height_at(nodes[*v].group, &rows[*v], table.as_slice());
     }
     Ok(table)
 }
@@ -132,20 +121,22 @@ fn capped_heights(
 pub(crate) fn check_height<'s>(
     alloc: Global,
     nodes: &[Node<'_, 's>],
-    needs: &[Vec<usize>],
+    rows: &[Row],
     order: &[usize],
 ) -> Result<(), TreeFault<'s>>
-    requires graph { IsGraph needs.now }
-    requires long { length needs.now ≡ length nodes.now }
-    requires needs { AreNeeds (nodes_view nodes.now) needs.now }
-    requires within { All (λ v. v < length needs.now) order.now }
-    requires order { Follows (needs_in needs.now) [] order.now }
+    requires numbering { IsNumbering (nodes_view nodes.now) }
+    requires targets { lost_targets (group_in (nodes_view nodes.now) 0) ≡ [] }
+    requires rings { IsAcyclic (group_in (nodes_view nodes.now) 0) }
+    requires counted { IsCounted (group_in (nodes_view nodes.now) 0) }
+    requires rows { AreRows (nodes_view nodes.now) rows.now }
+    requires long { length rows.now ≡ length nodes.now }
+    requires within { All (λ v. v < length nodes.now) order.now }
+    requires order { Follows (needs_by rows.now) [] order.now }
     requires root { In 0 order.now }
-    requires counted { IsCountedIn (nodes_view nodes.now) (needs_in needs.now) }
-    ensures ok { OnOk result (IsLowIn (nodes_view nodes.now) (needs_in needs.now)) }
-    ensures broken { IfErr result (IsHeightFault (nodes_view nodes.now) (needs_in needs.now)) }
+    ensures ok { OnOk result (IsLow (group_in (nodes_view nodes.now) 0)) }
+    ensures broken { IfErr result (IsTreeBreak (group_in (nodes_view nodes.now) 0)) }
 {
-    let heights = capped_heights(alloc, nodes, needs, order)?;
+    let heights = capped_heights(alloc, nodes, rows, order)?;
     let height = heights[0];
     if height > HIGHEST {
         return Err(TreeFault::TooHigh(height));

@@ -98,7 +98,7 @@ lay_broken files home s ss before b (bs, ts, found, (more, is)) =
 pub lay_end : (files : FilesData) (home : HomeAt) (g : GroupCode) → IsLaidOver files home [] (group_view g) (Tree g)
 lay_end files home g = ([], [], (refl, refl), (refl, refl))
 
--- the sources from one on, and behind the last
+-- the sources from one on, and after the last
 pub next_sources : (sources : List PlanSource) (i : ℕ) (x : PlanSource) → i < length sources → x ≡ get_or sources i x → plan_sources_view (drop i sources) ≡ plan_source_view x ∷ plan_sources_view (drop (i + 1) sources)
 next_sources sources i x h is = ap plan_sources_view (drop_more sources i x h) ∙ ap (λ y. plan_source_view y ∷ plan_sources_view (drop (i + 1) sources)) (sym is)
 

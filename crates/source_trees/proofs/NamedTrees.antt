@@ -105,7 +105,7 @@ module _ (files : FilesData) where
             ∙ ap (λ (o : Option (List ℕ)). cond (is_some o) (finite.len seen) (finite.len seen + 1)) (not_seen seen old name are e),
       )
 
--- The permutations from one on, and behind the last.
+-- The permutations from one on, and after the last.
 
 pub next_perms : (perms : List PlanPerm) (i : ℕ) (x : PlanPerm) → i < length perms → x ≡ get_or perms i x → plan_view (drop i perms) ≡ plan_perm_view x ∷ plan_view (drop (i + 1) perms)
 next_perms perms i x h is = ap plan_view (drop_more perms i x h) ∙ ap (λ y. plan_perm_view y ∷ plan_view (drop (i + 1) perms)) (sym is)

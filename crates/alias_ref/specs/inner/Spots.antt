@@ -53,7 +53,7 @@ pub record IsSpot (flat : Flat) (s : Spot) : Type 0 where
   pub content : IsContent s.content (role_at s.token.now.def.by_ref s.place.trail) (tree_of value)
   pub sound : IsFlawless value
 
--- the value is the part behind a step of what is written at the place
+-- the value is the part after a step of what is written at the place
 pub record IsPartAt (flat : Flat) (p : Place) (f : Flattened) (s : Step) (m : Placed) : Type 0 where
   pub value : Placed
   pub stands : IsValueAt flat p f value

@@ -4,7 +4,7 @@ use Rattle.json_span.specs.Tree.{Placed, Entry, tree_of}
 use Rattle.alias_ref.specs.Written.{Step, Role, of_value, written_as, role_behind, is_reference, part_behind}
 use Rattle.alias_ref.specs.Refs.{refs_in}
 
--- the part behind a step, where the value is no reference
+-- the part after a step, where the value is no reference
 abbrev pub next_in : Role → Placed → Step → Option Placed
 next_in role n s = if is_reference (Some (written_as role (tree_of n))) then None else part_behind n s
 

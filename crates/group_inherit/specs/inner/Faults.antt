@@ -1,6 +1,5 @@
 -- What faults say of numbered groups.
-use Rattle.std.specs.Prelude.{◌≡◌, ◌<◌, ℕ, List, Some, map, length, All}
-use Rattle.ring.specs.Routes.{IsRing}
+use Rattle.std.specs.Prelude.{◌≡◌, ℕ, List, Some, map}
 use Rattle.token_tree.specs.Tree.{Extension}
 use Rattle.group_inherit.specs.declared.fault.TreeFault.{TreeFault}
 use Rattle.group_inherit.specs.declared.fault.TreeFault.TheVariants.{ExtendsTarget, ExtendsCycle, TooManyTokens, TooHigh, NoMemory}
@@ -31,11 +30,3 @@ IsReportOf nodes ring (ExtendsCycle paths span) = IsReported nodes ring paths sp
 IsReportOf nodes ring (TooManyTokens shown) = ⊥
 IsReportOf nodes ring (TooHigh height) = ⊥
 IsReportOf nodes ring NoMemory = ⊥
-
--- the fault is the first ring of the numbered groups
-abbrev pub IsRingFault : List GroupAt → (ℕ → List ℕ) → TreeFault → Type 0
-IsRingFault nodes needs (ExtendsTarget path span) = ⊥
-IsRingFault nodes needs (ExtendsCycle paths span) = (ring : List ℕ) × IsRing needs 0 ring × All (λ v. v < length nodes) ring × IsReported nodes ring paths span
-IsRingFault nodes needs (TooManyTokens shown) = ⊥
-IsRingFault nodes needs (TooHigh height) = ⊥
-IsRingFault nodes needs NoMemory = Unit {0}

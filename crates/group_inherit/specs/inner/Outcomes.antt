@@ -5,7 +5,6 @@ use Rattle.std.specs.FinMap as map
 use Rattle.std.specs.FinMap.Entries.{put}
 use Rattle.std.specs.declared.alloc.Global.{Global}
 use Rattle.std.specs.declared.vec.Vec.{Vec}
-use Rattle.ring.specs.Graph.{needs_in}
 use Rattle.ring.specs.Lists.{In}
 use Rattle.tk_io.specs.Order.{names_cmp}
 use Rattle.token_tree.specs.View.{extends_view, child_view, member_view, group_view}
@@ -16,7 +15,7 @@ use Rattle.token_tree.specs.declared.tree.Group.{Group}
 use Rattle.token_tree.specs.declared.tree.Member.{Member}
 use Rattle.group_inherit.specs.Answer.{most_told}
 use Rattle.group_inherit.specs.Expansion.{Expands, AreExpanded}
-use Rattle.group_inherit.specs.Extension.{GroupPath, at_path, children_in, group_names, names_of_groups, child_paths, paths_below, target_path, groups_from, how_many, height_of}
+use Rattle.group_inherit.specs.Extension.{GroupPath, at_path, children_in, group_names, names_of_groups, child_paths, paths_below, target_path, groups_from, how_many, height_of, Heights}
 use Rattle.group_inherit.specs.Flattening.{Flattened, TokenAt, flattened, tokens_in, tokens_at}
 use Rattle.group_inherit.specs.Merging.{named, over_members, over_child}
 use Rattle.group_inherit.specs.Putting.{put_all}
@@ -27,7 +26,6 @@ use Rattle.group_inherit.specs.declared.targets.Row.{Row}
 use Rattle.group_inherit.specs.declared.walking.Nearest.{Nearest}
 use Rattle.group_inherit.specs.inner.Checking.{IsChecked}
 use Rattle.group_inherit.specs.inner.Numbering.{GroupAt, Places, group_in, path_in}
-use Rattle.group_inherit.specs.inner.Sizes.{IsHeight}
 use Rattle.group_inherit.specs.inner.Tables.{value, HaveExpansions, HasTarget}
 use Rattle.group_inherit.specs.inner.View.{nodes_view, nearest_view}
 
@@ -74,9 +72,17 @@ own_counts nodes = map_list (λ n. how_many (children_in n.1)) nodes
 abbrev pub capped_height : GroupData → List ℕ → List ℕ → ℕ
 capped_height g table needs = min (height_of g (map_list (λ w. slice_index table w) needs)) most_told
 
--- the table has the height of each group of the order
-abbrev pub AreHeights : List Node → List (Vec ℕ Global) → List ℕ → List ℕ → Type 0
-AreHeights nodes needs order table = (v : ℕ) → In v order → IsHeight (nodes_view nodes) (needs_in needs) v (slice_index table v)
+-- the height of the group at a path of a tree, or the most that is told
+abbrev pub IsHeight : GroupData → GroupPath → ℕ → Type 0
+IsHeight tree path shown = (n : ℕ) × Heights tree path n × (shown ≡ min n most_told)
+
+-- the table has the height of a numbered group
+abbrev pub HoldsHeight : List GroupAt → List ℕ → ℕ → Type 0
+HoldsHeight nodes table v = IsHeight (group_in nodes 0) (path_in nodes v) (slice_index table v)
+
+-- .. of each group of the order
+abbrev pub AreHeights : List Node → List ℕ → List ℕ → Type 0
+AreHeights nodes order table = (v : ℕ) → In v order → HoldsHeight (nodes_view nodes) table v
 
 abbrev pub IsReady : GroupData → ReadyTree → Type 0
 IsReady tree r = IsChecked tree (nodes_view r.nodes.items) r.rows.items r.order.items

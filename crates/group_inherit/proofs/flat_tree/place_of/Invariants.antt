@@ -1,4 +1,4 @@
--- The path is behind what is before the part that is left, and before what is behind it.
+-- The path is after what stands before the part that is left, and before what stands after it.
 use Rattle.std.proofs.Common.{◌≤◌, ◌-◌, take, drop, length}
 use Rattle.tk_io.specs.Order.{names_cmp}
 use Rattle.group_inherit.specs.inner.Halves.{Passed, Ahead}

@@ -1,0 +1,1 @@
+use Rattle.group_inherit.proofs.checked.counted_order.Goals as goal
