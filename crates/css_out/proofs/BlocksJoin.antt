@@ -23,7 +23,7 @@ rest-more : (p : ℕ → Bool) (s t : List ℕ) (d : ℕ) (u : List ℕ) → beh
 rest-more p [] t d u e = cc
 rest-more p (c ∷ s) t d u e = run_by (p c) c d (first_run p s) (first_run p (s ++ t)) (behind_run p s) (behind_run p (s ++ t)) s u t e (rest-more p s t d u)
 
--- what stands at the front of a text stands there before more, unless nothing can be read behind it
+-- what stands at the start of a text stands there before more, unless nothing can be read after it
 abbrev Grown : List ℕ → ValueStep → ValueStep → Type 0
 Grown t stop z = z ≡ stop
 Grown t (skip r) z = z ≡ skip (r ++ t)
@@ -85,7 +85,7 @@ numbered_if : (t : List ℕ) (b : Bool) (x y v w : Decimal × List ℕ) → Grow
 numbered_if t true x y v w h i = h
 numbered_if t false x y v w h i = i
 
--- a point alone ends a number, but nothing is read behind it
+-- a point alone ends a number, but nothing is read after it
 point_last : (b : Bool) (negative : Bool) (whole : List ℕ) (c : ℕ) (t : List ℕ) → (c == 46) ≡ b
     → Grown t (taken (numbered (fraction_after negative whole (c ∷ [])))) (taken (numbered (fraction_after negative whole (c ∷ t))))
 point_last true negative whole c t h = let point : c ≡ 46 = grind (arith, nat_tests) in rw point (inl refl)
@@ -94,7 +94,7 @@ point_last false negative whole c t h = rw h (measured_more (decimal_of negative
 not_nil : (d : ℕ) (s : List ℕ) → d ∷ s ≡ [] → ⊥
 not_nil d s h = cc
 
--- digits behind a byte that is a point or not
+-- digits after a byte that is a point or not
 abbrev pointed : Bool → List ℕ → ℕ → List ℕ → List ℕ → List ℕ → Decimal × List ℕ
 pointed negative whole c ds r s =
     if (c == 46) && nat_lt 0 (length ds) then (decimal_of negative (digits_number (whole ++ ds)) (length ds), r) else (decimal_of negative (digits_number whole) 0, c ∷ s)
@@ -143,7 +143,7 @@ string_taken : (t : List ℕ) (x y : Option (List ℕ × List ℕ)) → Longer t
 string_taken t None y h = tt
 string_taken t (Some r) y h = inr (ap (λ z. taken (string_piece z)) h)
 
--- a piece, where another byte stands behind its first
+-- a piece, where another byte stands after its first
 piece_more : (c d : ℕ) (s t : List ℕ) → Grown t (taken (piece_at (c ∷ d ∷ s))) (taken (piece_at (c ∷ d ∷ (s ++ t))))
 piece_more c d s t =
     taken_if t (c == 44) (Some (mark comma, d ∷ s)) _ (Some (mark comma, d ∷ (s ++ t))) _ (inr refl)
@@ -163,7 +163,7 @@ star_more : (s t : List ℕ) → Grown t (skipped (skip_star s)) (skipped (skip_
 star_more [] t = tt
 star_more (c ∷ s) t = skipped_if t (c == 42) (after_comment s) None (after_comment (s ++ t)) None (comment_more s t) tt
 
--- a test that fails, whatever stands behind it
+-- a test that fails, whatever stands after it
 grown_no : (t : List ℕ) (b p q : Bool) (x y v w : ValueStep) → b ≡ false → Grown t y w → Grown t (if b && p then x else y) (if b && q then v else w)
 grown_no t true p q x y v w h i = cc
 grown_no t false p q x y v w h i = i
@@ -172,7 +172,7 @@ taken_no : (t : List ℕ) (b p q : Bool) (x y v w : Option (Piece × List ℕ)) 
 taken_no t true p q x y v w h i = cc
 taken_no t false p q x y v w h i = i
 
--- one byte alone: nothing is read behind it
+-- one byte alone: nothing is read after it
 one_byte : (a b : Bool) (c : ℕ) (t : List ℕ) → (c == 47) ≡ a → (c == 45) ≡ b → Grown t (step (c ∷ [])) (step (c ∷ t))
 one_byte true b c t h k = let same : c ≡ 47 = grind (arith, nat_tests) in rw same (inl refl)
 one_byte false true c t h k = let same : c ≡ 45 = grind (arith, nat_tests) in rw same tt

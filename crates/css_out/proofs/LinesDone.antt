@@ -20,7 +20,7 @@ pub alone_done : (l : Line) (name : List ℕ) (ps : List Piece) → l.text ≡ [
 alone_done l name ps none =
     line_done l name ps ∙ ap (λ t. t ++ line_text (declared name ps)) none ∙ sym (append-nil (line_text (declared name ps)))
 
--- five texts, one behind the other
+-- five texts, one after the other
 pub five_texts : (t u v w x y a b c d e : List ℕ) → t ≡ [] → u ≡ t ++ a → v ≡ u ++ b → w ≡ v ++ c → x ≡ w ++ d → y ≡ x ++ e → y ≡ a ++ (b ++ (c ++ (d ++ (e ++ []))))
 five_texts t u v w x y a b c d e h i j k l m = rw (m, l, k, j, i, h, append-nil e) (simp append_assoc)
 

@@ -133,7 +133,7 @@ impl<'a, 's> Token<'a, 's> {
         Ok(())
     }
 
-    // The items from the second on, each behind a comma.
+    // The items from the second on, each after a comma.
     fn behind_commas<T: Item>(
         &self,
         line: &mut Line,

@@ -21,7 +21,7 @@ pub fn each_document_answers()
     ensures { EachDocumentAnswers }
 {}
 
-/// A file's name is what stands behind all leading `./` of a text. A text points to a member whose name it spells, and the
+/// A file's name is what stands after all leading `./` of a text. A text points to a member whose name it spells, and the
 /// pointer to a member finds one of its name. In a document without a flaw the contexts of a modifier have different names.
 pub fn naming_laws()
     ensures files { DotsAreTaken }

@@ -1,4 +1,4 @@
--- What the items still to come add to the line now, all items behind the first add to it at the start.
+-- What the items still to come add to the line now, all items after the first add to it at the start.
 use Rattle.std.proofs.Common.{◌≡◌, drop}
 use Rattle.css_out.specs.Fragment.{behind_commas}
 use Rattle.css_out.specs.Parts.{shown}
