@@ -1,7 +1,9 @@
 // Laws of the definitions alone, for the layers above.
 
 ghost use Rattle.resolver_doc.specs.Break.{FirstIsTold, NoneIsTold};
-ghost use Rattle.resolver_doc.specs.Laws.{OneFault, UnbrokenIsNotRefused, EachDocumentAnswers, DotsAreTaken, PointersSpell, PointersFind, ContextsAreApart};
+ghost use Rattle.resolver_doc.specs.Laws.{OneFault, UnbrokenIsNotRefused, EachDocumentAnswers};
+ghost use Rattle.resolver_doc.specs.Laws.{DotsAreTaken, PointersSpell, PointersFind};
+ghost use Rattle.resolver_doc.specs.Laws.{ContextsAreApart};
 
 /// Of several breaks the first by its start and then by its rule's number is told, and where none is told there is none.
 pub fn break_laws()

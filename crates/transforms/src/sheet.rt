@@ -43,7 +43,8 @@ impl Model for Sheet {
 
     ghost Value = { OpenSheet };
 
-    ghost view = { λ s. record { frame = frame_view s.frame; text = s.text; has_body = s.has_body } };
+    ghost view = { λ s.
+        record { frame = frame_view s.frame; text = s.text; has_body = s.has_body } };
 }
 
 impl Sheet {
