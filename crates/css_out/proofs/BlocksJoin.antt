@@ -11,7 +11,7 @@ use Rattle.transforms.specs.Quoted.{string_from}
 use Rattle.transforms.specs.Runs.{first_run, behind_run, starts_digit}
 use Rattle.transforms.proofs.QuotedReadsBack.{Longer, string_more}
 use Rattle.css_out.specs.Piece.{Piece, mark, var, number, percent, unit, word, opens, closes, comma, slash}
-use Rattle.css_out.specs.Reading.{in_word, in_name, is_some, closed_name, var_at, is_var, worded, string_piece, measured, numbered, starts_star, piece_at, is_blank, after_comment, skip_star, ValueStep, stop, skip, take, wrong, skipped, taken, step, Pieces, stops, skips, takes, colon, Colon, meets, misses, Declared, Turn, over, pass, names, other, passed, named, dashed, turn, tail, Block, ended, passes, declared}
+use Rattle.css_out.specs.Reading.{in_word, in_name, is_some, closed_name, var_at, is_var, worded, string_piece, measured, numbered, starts_star, piece_at, is_blank, after_comment, skip_star, ValueStep, stop, skip, take, wrong, skipped, taken, step, Pieces, stops, skips, takes, colon, Colon, meets, misses, Declared, Turn, over, pass, names, other, comment_turn, name_turn, dashed, turn, tail, Block, ended, passes, declared}
 
 -- runs of bytes
 run_by : (b : Bool) (c d : ℕ) (f g r q s u t : List ℕ) → (if b then r else c ∷ s) ≡ d ∷ u → (r ≡ d ∷ u → (g ≡ f) × (q ≡ d ∷ (u ++ t)))
@@ -252,13 +252,13 @@ turn_if : (t : List ℕ) (b : Bool) (x y v w : Turn) → GrownTurn t x v → Gro
 turn_if t true x y v w h i = h
 turn_if t false x y v w h i = i
 
-passed_more : (t : List ℕ) (x y : Option (List ℕ)) → Grown t (skipped x) (skipped y) → GrownTurn t (passed x) (passed y)
+passed_more : (t : List ℕ) (x y : Option (List ℕ)) → Grown t (skipped x) (skipped y) → GrownTurn t (comment_turn x) (comment_turn y)
 passed_more t None y h = tt
 passed_more t (Some r) None h = cc
 passed_more t (Some r) (Some q) h = let same : q ≡ r ++ t = cc in ap pass same
 
 named_more : (x t r : List ℕ) → behind_run in_name x ≡ r
-    → GrownTurn t (named (first_run in_name x) r) (named (first_run in_name (x ++ t)) (behind_run in_name (x ++ t)))
+    → GrownTurn t (name_turn (first_run in_name x) r) (name_turn (first_run in_name (x ++ t)) (behind_run in_name (x ++ t)))
 named_more x t [] e = tt
 named_more x t (d ∷ u) e =
     let (a, b) = rest-more in_name x t d u e in

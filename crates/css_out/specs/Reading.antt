@@ -164,24 +164,25 @@ pub data Turn : Type 0 where
   names : List ℕ → List ℕ → Turn
   other : Turn
 
-abbrev pub passed : Option (List ℕ) → Turn
-passed None = other
-passed (Some t) = pass t
+-- a comment gives nothing, and is passed over where it ends
+abbrev pub comment_turn : Option (List ℕ) → Turn
+comment_turn None = other
+comment_turn (Some t) = pass t
 
 -- `--` and one byte of a name or more, after which something stands
-abbrev pub named : List ℕ → List ℕ → Turn
-named n [] = other
-named n (c ∷ t) = if is_some n then names (codes "--" ++ n) (c ∷ t) else other
+abbrev pub name_turn : List ℕ → List ℕ → Turn
+name_turn n [] = other
+name_turn n (c ∷ t) = if is_some n then names (codes "--" ++ n) (c ∷ t) else other
 
 abbrev pub dashed : List ℕ → Turn
 dashed [] = other
-dashed (c ∷ t) = if c == hyphen then named (first_run in_name t) (behind_run in_name t) else other
+dashed (c ∷ t) = if c == hyphen then name_turn (first_run in_name t) (behind_run in_name t) else other
 
 abbrev pub turn : List ℕ → Turn
 turn [] = over
 turn (c ∷ t) =
     if is_blank c then pass t
-    else (if c == solidus then passed (skip_star t)
+    else (if c == solidus then comment_turn (skip_star t)
     else (if c == hyphen then dashed t else other))
 
 -- The declarations of a text, read alone.
