@@ -48,7 +48,7 @@ fn most_in(contexts: &[SetDef<'_, '_>], table: &Table<'_, '_, '_>) -> u64
     requires known { All (λ c. HaveRows (length table.now.rows.items) c.sources) contexts.now }
     ensures { result ≡ told_number (greatest
         (map (λ c. source_count (sets_view table.now.sets.now) c.sources)
-            (sets_view contexts.now))) }
+        (sets_view contexts.now))) }
 {
     let mut most = 0;
     for context in contexts {
