@@ -123,7 +123,7 @@ no_mark integer_tag t u e = let no : false ≡ true = ap is_mark e in cc
 no_mark item_tag t u e = let no : false ≡ true = ap is_mark e in cc
 no_mark string_tag t u e = let no : false ≡ true = ap is_mark e in cc
 
--- what stands behind the end, a blank, a comment and an element
+-- what stands after the end, a blank, a comment and an element
 at_end : {t : List ℕ} {ws : Values} → Block t ws → t ≡ [] → [] ≡ ws
 at_end (ended t f) e = refl
 at_end (blank_byte t c rest ws f h x) e = cc

@@ -14,7 +14,7 @@ fn is_plain_char(c: u8) -> bool
     c.is_ascii_alphanumeric() || (c == b'-' || (c == b'_' || c == b'.'))
 }
 
-// Whether a word is begun behind the byte; none where the byte can't stand there.
+// Whether a word is begun after the byte; none where the byte can't stand there.
 fn after_byte(begun: bool, c: u8) -> Option<bool>
     ensures { result ≡ after_byte begun c }
 {

@@ -41,7 +41,7 @@ fn config(alloc: Global, prefix: &str, base: &str) -> Result<Config, Fail> {
     }
 }
 
-/// The names, each with a newline behind it.
+/// The names, each with a newline after it.
 fn listed(alloc: Global, names: &Names) -> Result<Bytes, NoMemory> {
     let mut out = Bytes::new(alloc);
     for name in names.as_slice() {

@@ -11,7 +11,7 @@ use Rattle.transforms.specs.Quoted.{string_from}
 use Rattle.transforms.specs.Runs.{first_run, behind_run, starts_digit}
 use Rattle.transforms.proofs.QuotedReadsBack.{Longer, string_more}
 use Rattle.css_out.specs.Piece.{Piece, mark, var, number, percent, unit, word, opens, closes, comma, slash}
-use Rattle.css_out.specs.Reading.{in_word, in_name, is_some, closed_name, var_at, is_var, worded, string_piece, measured, numbered, starts_star, piece_at, is_blank, after_comment, skip_star, ValueStep, stop, skip, take, wrong, skipped, taken, step, Pieces, stops, skips, takes, colon, Colon, meets, misses, Declared, Turn, over, pass, names, other, passed, named, dashed, turn, tail, Block, ended, passes, declared}
+use Rattle.css_out.specs.Reading.{in_word, in_name, is_some, closed_name, var_at, is_var, worded, string_piece, measured, numbered, starts_star, piece_at, is_blank, after_comment, skip_star, ValueStep, stop, skip, take, wrong, skipped, taken, step, Pieces, stops, skips, takes, colon, Colon, meets, misses, Declared, Turn, over, pass, names, other, comment_turn, name_turn, dashed, turn, tail, Block, ended, passes, declared}
 
 -- runs of bytes
 run_by : (b : Bool) (c d : ℕ) (f g r q s u t : List ℕ) → (if b then r else c ∷ s) ≡ d ∷ u → (r ≡ d ∷ u → (g ≡ f) × (q ≡ d ∷ (u ++ t)))
@@ -23,7 +23,7 @@ rest-more : (p : ℕ → Bool) (s t : List ℕ) (d : ℕ) (u : List ℕ) → beh
 rest-more p [] t d u e = cc
 rest-more p (c ∷ s) t d u e = run_by (p c) c d (first_run p s) (first_run p (s ++ t)) (behind_run p s) (behind_run p (s ++ t)) s u t e (rest-more p s t d u)
 
--- what stands at the front of a text stands there before more, unless nothing can be read behind it
+-- what stands at the start of a text stands there before more, unless nothing can be read after it
 abbrev Grown : List ℕ → ValueStep → ValueStep → Type 0
 Grown t stop z = z ≡ stop
 Grown t (skip r) z = z ≡ skip (r ++ t)
@@ -85,7 +85,7 @@ numbered_if : (t : List ℕ) (b : Bool) (x y v w : Decimal × List ℕ) → Grow
 numbered_if t true x y v w h i = h
 numbered_if t false x y v w h i = i
 
--- a point alone ends a number, but nothing is read behind it
+-- a point alone ends a number, but nothing is read after it
 point_last : (b : Bool) (negative : Bool) (whole : List ℕ) (c : ℕ) (t : List ℕ) → (c == 46) ≡ b
     → Grown t (taken (numbered (fraction_after negative whole (c ∷ [])))) (taken (numbered (fraction_after negative whole (c ∷ t))))
 point_last true negative whole c t h = let point : c ≡ 46 = grind (arith, nat_tests) in rw point (inl refl)
@@ -94,7 +94,7 @@ point_last false negative whole c t h = rw h (measured_more (decimal_of negative
 not_nil : (d : ℕ) (s : List ℕ) → d ∷ s ≡ [] → ⊥
 not_nil d s h = cc
 
--- digits behind a byte that is a point or not
+-- digits after a byte that is a point or not
 abbrev pointed : Bool → List ℕ → ℕ → List ℕ → List ℕ → List ℕ → Decimal × List ℕ
 pointed negative whole c ds r s =
     if (c == 46) && nat_lt 0 (length ds) then (decimal_of negative (digits_number (whole ++ ds)) (length ds), r) else (decimal_of negative (digits_number whole) 0, c ∷ s)
@@ -143,7 +143,7 @@ string_taken : (t : List ℕ) (x y : Option (List ℕ × List ℕ)) → Longer t
 string_taken t None y h = tt
 string_taken t (Some r) y h = inr (ap (λ z. taken (string_piece z)) h)
 
--- a piece, where another byte stands behind its first
+-- a piece, where another byte stands after its first
 piece_more : (c d : ℕ) (s t : List ℕ) → Grown t (taken (piece_at (c ∷ d ∷ s))) (taken (piece_at (c ∷ d ∷ (s ++ t))))
 piece_more c d s t =
     taken_if t (c == 44) (Some (mark comma, d ∷ s)) _ (Some (mark comma, d ∷ (s ++ t))) _ (inr refl)
@@ -163,7 +163,7 @@ star_more : (s t : List ℕ) → Grown t (skipped (skip_star s)) (skipped (skip_
 star_more [] t = tt
 star_more (c ∷ s) t = skipped_if t (c == 42) (after_comment s) None (after_comment (s ++ t)) None (comment_more s t) tt
 
--- a test that fails, whatever stands behind it
+-- a test that fails, whatever stands after it
 grown_no : (t : List ℕ) (b p q : Bool) (x y v w : ValueStep) → b ≡ false → Grown t y w → Grown t (if b && p then x else y) (if b && q then v else w)
 grown_no t true p q x y v w h i = cc
 grown_no t false p q x y v w h i = i
@@ -172,7 +172,7 @@ taken_no : (t : List ℕ) (b p q : Bool) (x y v w : Option (Piece × List ℕ)) 
 taken_no t true p q x y v w h i = cc
 taken_no t false p q x y v w h i = i
 
--- one byte alone: nothing is read behind it
+-- one byte alone: nothing is read after it
 one_byte : (a b : Bool) (c : ℕ) (t : List ℕ) → (c == 47) ≡ a → (c == 45) ≡ b → Grown t (step (c ∷ [])) (step (c ∷ t))
 one_byte true b c t h k = let same : c ≡ 47 = grind (arith, nat_tests) in rw same (inl refl)
 one_byte false true c t h k = let same : c ≡ 45 = grind (arith, nat_tests) in rw same tt
@@ -252,13 +252,13 @@ turn_if : (t : List ℕ) (b : Bool) (x y v w : Turn) → GrownTurn t x v → Gro
 turn_if t true x y v w h i = h
 turn_if t false x y v w h i = i
 
-passed_more : (t : List ℕ) (x y : Option (List ℕ)) → Grown t (skipped x) (skipped y) → GrownTurn t (passed x) (passed y)
+passed_more : (t : List ℕ) (x y : Option (List ℕ)) → Grown t (skipped x) (skipped y) → GrownTurn t (comment_turn x) (comment_turn y)
 passed_more t None y h = tt
 passed_more t (Some r) None h = cc
 passed_more t (Some r) (Some q) h = let same : q ≡ r ++ t = cc in ap pass same
 
 named_more : (x t r : List ℕ) → behind_run in_name x ≡ r
-    → GrownTurn t (named (first_run in_name x) r) (named (first_run in_name (x ++ t)) (behind_run in_name (x ++ t)))
+    → GrownTurn t (name_turn (first_run in_name x) r) (name_turn (first_run in_name (x ++ t)) (behind_run in_name (x ++ t)))
 named_more x t [] e = tt
 named_more x t (d ∷ u) e =
     let (a, b) = rest-more in_name x t d u e in

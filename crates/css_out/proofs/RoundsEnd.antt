@@ -10,7 +10,7 @@ use Rattle.css_out.specs.Rounds.{declared_for, most_links, or_var, put, rounds, 
 use Rattle.css_out.specs.Parts.{Part, shown, own, plain, linked, NamedParts, declaration, value}
 use Rattle.css_out.proofs.OneReading.{read_once}
 
--- Each link leads to an entry whose own marks are the part's, and at most k links stand one behind the other.
+-- Each link leads to an entry whose own marks are the part's, and at most k links stand one after the other.
 pub data Nested (es : List NamedParts) : ℕ → List Part → Type 0 where
   no_parts : {k : ℕ} → Nested es k []
   itself : {k : ℕ} {ms : List Mark} {parts : List Part} → Nested es k parts → Nested es k (plain ms ∷ parts)

@@ -15,7 +15,7 @@ use Rattle.transforms.specs.Runs.{first_run, behind_run, ends_run, starts_digit,
 use Rattle.transforms.proofs.QuotedReadsBack.{string_again}
 use Rattle.transforms.proofs.RunsAreFirst.{first_run-append, behind_run-append, numbers_start}
 use Rattle.css_out.specs.Piece.{Piece, mark, var, number, percent, unit, string, word, opens, closes, comma, slash, is_opening}
-use Rattle.css_out.specs.Reading.{in_word, in_name, is_some, is_var, worded, string_piece, measured, numbered, is_blank, after_comment, take, taken, step, Pieces, stops, skips, takes, are_closed, meets, Declared, names, passed, turn, Block, ended, passes, declared}
+use Rattle.css_out.specs.Reading.{in_word, in_name, is_some, is_var, worded, string_piece, measured, numbered, is_blank, after_comment, take, taken, step, Pieces, stops, skips, takes, are_closed, meets, Declared, names, comment_turn, turn, Block, ended, passes, declared}
 use Rattle.css_out.specs.Spelling.{piece_text, is_tight, pieces_from, pieces_text, line_text, omitted_text, body_text}
 use Rattle.css_out.proofs.SpellablePieces.{is_word, is_unit, IsSpellable, AreSpellable}
 
@@ -249,7 +249,7 @@ omitted_inside n h =
     let past : after_comment (32 ∷ codes "omitted --" ++ inside) ≡ Some (10 ∷ []) =
     subst P (append_assoc n (32 ∷ []) (42 ∷ 47 ∷ 10 ∷ [])) (past_stars (32 ∷ codes "omitted --" ++ (n ++ (32 ∷ []))) (10 ∷ []) (named_no_star n h)) in
     let whole = 47 ∷ 42 ∷ 32 ∷ (codes "omitted --" ++ inside) in
-    passes _ (32 ∷ whole) _ refl (passes _ whole _ refl (passes whole (10 ∷ []) [] (ap passed past) (passes (10 ∷ []) [] [] refl (ended [] refl))))
+    passes _ (32 ∷ whole) _ refl (passes _ whole _ refl (passes whole (10 ∷ []) [] (ap comment_turn past) (passes (10 ∷ []) [] [] refl (ended [] refl))))
 
 omitted_read : (n : List ℕ) → is_property n ≡ true → Block (omitted_text n) []
 omitted_read n h = let b = behind_dashes n h in rw (b.whole) (omitted_inside b.inside b.kept)

@@ -119,7 +119,7 @@ one_is d h e =
 ones_once : (d e : Decimal) → IsExact d → IsExact e → is_eq (order_with d 1) ≡ true → is_eq (order_with e 1) ≡ true → d ≡ e
 ones_once d e h i x y = one_is d h x ∙ sym (one_is e i y)
 
--- colours: the space, by the function and the word behind it
+-- colours: the space, by the function and the word after it
 abbrev word_space : List Mark → Option Space
 word_space (word w ∷ ms) = meaning spaces w
 word_space ms = None

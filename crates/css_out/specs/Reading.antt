@@ -14,7 +14,7 @@ use Rattle.css_out.specs.Piece.{Piece, mark, var, number, percent, unit, string,
 abbrev pub in_word : ℕ → Bool
 in_word c = is_ascii_alphanumeric c || (c == hyphen)
 
--- a byte of a name behind its `--`: an ASCII letter, a digit, `_` or `-`
+-- a byte of a name after its `--`: an ASCII letter, a digit, `_` or `-`
 abbrev pub in_name : ℕ → Bool
 in_name c = is_ascii_alphanumeric c || ((c == low_line) || (c == hyphen))
 
@@ -22,7 +22,7 @@ abbrev pub is_some : List ℕ → Bool
 is_some [] = false
 is_some (c ∷ t) = true
 
--- a name up to its `)`, behind `var(--`
+-- a name up to its `)`, after `var(--`
 abbrev pub closed_name : List ℕ → List ℕ → Option (Piece × List ℕ)
 closed_name n [] = None
 closed_name n (c ∷ t) = if (c == right_bracket) && is_some n then Some (var (codes "--" ++ n), t) else None
@@ -36,7 +36,7 @@ var_at (c ∷ d ∷ t) =
 abbrev pub is_var : List ℕ → Bool
 is_var w = bytes_eq w (codes "var")
 
--- a word, or a function where a `(` stands directly behind it
+-- a word, or a function where a `(` stands directly after it
 abbrev pub worded : List ℕ → List ℕ → Option (Piece × List ℕ)
 worded w [] = Some (mark (word w), [])
 worded w (c ∷ t) =
@@ -47,7 +47,7 @@ abbrev pub string_piece : Option (List ℕ × List ℕ) → Option (Piece × Lis
 string_piece None = None
 string_piece (Some r) = Some (mark (string r.0), r.1)
 
--- letters or `%` directly behind a number make a unit or a percentage
+-- letters or `%` directly after a number make a unit or a percentage
 abbrev pub measured : Decimal → List ℕ → Option (Piece × List ℕ)
 measured d [] = Some (mark (number d), [])
 measured d (c ∷ t) = if c == percent_sign then Some (mark (percent d), t)
@@ -59,7 +59,7 @@ measured d (c ∷ t) = if c == percent_sign then Some (mark (percent d), t)
 abbrev pub numbered : Decimal × List ℕ → Option (Piece × List ℕ)
 numbered r = measured r.0 r.1
 
--- the piece at the front, and what follows it
+-- the piece at the start, and what follows it
 abbrev pub piece_at : List ℕ → Option (Piece × List ℕ)
 piece_at [] = None
 piece_at (c ∷ t) =
@@ -80,7 +80,7 @@ after_comment [] = None
 after_comment (c ∷ []) = None
 after_comment (c ∷ d ∷ t) = if (c == asterisk) && (d == solidus) then Some t else after_comment (d ∷ t)
 
--- what follows a comment, behind its `/`
+-- what follows a comment, after its `/`
 abbrev pub skip_star : List ℕ → Option (List ℕ)
 skip_star [] = None
 skip_star (c ∷ t) = if c == asterisk then after_comment t else None
@@ -89,7 +89,7 @@ abbrev pub starts_star : List ℕ → Bool
 starts_star [] = false
 starts_star (c ∷ t) = c == asterisk
 
--- what stands at the front of a value: its end, something that gives nothing, a piece, or none of these
+-- what stands at the start of a value: its end, something that gives nothing, a piece, or none of these
 pub data ValueStep : Type 0 where
   stop : ValueStep
   skip : List ℕ → ValueStep
@@ -157,31 +157,32 @@ pub record Declared : Type 0 where
   pub name : List ℕ
   pub pieces : List Piece
 
--- what stands at the front of a block: its end, something that gives nothing, a name, or none of these
+-- what stands at the start of a block: its end, something that gives nothing, a name, or none of these
 pub data Turn : Type 0 where
   over : Turn
   pass : List ℕ → Turn
   names : List ℕ → List ℕ → Turn
   other : Turn
 
-abbrev pub passed : Option (List ℕ) → Turn
-passed None = other
-passed (Some t) = pass t
+-- a comment gives nothing, and is passed over where it ends
+abbrev pub comment_turn : Option (List ℕ) → Turn
+comment_turn None = other
+comment_turn (Some t) = pass t
 
--- `--` and one byte of a name or more, behind which something stands
-abbrev pub named : List ℕ → List ℕ → Turn
-named n [] = other
-named n (c ∷ t) = if is_some n then names (codes "--" ++ n) (c ∷ t) else other
+-- `--` and one byte of a name or more, after which something stands
+abbrev pub name_turn : List ℕ → List ℕ → Turn
+name_turn n [] = other
+name_turn n (c ∷ t) = if is_some n then names (codes "--" ++ n) (c ∷ t) else other
 
 abbrev pub dashed : List ℕ → Turn
 dashed [] = other
-dashed (c ∷ t) = if c == hyphen then named (first_run in_name t) (behind_run in_name t) else other
+dashed (c ∷ t) = if c == hyphen then name_turn (first_run in_name t) (behind_run in_name t) else other
 
 abbrev pub turn : List ℕ → Turn
 turn [] = over
 turn (c ∷ t) =
     if is_blank c then pass t
-    else (if c == solidus then passed (skip_star t)
+    else (if c == solidus then comment_turn (skip_star t)
     else (if c == hyphen then dashed t else other))
 
 -- The declarations of a text, read alone.

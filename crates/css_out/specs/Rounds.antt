@@ -23,7 +23,7 @@ abbrev pub rounds : ℕ → (List ℕ → Option (List Piece)) → List Piece �
 rounds zero env ps = ps
 rounds (suc k) env ps = rounds k env (flat_map (put env) ps)
 
--- how many links stand one behind the other at most, and so in how many rounds each `var()` is put in place
+-- how many links stand one after the other at most, and so in how many rounds each `var()` is put in place
 abbrev pub most_links : ℕ
 most_links = 256
 

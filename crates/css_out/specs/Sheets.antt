@@ -60,7 +60,7 @@ pub record LeadsTo (from : Cell) (link : Link) (to : Cell) : Type 0 where
   pub same : (part : Typed) → part_at from.typed link.trail ≡ Some part → link.kind ≡ Some (kind_of part)
       → to.typed ≡ part
 
--- Each of these links of a cell leads to a cell of the sheet, and at most k links stand one behind the other.
+-- Each of these links of a cell leads to a cell of the sheet, and at most k links stand one after the other.
 pub data LinksLead (cells : List Cell) : ℕ → Cell → List Link → Type 0 where
   no_links : {k : ℕ} {from : Cell} → LinksLead cells k from []
   link_leads : {k : ℕ} {from : Cell} {link : Link} {links : List Link} (to : Cell) → In to cells
@@ -68,7 +68,7 @@ pub data LinksLead (cells : List Cell) : ℕ → Cell → List Link → Type 0 w
       → LinksLead cells (suc k) from links → LinksLead cells (suc k) from (link ∷ links)
 
 -- Tokens that make a sheet: their values can be had and their names are names of CSS, no two of them have a name in common, and
--- at most `most_links` links stand one behind the other.
+-- at most `most_links` links stand one after the other.
 pub record IsSheet (settings : Settings) (cells : List Cell) : Type 0 where
   pub typed : Each cells (λ c. IsTyped c.typed)
   pub room : Each cells (λ c. HasRoom c.typed)

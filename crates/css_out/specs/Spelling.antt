@@ -34,7 +34,7 @@ is_comma_piece (var n) = false
 abbrev pub is_tight : Piece → Bool
 is_tight p = is_comma_piece p || is_closing p
 
--- A blank stands between two pieces; not at the start (where it is tight), behind the name of a function, before a comma and
+-- A blank stands between two pieces; not at the start (where it is tight), after the name of a function, before a comma and
 -- before a function's end.
 abbrev pub pieces_from : Bool → List Piece → List ℕ
 pieces_from tight [] = []

@@ -9,7 +9,7 @@ ghost use Rattle.css_out.specs.PlatformValue.{has_percents, component_mark, comp
 ghost use Rattle.css_out.specs.PlatformValue.{alpha_marks, color_marks, is_generic, family_marks};
 ghost use Rattle.css_out.specs.PlatformValue.{families_marks, simple_marks, stroke_marks};
 ghost use Rattle.css_out.specs.PlatformValue.{inset_marks};
-ghost use Rattle.css_out.specs.inner.Added.{with_piece, marked};
+ghost use Rattle.css_out.specs.inner.Added.{with_piece, with_marks};
 
 use crate::line::Line;
 use composite_rules::Stroke;
@@ -23,7 +23,7 @@ pub(crate) trait Spell {
 
     /// Adds the value's marks to the line.
     fn spell(&self, line: &mut Line) -> Result<(), NoMemory>
-        ensures { OnOk result (line.new ≡ marked line.old (marks self.now)) };
+        ensures { OnOk result (line.new ≡ with_marks line.old (marks self.now)) };
 }
 
 impl Spell for Size {
@@ -115,7 +115,7 @@ fn function_name(space: Space) -> &'static str
 }
 
 fn spell_space(line: &mut Line, space: Space) -> Result<(), NoMemory>
-    ensures { OnOk result (line.new ≡ marked line.old (space_marks space)) }
+    ensures { OnOk result (line.new ≡ with_marks line.old (space_marks space)) }
 {
     if has_function(space) {
         return Ok(());
@@ -142,7 +142,7 @@ fn spell_component(
 }
 
 fn spell_components(line: &mut Line, color: &Color) -> Result<(), NoMemory>
-    ensures { OnOk result (line.new ≡ marked line.old (component_marks color.now)) }
+    ensures { OnOk result (line.new ≡ with_marks line.old (component_marks color.now)) }
 {
     let as_percents = has_percents(color.space);
     spell_component(line, false, color.first)?;
@@ -152,7 +152,7 @@ fn spell_components(line: &mut Line, color: &Color) -> Result<(), NoMemory>
 }
 
 fn spell_alpha(line: &mut Line, alpha: &Dec) -> Result<(), NoMemory>
-    ensures { OnOk result (line.new ≡ marked line.old (alpha_marks alpha.now)) }
+    ensures { OnOk result (line.new ≡ with_marks line.old (alpha_marks alpha.now)) }
 {
     if alpha.cmp_whole(1).is_eq() {
         return Ok(());
@@ -178,7 +178,7 @@ impl Spell for Color {
 
 /// `inset`, where a shadow falls inside of its box.
 pub(crate) fn spell_inset(line: &mut Line, inset: bool) -> Result<(), NoMemory>
-    ensures { OnOk result (line.new ≡ marked line.old (inset_marks inset)) }
+    ensures { OnOk result (line.new ≡ with_marks line.old (inset_marks inset)) }
 {
     if inset {
         return line.word("inset");
@@ -198,7 +198,7 @@ fn is_generic(family: &str) -> bool
 }
 
 fn spell_family(line: &mut Line, family: &str) -> Result<(), NoMemory>
-    ensures { OnOk result (line.new ≡ marked line.old (family_marks family.now)) }
+    ensures { OnOk result (line.new ≡ with_marks line.old (family_marks family.now)) }
 {
     if is_generic(family) {
         line.word(family)
@@ -209,7 +209,7 @@ fn spell_family(line: &mut Line, family: &str) -> Result<(), NoMemory>
 
 fn spell_more_families(line: &mut Line, families: &[Text<'_>]) -> Result<(), NoMemory>
     ensures { OnOk result (line.new
-        ≡ marked line.old (flat_map (λ y. comma ∷ family_marks y) families.now)) }
+        ≡ with_marks line.old (flat_map (λ y. comma ∷ family_marks y) families.now)) }
 {
     for family in families {
         line.comma()?;

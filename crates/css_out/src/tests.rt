@@ -70,7 +70,7 @@ fn config(alloc: Global, prefix: &str, references: bool) -> Result<Config, Fail>
     }
 }
 
-/// The names, each with a newline behind it.
+/// The names, each with a newline after it.
 fn listed(alloc: Global, names: &Names) -> Result<Bytes, NoMemory> {
     let mut out = Bytes::new(alloc);
     for name in names.as_slice() {
@@ -211,7 +211,7 @@ const FAMILIES: [(&str, &str); 12] = [
     ("x\u{ffff}", "/* omitted --t */"),
 ];
 
-/// Whether a family, alone and behind another, gives the lines.
+/// Whether a family, alone and after another, gives the lines.
 fn is_family_written(alloc: Global, family: &'static str, lines: &str) -> Result<bool, Fail> {
     let path = path(alloc, "t")?;
     let config = Config::plain(alloc);
@@ -233,7 +233,7 @@ fn families_are_quoted_or_omitted(rt: HostRuntime) -> Result<(), Fail> {
     Ok(())
 }
 
-/// A family that is not printable behind others.
+/// A family that is not printable after others.
 #[test]
 fn later_families_are_looked_at(rt: HostRuntime) -> Result<(), Fail> {
     let alloc = rt.alloc();

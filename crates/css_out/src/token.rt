@@ -10,7 +10,7 @@ ghost use Rattle.css_out.specs.Parts.{Part, shown_part, shown};
 ghost use Rattle.css_out.specs.Fragment.{css_name, part, behind_commas, listed_parts, member_part};
 ghost use Rattle.css_out.specs.Fragment.{border_parts, transition_parts, shadow_parts, stop_parts};
 ghost use Rattle.css_out.specs.Fragment.{is_only, value_parts};
-ghost use Rattle.css_out.specs.inner.Added.{with_piece, added};
+ghost use Rattle.css_out.specs.inner.Added.{with_piece, with_pieces};
 
 use crate::line::Line;
 use crate::links::{item_link, link_for};
@@ -49,8 +49,9 @@ impl<'a, 's> Token<'a, 's> {
         target: Option<&Path<'_>>,
         value: &T,
     ) -> Result<(), NoMemory>
-        ensures { OnOk result (line.new ≡ added line.old (shown_part (part self.now.cfg.now.prefix
-            (option_map (λ p. p.now) target.entry) (T.marks value.now)))) }
+        ensures { OnOk result (line.new ≡ with_pieces line.old (shown_part (part
+            self.now.cfg.now.prefix (option_map (λ p. p.now) target.entry)
+            (T.marks value.now)))) }
     {
         match target {
             Some(target) => self.target(line, target),
@@ -65,14 +66,14 @@ impl<'a, 's> Token<'a, 's> {
         kind: Kind,
         value: &T,
     ) -> Result<(), NoMemory>
-        ensures { OnOk result (line.new ≡ added line.old (shown_part (member_part
+        ensures { OnOk result (line.new ≡ with_pieces line.old (shown_part (member_part
             self.now.cfg.now.prefix self.now.links.now name.now kind (T.marks value.now)))) }
     {
         self.part(line, link_for(self.links, &[name], kind), value)
     }
 
     pub(crate) fn border(&self, line: &mut Line, border: &Border) -> Result<(), NoMemory>
-        ensures { OnOk result (line.new ≡ added line.old (shown (border_parts
+        ensures { OnOk result (line.new ≡ with_pieces line.old (shown (border_parts
             self.now.cfg.now.prefix self.now.links.now border.now))) }
     {
         self.member(line, "width", Kind::Dimension, &border.width)?;
@@ -86,7 +87,7 @@ impl<'a, 's> Token<'a, 's> {
         line: &mut Line,
         transition: &Transition,
     ) -> Result<(), NoMemory>
-        ensures { OnOk result (line.new ≡ added line.old (shown (transition_parts
+        ensures { OnOk result (line.new ≡ with_pieces line.old (shown (transition_parts
             self.now.cfg.now.prefix self.now.links.now transition.now))) }
     {
         self.member(line, "duration", Kind::Duration, &transition.duration)?;
@@ -109,7 +110,8 @@ impl<'a, 's> Token<'a, 's> {
         kind: Kind,
         value: &T,
     ) -> Result<(), NoMemory>
-        ensures { OnOk result (line.new ≡ added line.old (shown_part (part self.now.cfg.now.prefix
+        ensures { OnOk result (line.new ≡ with_pieces line.old (shown_part (part
+            self.now.cfg.now.prefix
             (item_link self.now.links.now place.now.is_only place.now.index.now name.now kind)
             (T.marks value.now)))) }
     {
@@ -120,7 +122,7 @@ impl<'a, 's> Token<'a, 's> {
     /// Items with commas between.
     pub(crate) fn listed<T: Item>(&self, line: &mut Line, items: &[T]) -> Result<(), NoMemory>
         requires { AllByRecursion T.is_item items.now }
-        ensures { OnOk result (line.new ≡ added line.old (shown (listed_parts
+        ensures { OnOk result (line.new ≡ with_pieces line.old (shown (listed_parts
             (T.item_parts self.now.cfg.now.prefix self.now.links.now (is_only items.now))
             items.now))) }
     {
@@ -133,7 +135,7 @@ impl<'a, 's> Token<'a, 's> {
         Ok(())
     }
 
-    // The items from the second on, each behind a comma.
+    // The items from the second on, each after a comma.
     fn behind_commas<T: Item>(
         &self,
         line: &mut Line,
@@ -141,7 +143,7 @@ impl<'a, 's> Token<'a, 's> {
         items: &[T],
     ) -> Result<(), NoMemory>
         requires { AllByRecursion T.is_item items.now }
-        ensures { OnOk result (line.new ≡ added line.old (shown (behind_commas
+        ensures { OnOk result (line.new ≡ with_pieces line.old (shown (behind_commas
             (T.item_parts self.now.cfg.now.prefix self.now.links.now is_only)
             1 (drop 1 items.now)))) }
     {
@@ -160,8 +162,9 @@ impl<'a, 's> Token<'a, 's> {
         typed: &Typed<'_>,
     ) -> Result<(), NoMemory>
         requires { IsTyped typed.now }
-        ensures { OnOk result (line.new ≡ added line.old (shown (value_parts self.now.cfg.now.prefix
-            self.now.links.now (option_map (λ p. p.now) whole.entry) typed.now))) }
+        ensures { OnOk result (line.new ≡ with_pieces line.old (shown (value_parts
+            self.now.cfg.now.prefix self.now.links.now (option_map (λ p. p.now) whole.entry)
+            typed.now))) }
     {
         match typed {
             Typed::Simple(simple) => self.part(line, whole, simple),
@@ -209,7 +212,7 @@ pub(crate) trait Item {
         i: usize,
     ) -> Result<(), NoMemory>
         requires { is_item self.now }
-        ensures { OnOk result (line.new ≡ added line.old (shown (item_parts
+        ensures { OnOk result (line.new ≡ with_pieces line.old (shown (item_parts
             token.now.cfg.now.prefix token.now.links.now is_only i self.now))) };
 }
 

@@ -5,7 +5,7 @@ ghost use Rattle.css_out.specs.Parts.{shown_part, declaration};
 ghost use Rattle.css_out.specs.Fragment.{css_name, typography_part, typography_line};
 ghost use Rattle.css_out.specs.Fragment.{typography_lines};
 ghost use Rattle.css_out.specs.Spelling.{line_text};
-ghost use Rattle.css_out.specs.inner.Added.{added};
+ghost use Rattle.css_out.specs.inner.Added.{with_pieces};
 ghost use Rattle.css_out.specs.inner.Written.{IsFragment};
 
 use crate::line::Line;
@@ -83,7 +83,7 @@ impl<'a, 's> Token<'a, 's> {
         member: &Member,
         value: &T,
     ) -> Result<(), NoMemory>
-        ensures { OnOk result (line.new ≡ added line.old (shown_part (typography_part
+        ensures { OnOk result (line.new ≡ with_pieces line.old (shown_part (typography_part
             self.now.cfg.now.prefix self.now.links.now whole.now
             member.now.name.now member.now.kind member.now.ending.now (T.marks value.now)))) }
     {

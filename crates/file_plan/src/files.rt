@@ -12,7 +12,7 @@ use std::marker::Model;
 use tk_io::NoMemory;
 
 /// The texts of files, seen as a finite map from path to text. Paths and texts are borrowed.
-#[derive(Drop)]
+#[derive(Debug, Drop)]
 pub struct Files<'s> {
     texts: BTreeMap<&'s str, &'s str>,
 }

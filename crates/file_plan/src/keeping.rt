@@ -1,8 +1,10 @@
 // Permutations that are kept without the document that they were listed of.
 
 ghost use Rattle.std.specs.Prelude.{◌≡◌, IfOk};
-ghost use Rattle.permutations.specs.View.{token_source_view, token_sources_view, perm_view, perms_view};
-ghost use Rattle.file_plan.specs.View.{plan_source_view, plan_sources_view, plan_perm_view, plan_view};
+ghost use Rattle.permutations.specs.View.{token_source_view, token_sources_view, perm_view};
+ghost use Rattle.permutations.specs.View.{perms_view};
+ghost use Rattle.file_plan.specs.View.{plan_source_view, plan_sources_view, plan_perm_view};
+ghost use Rattle.file_plan.specs.View.{plan_view};
 
 use crate::source::{Plan, PlanPerm, PlanSource, PlanSources};
 use permutations::{Perm, Source};

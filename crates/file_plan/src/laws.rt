@@ -1,6 +1,7 @@
 // Laws of the definitions alone, for the layers above.
 
-ghost use Rattle.file_plan.specs.Laws.{EachPlan, InlinesStand, OnePlan, NamesAreApart, WantedAreInUse};
+ghost use Rattle.file_plan.specs.Laws.{EachPlan, InlinesStand, OnePlan, NamesAreApart};
+ghost use Rattle.file_plan.specs.Laws.{WantedAreInUse};
 
 use json_span::json_laws;
 use permutations::{each_list_answers, name_laws, source_laws};

@@ -1,6 +1,7 @@
 //! The plan of files.
 
-ghost use Rattle.std.specs.Prelude.{◌≡◌, ℕ, List, IfOk, IfErr, Option, Some, option_copied, option_map, unwrap_or};
+ghost use Rattle.std.specs.Prelude.{◌≡◌, ℕ, List, IfOk, IfErr, Option, Some, option_copied};
+ghost use Rattle.std.specs.Prelude.{option_map, unwrap_or};
 ghost use Rattle.json_span.specs.Tree.{Placed, start_of, end_of};
 ghost use Rattle.json_span.specs.View.{node_view};
 ghost use Rattle.json_span.specs.Answer.{IsJsonFault};
@@ -38,7 +39,8 @@ fn order_span(root: &Node<'_>) -> (usize, usize)
 
 // Why a text that is not read has no plan.
 fn unread<'s>(fault: &JsonFault) -> PlanRefusal<'s>
-    ensures { (text : List ℕ) → IsJsonFault text fault.now → IsPlanRefusal (Plans (Some text)) result }
+    ensures { (text : List ℕ)
+        → IsJsonFault text fault.now → IsPlanRefusal (Plans (Some text)) result }
 {
     match fault {
         JsonFault::Syntax(at) => PlanRefusal::Syntax(*at),

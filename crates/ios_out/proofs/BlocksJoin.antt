@@ -5,7 +5,7 @@ use Rattle.transforms.proofs.QuotedReadsBack.{reads_on}
 use Rattle.ios_out.specs.Constant.{Content, Values}
 use Rattle.ios_out.specs.Reading.{SaysContent, of_number, of_string, of_arguments, Block, ended, blank_byte, comment, constant}
 
--- what stands behind a name
+-- what stands after a name
 says_more : {u : List ℕ} {c : Content} {r : List ℕ} → SaysContent u c r → (t : List ℕ) → SaysContent (u ++ t) c (r ++ t)
 says_more (of_number u n digits r d e w l s) t =
     of_number (u ++ t) n digits (r ++ t) d

@@ -56,7 +56,7 @@ arguments_once (more t first r a args e h x xs) (more s other q b bs f k y ys) s
     let rests : r ≡ q = cc in
     ap (λ z. z ∷ args) (argument_once x y firsts) ∙ ap (λ z. b ∷ z) (arguments_once xs ys rests)
 
--- what stands behind a name
+-- what stands after a name
 no_quote : (ds : List ℕ) (d : Decimal) (r v : List ℕ) → number_in ds ≡ Some d → ds ++ (10 ∷ r) ≡ 34 ∷ v → ⊥
 no_quote [] d r v h e = cc
 no_quote (c ∷ ds) d r v h e =
@@ -120,7 +120,7 @@ says_once (of_arguments t n inside r args e w l h) (of_arguments s m within q bs
     let rests : r ≡ q = cc in
     record { contents = ap (λ z. made z args) makers ∙ ap (made m) (arguments_once h i insides); rests = rests }
 
--- what stands behind a name can't go on the name
+-- what stands after a name can't go on the name
 record EndsName (u : List ℕ) : Type 0 where
   first : ℕ
   further : List ℕ
@@ -144,7 +144,7 @@ names_once n m u v h k x y e = (
   sym (rest_of n u (kept_name n h) x) ∙ ap (behind_run (is_kept Android)) e ∙ rest_of m v (kept_name m k) y,
 )
 
--- what stands behind the end, a blank, a comment and a constant
+-- what stands after the end, a blank, a comment and a constant
 no_blank : (c d : ℕ) → is_blank c ≡ true → c ≡ d → is_blank d ≡ false → ⊥
 no_blank c d h e k = let same : is_blank d ≡ true = subst (λ z. is_blank z ≡ true) e h in let never : false ≡ true = sym k ∙ same in cc
 

@@ -59,7 +59,7 @@ pub data AreArguments : List ℕ → List Argument → Type 0 where
       → list_all no_comma first ≡ true → IsArgument first a
       → AreArguments rest args → AreArguments t (a ∷ args)
 
--- The text, which stands behind a constant's name, says this up to its line's end, and then goes on so.
+-- The text, which stands after a constant's name, says this up to its line's end, and then goes on so.
 pub data SaysContent : List ℕ → Content → List ℕ → Type 0 where
   of_number : (t type_name digits rest : List ℕ) (d : Decimal)
       → t ≡ codes ": " ++ (type_name ++ (codes " = " ++ (digits ++ (codes "\n" ++ rest))))

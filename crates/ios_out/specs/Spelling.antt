@@ -23,7 +23,7 @@ arguments_text [] = []
 arguments_text (a ∷ []) = argument_text a
 arguments_text (a ∷ b ∷ args) = argument_text a ++ (codes ", " ++ arguments_text (b ∷ args))
 
--- what stands behind a constant's name
+-- what stands after a constant's name
 abbrev pub content_text : Content → List ℕ
 content_text (number type_name d) = codes ": " ++ (type_name ++ (codes " = " ++ point_spelling d))
 content_text (string type_name text) =

@@ -54,7 +54,7 @@ abbrev pub component_json : Option Decimal → Json
 component_json None = plain_string (codes "none")
 component_json (Some d) = plain_number d
 
--- six digits behind `#`, where they are given
+-- six digits after `#`, where they are given
 abbrev pub hex_members : Option (List ℕ) → List Member
 hex_members None = []
 hex_members (Some digits) = member (codes "hex") (plain_string (number_sign ∷ digits)) ∷ []

@@ -1,4 +1,4 @@
--- The bytes of values and fragments: `, ` between items and members, `: ` behind names, and no other blank.
+-- The bytes of values and fragments: `, ` between items and members, `: ` after names, and no other blank.
 use Rattle.std.specs.Prelude.{ℕ, true, false, List, [], ◌++◌, codes, Option, Some, None, option_map}
 use Rattle.dec_fix.specs.Decimal.{Decimal}
 use Rattle.dec_fix.specs.Writing.{spelling}
@@ -40,7 +40,7 @@ abbrev mutual
   more_members_text (plain_members name v ms) =
       codes ", " ++ (string_text name ++ (codes ": " ++ (value_text v ++ more_members_text ms)))
 
--- a member behind others, where there is a text for its value
+-- a member after others, where there is a text for its value
 abbrev pub given_text : List ℕ → Option (List ℕ) → List ℕ
 given_text name None = []
 given_text name (Some text) = codes ", " ++ (string_text name ++ (codes ": " ++ text))

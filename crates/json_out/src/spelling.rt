@@ -58,7 +58,7 @@ pub(crate) fn spell_word(out: &mut Bytes, word: &str) -> Result<(), NoMemory>
     Ok(())
 }
 
-/// The value behind these bytes.
+/// The value after these bytes.
 pub(crate) fn spell_behind<T: Spell>(
     out: &mut Bytes,
     before: &[u8],
@@ -71,7 +71,7 @@ pub(crate) fn spell_behind<T: Spell>(
     Ok(())
 }
 
-// The items, each behind a comma.
+// The items, each after a comma.
 fn spell_others<T: Spell>(out: &mut Bytes, items: &[T]) -> Result<(), NoMemory>
     ensures { OnOk result (out.new
         ≡ out.old ++ flat_map (λ x. codes ", " ++ value_text (T.json x)) items.now) }
@@ -96,7 +96,7 @@ pub(crate) fn spell_list<T: Spell>(out: &mut Bytes, items: &[T]) -> Result<(), N
     Ok(())
 }
 
-/// The array of the items behind these bytes.
+/// The array of the items after these bytes.
 pub(crate) fn list_behind<T: Spell>(
     out: &mut Bytes,
     before: &[u8],

@@ -144,7 +144,7 @@ fn written(
 }
 
 /// The member of a token in a JSON file: its path's names, joined by `.`, and an object of its type and its value with all
-/// parts, and behind them what is given of a description, extensions and a mark of deprecation. The extensions stand as they
+/// parts, and after them what is given of a description, extensions and a mark of deprecation. The extensions stand as they
 /// are given, byte by byte. No name of a platform is declared.
 ///
 /// The text is read as this member and nothing else, where the value is one that a token can have and the extensions are the

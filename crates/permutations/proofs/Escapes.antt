@@ -41,7 +41,7 @@ no_end c false u xs (y ∷ ys) e is =
     let h : 37 ≡ y = cc in
     elim e [ inl p ↦ absurd (omega arith) | inr p ↦ absurd (omega arith) ]
 
--- two texts that are the same in front, and behind it
+-- two texts of the same prefix, and what stands after it
 pub record Split {X : Type 0} (x y : X) (xs ys : List ℕ) : Type 0 where
   pub front : x ≡ y
   pub rest : xs ≡ ys

@@ -9,7 +9,7 @@ use Rattle.resolver_doc.specs.Document.{SetData}
 use Rattle.resolver_doc.specs.Rings.{set_needs, are_sets_right, HasNoRingOfSets}
 use Rattle.permutations.specs.Permutation.{TokenSource, sources_written, set_sources}
 use Rattle.permutations.specs.inner.Orders.{IsSetOrder}
-use Rattle.permutations.specs.inner.Parts.{PartData, own, whole_set, RowData, no_row, row_at, row_in, with_row, IsSolid, IsRow, IsTable}
+use Rattle.permutations.specs.inner.Parts.{PartData, own, whole_set, RowData, no_row, row_at, row_in, with_row, IsSolid, RowTells, IsTable}
 use Rattle.permutations.proofs.Rows.{row_tells}
 use Rattle.permutations.proofs.SetNeeds.{named_in, needs_of_set, named_are_sets}
 use Rattle.permutations.proofs.SetRoutes.{in_front, in_either}
@@ -27,7 +27,7 @@ row_same rows v row h = row_is (set rows v row) v ∙ get_or-set_same rows v row
 -- the rows of the sets that were seen are right
 pub record Filled (f : ℕ → List TokenSource) (n : ℕ) (seen : List ℕ) (rows : List RowData) : Type 0 where
   pub long : length rows ≡ n
-  pub row : (v : ℕ) → In v seen → v < n → IsRow f rows (λ w. In w seen) (f v) (row_at rows v)
+  pub row : (v : ℕ) → In v seen → v < n → RowTells f rows (λ w. In w seen) (f v) (row_at rows v)
 
 -- rows of sets that were seen stay where other rows are put
 stays_solid : (f : ℕ → List TokenSource) (rows : List RowData) (seen : List ℕ) (v : ℕ) (row : RowData) → (In v seen → ⊥) → (p : PartData) → IsSolid f rows (λ w. In w seen) p → IsSolid f (set rows v row) (λ w. In w (seen ++ v ∷ [])) p
@@ -36,7 +36,7 @@ stays_solid f rows seen v row out (whole_set w) h =
     let apart : w ≢ v = λ e. out (subst (λ (x : ℕ). In x seen) e h.0) in
     (in_front seen (v ∷ []) w h.0, subst (λ r. 1 < length r.parts) (sym (row_other rows v w row apart)) h.1, h.2)
 
-stays_right : (f : ℕ → List TokenSource) (rows : List RowData) (seen : List ℕ) (v : ℕ) (row : RowData) (sources : List TokenSource) (r : RowData) → (In v seen → ⊥) → IsRow f rows (λ w. In w seen) sources r → IsRow f (set rows v row) (λ w. In w (seen ++ v ∷ [])) sources r
+stays_right : (f : ℕ → List TokenSource) (rows : List RowData) (seen : List ℕ) (v : ℕ) (row : RowData) (sources : List TokenSource) (r : RowData) → (In v seen → ⊥) → RowTells f rows (λ w. In w seen) sources r → RowTells f (set rows v row) (λ w. In w (seen ++ v ∷ [])) sources r
 stays_right f rows seen v row sources r out h = record {
   whole = h.whole;
   count = h.count;
@@ -56,26 +56,26 @@ module _ (sets : List SetData) (right : are_sets_right sets sets ≡ true) (none
     long = length-set rows v (row_in rows (sources_written sets v)) ∙ filled.long;
     row = λ u i small. elim (in_either seen (v ∷ []) u i) [
       | inl j ↦ old u j small
-      | inr k ↦ elim k [ inl e ↦ subst (λ (x : ℕ). IsRow f (with_row sets rows v) (λ w. In w (seen ++ v ∷ [])) (f x) (row_at (with_row sets rows v) x)) (sym e) (new (subst (λ (x : ℕ). x < n) e small)) | inr z ↦ absurd z ]
+      | inr k ↦ elim k [ inl e ↦ subst (λ (x : ℕ). RowTells f (with_row sets rows v) (λ w. In w (seen ++ v ∷ [])) (f x) (row_at (with_row sets rows v) x)) (sym e) (new (subst (λ (x : ℕ). x < n) e small)) | inr z ↦ absurd z ]
     ];
   }
     where
-      old : (u : ℕ) → In u seen → u < n → IsRow f (with_row sets rows v) (λ w. In w (seen ++ v ∷ [])) (f u) (row_at (with_row sets rows v) u)
+      old : (u : ℕ) → In u seen → u < n → RowTells f (with_row sets rows v) (λ w. In w (seen ++ v ∷ [])) (f u) (row_at (with_row sets rows v) u)
       old u j small =
           let apart : u ≢ v = λ e. out (subst (λ (x : ℕ). In x seen) e j) in
-          subst (λ r. IsRow f (with_row sets rows v) (λ w. In w (seen ++ v ∷ [])) (f u) r) (sym (row_other rows v u (row_in rows (sources_written sets v)) apart))
+          subst (λ r. RowTells f (with_row sets rows v) (λ w. In w (seen ++ v ∷ [])) (f u) r) (sym (row_other rows v u (row_in rows (sources_written sets v)) apart))
           (stays_right f rows seen v (row_in rows (sources_written sets v)) (f u) (row_at rows u) out (filled.row u j small))
 
-      known : v < n → (w : ℕ) → In w (named_in sets v) → In w seen × IsRow f rows (λ w. In w seen) (f w) (row_at rows w)
+      known : v < n → (w : ℕ) → In w (named_in sets v) → In w seen × RowTells f rows (λ w. In w seen) (f w) (row_at rows w)
       known small w i =
           let j : In w seen = needs w (subst (λ ws. In w ws) (sym (needs_of_set sets v small)) i) in
           (j, filled.row w j (named_are_sets sets right v w i))
 
-      new : v < n → IsRow f (with_row sets rows v) (λ w. In w (seen ++ v ∷ [])) (f v) (row_at (with_row sets rows v) v)
+      new : v < n → RowTells f (with_row sets rows v) (λ w. In w (seen ++ v ∷ [])) (f v) (row_at (with_row sets rows v) v)
       new small =
           let tells = row_tells f rows (λ u. In u seen) (sources_written sets v) (known small) in
-          let whole = subst (λ xs. IsRow f rows (λ w. In w seen) xs (row_in rows (sources_written sets v))) (sym (set_comes_to sets right none v small)) tells in
-          subst (λ r. IsRow f (with_row sets rows v) (λ w. In w (seen ++ v ∷ [])) (f v) r)
+          let whole = subst (λ xs. RowTells f rows (λ w. In w seen) xs (row_in rows (sources_written sets v))) (sym (set_comes_to sets right none v small)) tells in
+          subst (λ r. RowTells f (with_row sets rows v) (λ w. In w (seen ++ v ∷ [])) (f v) r)
           (sym (row_same rows v (row_in rows (sources_written sets v)) (subst (λ (x : ℕ). v < x) (sym filled.long) small)))
           (stays_right f rows seen v (row_in rows (sources_written sets v)) (f v) (row_in rows (sources_written sets v)) out whole)
 

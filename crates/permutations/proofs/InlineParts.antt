@@ -6,7 +6,7 @@ use Rattle.std.specs.Str.{bytes_eq}
 use Rattle.ring.specs.Lists.{In}
 use Rattle.json_span.specs.Parts.{IsPart, itself, inside, IsInside, inside_array, inside_object, IsInElements, in_element, in_later_element, IsInMembers, in_member, in_later_member}
 use Rattle.json_span.specs.Tree.{Tree, a_null, a_boolean, a_number, a_string, an_array, an_object, Placed, placed, Elements, no_elements, an_element, Members, no_members, a_member, Entry, tree_of, object_in, elements_in, entries_in, value_of_name}
-use Rattle.resolver_doc.specs.Document.{SourceData, file_source, set_source, inline_source, SetData, ItemData, set_item, elements_at, section, set_entries, modifier_entries, order_items, set_number, modifier_number, name_in, member_entries, text_at, text_in, set_or_file, source_by, source_of, sources_of, sources_in, set_of, context_of, modifier_of, named_modifier, named_item, own_name, own_item, item_by, item_of, resolver_of}
+use Rattle.resolver_doc.specs.Document.{SourceData, file_source, set_source, inline_source, SetData, ItemData, set_item, elements_at, section, set_entries, modifier_entries, order_items, set_number, modifier_number, name_in, member_entries, text_at, member_text, set_or_file, source_by, source_of, sources_of, sources_in, set_of, context_of, modifier_of, named_modifier, named_item, own_name, own_item, item_by, item_of, resolver_of}
 use Rattle.resolver_doc.specs.Form.{is_reserved, unreserved, context_entries, entries_at}
 use Rattle.permutations.specs.Laws.{InlinesArePart}
 use Rattle.permutations.specs.Permutation.{TokenSource, inline, replaced, sources_written, set_within, set_sources, sources_from, Pick, context_pick, picks, choices, Permutation, permutation}
@@ -166,7 +166,7 @@ module _ (root : Placed) where
       (subst (λ (c : SetData). In (inline_source n) c.sources) entry.is (subst (λ (q : Pick). In (inline_source n) q.sources) context.is j))
 
   own_part : (sets es : List Entry) → AllPart es → ItemPart (own_item sets es)
-  own_part sets es all = at (bytes_eq (unwrap_or (text_in (codes "type") es) []) (codes "set"))
+  own_part sets es all = at (bytes_eq (unwrap_or (member_text (codes "type") es) []) (codes "set"))
     where
       at : (t : Bool) → ItemPart (if t then set_item (sources_in sets es) else modifier_of sets (own_name es) es)
       at true = set_part (sources_in sets es) (sources_in_part sets es all)

@@ -3,7 +3,7 @@ use Rattle.std.proofs.Common.{◌≡◌, ℕ, List, [], ◌∷◌, ◌++◌, app
 use Rattle.permutations.specs.Name.{escaped_name, Choice, label, name_of, NamesTellChoices}
 use Rattle.permutations.proofs.Escapes.{IsEnd, Split, name_split}
 
--- the labels behind the first, each with '+' before it
+-- the labels after the first, each with '+' before it
 abbrev pub behind : List Choice → List ℕ
 behind [] = []
 behind (c ∷ cs) = 43 ∷ (label c ++ behind cs)

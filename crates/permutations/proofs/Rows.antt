@@ -9,7 +9,7 @@ use Rattle.resolver_doc.specs.Document.{SourceData, file_source, set_source, inl
 use Rattle.resolver_doc.specs.Rings.{sets_in}
 use Rattle.permutations.specs.Permutation.{TokenSource, file, inline, replaced}
 use Rattle.permutations.specs.declared.fault.TheConstants.{LAST_NUMBER}
-use Rattle.permutations.specs.inner.Parts.{PartData, own, whole_set, RowData, row_at, set_parts, parts_in, count_in, row_in, part_sources, IsSolid, AreSolid, IsRow}
+use Rattle.permutations.specs.inner.Parts.{PartData, own, whole_set, RowData, row_at, set_parts, parts_in, count_in, row_in, part_sources, IsSolid, AreSolid, RowTells}
 use Rattle.permutations.proofs.SetRoutes.{in_either}
 
 pub some_of_part : (f : ℕ → List TokenSource) (rows : List RowData) (K : ℕ → Type 0) (p : PartData) → IsSolid f rows K p → 0 < length (part_sources f p)
@@ -60,7 +60,7 @@ from_none n = omega arith
 module _ (f : ℕ → List TokenSource) (rows : List RowData) (K : ℕ → Type 0) where
   -- the rows of the sets that are named are right
   abbrev pub KnowsSets : List SourceData → Type 0
-  KnowsSets sources = (w : ℕ) → In w (sets_in sources) → K w × IsRow f rows K (f w) (row_at rows w)
+  KnowsSets sources = (w : ℕ) → In w (sets_in sources) → K w × RowTells f rows K (f w) (row_at rows w)
 
   pub parts_tell : (sources : List SourceData) → KnowsSets sources → Tells f rows K (flat_map (replaced f) sources) (parts_in rows sources)
   parts_tell [] known = record { whole = refl; solid = λ p i. absurd i }
@@ -90,7 +90,7 @@ module _ (f : ℕ → List TokenSource) (rows : List RowData) (K : ℕ → Type 
       ∙ ap (λ (n : ℕ). min (a + n) LAST_NUMBER) (one_more (length (flat_map (replaced f) ss)))
 
   -- the row made of the sources
-  pub row_tells : (sources : List SourceData) → KnowsSets sources → IsRow f rows K (flat_map (replaced f) sources) (row_in rows sources)
+  pub row_tells : (sources : List SourceData) → KnowsSets sources → RowTells f rows K (flat_map (replaced f) sources) (row_in rows sources)
   row_tells sources known =
       let tells = parts_tell sources known in
       record {

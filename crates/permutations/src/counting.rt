@@ -2,7 +2,8 @@
 
 ghost use Rattle.std.specs.Prelude.{◌≡◌, ◌<◌, All, length, map};
 ghost use Rattle.permutations.specs.Answer.{told_number};
-ghost use Rattle.resolver_doc.specs.View.{source_view, sources_view, sets_view, item_view, order_view};
+ghost use Rattle.resolver_doc.specs.View.{source_view, sources_view, sets_view, item_view};
+ghost use Rattle.resolver_doc.specs.View.{order_view};
 ghost use Rattle.permutations.specs.Permutation.{choices, picks, greatest};
 ghost use Rattle.permutations.specs.inner.Counting.{source_count, item_most, order_most};
 ghost use Rattle.permutations.specs.inner.Expanding.{Tells};
@@ -46,7 +47,8 @@ fn most_in(contexts: &[SetDef<'_, '_>], table: &Table<'_, '_, '_>) -> u64
     requires tells { Tells table.now }
     requires known { All (λ c. HaveRows (length table.now.rows.items) c.sources) contexts.now }
     ensures { result ≡ told_number (greatest
-        (map (λ c. source_count (sets_view table.now.sets.now) c.sources) (sets_view contexts.now))) }
+        (map (λ c. source_count (sets_view table.now.sets.now) c.sources)
+        (sets_view contexts.now))) }
 {
     let mut most = 0;
     for context in contexts {

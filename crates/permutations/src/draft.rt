@@ -3,7 +3,8 @@
 ghost use Rattle.std.specs.Prelude.{◌≡◌, ◌++◌, ◌∷◌, [], IfOk, OnOk, map};
 ghost use Rattle.std.specs.String.{string_bytes};
 ghost use Rattle.permutations.specs.View.{token_source_view, token_sources_view};
-ghost use Rattle.permutations.specs.inner.Drafts.{draft_view, drafts_view, joined_labels, with_more, with_each, no_draft};
+ghost use Rattle.permutations.specs.inner.Drafts.{draft_view, drafts_view, joined_labels};
+ghost use Rattle.permutations.specs.inner.Drafts.{with_more, with_each, no_draft};
 
 use crate::perm::{Source, Sources};
 use std::alloc::Global;

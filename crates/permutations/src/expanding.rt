@@ -4,7 +4,8 @@ ghost use Rattle.std.specs.Prelude.{◌≡◌, ◌<◌, ◌++◌, OnOk, length, 
 ghost use Rattle.resolver_doc.specs.View.{sources_view as written_list, sets_view};
 ghost use Rattle.permutations.specs.Permutation.{sources_from};
 ghost use Rattle.permutations.specs.View.{token_sources_view};
-ghost use Rattle.permutations.specs.inner.Parts.{HaveRows, IsPlaced, part_view, parts_view, rows_view};
+ghost use Rattle.permutations.specs.inner.Parts.{HaveRows, IsPlaced, part_view, parts_view};
+ghost use Rattle.permutations.specs.inner.Parts.{rows_view};
 ghost use Rattle.permutations.specs.inner.Expanding.{Tells, sources_added, parts_left};
 
 use crate::part::{Part, Row, parts_of};

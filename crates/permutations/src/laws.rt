@@ -1,6 +1,7 @@
 // Laws of the definitions alone, for the layers above.
 
-ghost use Rattle.permutations.specs.Laws.{EachListAnswers, InlinesArePart, NamesAreApart, SetsComeToTheirSources};
+ghost use Rattle.permutations.specs.Laws.{EachListAnswers, InlinesArePart, NamesAreApart};
+ghost use Rattle.permutations.specs.Laws.{SetsComeToTheirSources};
 ghost use Rattle.permutations.specs.Name.{NamesTellChoices};
 
 /// The name of a permutation tells which context is chosen for each modifier. Where the contexts of each modifier have

@@ -2,11 +2,13 @@
 
 ghost use Rattle.std.specs.Prelude.{◌≡◌, ◌++◌, ◌∷◌, [], IfOk, OnOk, All, codes, length, map};
 ghost use Rattle.std.specs.String.{string_bytes};
-ghost use Rattle.resolver_doc.specs.View.{sets_view, set_view, item_view, order_view, sources_view as written_list};
+ghost use Rattle.resolver_doc.specs.View.{sets_view, set_view, item_view, order_view};
+ghost use Rattle.resolver_doc.specs.View.{sources_view as written_list};
 ghost use Rattle.permutations.specs.Name.{label};
 ghost use Rattle.permutations.specs.Permutation.{context_pick, sources_from, choices};
 ghost use Rattle.permutations.specs.View.{token_sources_view};
-ghost use Rattle.permutations.specs.inner.Drafts.{draft_view, drafts_view, pick_draft, options, drafts_of};
+ghost use Rattle.permutations.specs.inner.Drafts.{draft_view, drafts_view, pick_draft, options};
+ghost use Rattle.permutations.specs.inner.Drafts.{drafts_of};
 ghost use Rattle.permutations.specs.inner.Expanding.{Tells};
 ghost use Rattle.permutations.specs.inner.Parts.{HasRow, HaveRows, ItemHasRows};
 

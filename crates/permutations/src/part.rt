@@ -2,7 +2,9 @@
 
 ghost use Rattle.std.specs.Prelude.{◌≡◌, ◌<◌, IfOk, length, option_map, option_to_list};
 ghost use Rattle.resolver_doc.specs.View.{source_view, sources_view};
-ghost use Rattle.permutations.specs.inner.Parts.{HasRow, HaveRows, part_view, parts_view, row_view, rows_view, set_parts, part_in, parts_in, count_in, counts_in, row_in};
+ghost use Rattle.permutations.specs.inner.Parts.{HasRow, HaveRows, part_view, parts_view, row_view};
+ghost use Rattle.permutations.specs.inner.Parts.{rows_view, set_parts, part_in, parts_in, count_in};
+ghost use Rattle.permutations.specs.inner.Parts.{counts_in, row_in};
 
 use crate::fault::LAST_NUMBER;
 use json_span::NodeRef;

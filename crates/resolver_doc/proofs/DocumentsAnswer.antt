@@ -26,7 +26,7 @@ in_range a (suc n) v h k = elim (cases_eq v a) [
   | inr other ↦ inr (in_range (a + 1) n v (omega (arith, h, other)) (omega (arith, k)))
 ]
 
--- routes come to the document, which is the number behind the sets, and to the numbers of sets
+-- routes come to the document, which is the number after the sets, and to the numbers of sets
 module _ (sets : List SetData) (right : are_sets_right sets sets ≡ true) where
   abbrev numbers : List ℕ
   numbers = length sets ∷ range_with_len 0 (length sets)

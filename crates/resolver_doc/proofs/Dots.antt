@@ -32,7 +32,7 @@ none_leads (b ∷ c ∷ cs) h = at (b == 46) (c == 47) refl refl
     at true false p q = refl
     at false y p q = refl
 
--- what stands behind `.` and then `/`
+-- what stands after `.` and then `/`
 pub behind_both : (text rest : List ℕ) (r : Option (Bor (List ℕ))) → text ≡ 46 ∷ rest
     → MatchOption r ((end : List ℕ) → rest ≢ 47 ∷ end) (λ x. rest ≡ 47 ∷ x.now)
     → MatchOption r ((end : List ℕ) → text ≢ 46 ∷ (47 ∷ end)) (λ x. text ≡ 46 ∷ (47 ∷ x.now))

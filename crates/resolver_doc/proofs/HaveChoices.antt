@@ -6,7 +6,7 @@ use Rattle.json_span.specs.Tree.{Placed, Entry, tree_of, string_in, array_in, ob
 use Rattle.resolver_doc.specs.declared.rule.PlanRule.TheVariants.{Shape, Contexts}
 use Rattle.resolver_doc.specs.declared.rule.Break.{Break}
 use Rattle.resolver_doc.specs.Break.{at_value}
-use Rattle.resolver_doc.specs.Document.{set_item, modifier_item, has_choice, have_choices, resolver_of, elements_at, set_entries, modifier_entries, order_items, pointer, set_number, modifier_number, name_in, member_entries, text_at, text_in, sources_in, context_of, modifier_of, named_modifier, named_item, own_name, own_item, item_by, item_of}
+use Rattle.resolver_doc.specs.Document.{set_item, modifier_item, has_choice, have_choices, resolver_of, elements_at, set_entries, modifier_entries, order_items, pointer, set_number, modifier_number, name_in, member_entries, text_at, member_text, sources_in, context_of, modifier_of, named_modifier, named_item, own_name, own_item, item_by, item_of}
 use Rattle.resolver_doc.proofs.RightSets.{Stands, found_from}
 use Rattle.resolver_doc.specs.Form.{unreserved, formed, list_with, object_with, needed_member, optional_member, text_form, is_reserved, reference_form, counts_some, contexts_form, contexts_members, context_form, context_entries, default_form, modifier_members, modifier_form, typed_form, item_type, item_members, item_form, each_value, set_form, set_members, version_form, document_members, entries_at, form_breaks}
 
@@ -64,8 +64,8 @@ module _ (sets : List Entry) where
       let c = there contexts_form owner (value_of_name (codes "contexts") es) needs in
       let m = met (object_in (tree_of c.value)) (contexts_members c.value) c.value c.none in
       let are : context_entries es ≡ m.value = ap (λ (o : Option Placed). unwrap_or (option_and_then (λ n. object_in (tree_of n)) o) []) c.is ∙ ap (λ (o : Option (List Entry)). unwrap_or o []) m.is in
-      subst (λ (xs : List Entry). has_choice (modifier_item name (map (context_of sets) (unreserved xs)) (text_in (codes "default") es)) ≡ true) (sym are)
-      (some_counted m.value name (text_in (codes "default") es) (counts m.value c.value m.none))
+      subst (λ (xs : List Entry). has_choice (modifier_item name (map (context_of sets) (unreserved xs)) (member_text (codes "default") es)) ≡ true) (sym are)
+      (some_counted m.value name (member_text (codes "default") es) (counts m.value c.value m.none))
 
   -- the form of an object that is met
   inside : (n : Placed) (breaks : List Entry → List Break) → object_with breaks n ≡ [] → breaks (entries_at n) ≡ []
@@ -77,7 +77,7 @@ module _ (sets : List Entry) where
   own_chosen n es e =
       let t = there (item_type n es) n (value_of_name (codes "type") es) e in
       let w = met (string_in (tree_of t.value)) (typed_form n es t.value) t.value t.none in
-      let word : unwrap_or (text_in (codes "type") es) [] ≡ w.value = ap (λ (o : Option Placed). unwrap_or (option_and_then (λ x. string_in (tree_of x)) o) []) t.is ∙ ap (λ (o : Option (List ℕ)). unwrap_or o []) w.is in
+      let word : unwrap_or (member_text (codes "type") es) [] ≡ w.value = ap (λ (o : Option Placed). unwrap_or (option_and_then (λ x. string_in (tree_of x)) o) []) t.is ∙ ap (λ (o : Option (List ℕ)). unwrap_or o []) w.is in
       subst (λ (s : List ℕ). has_choice (if bytes_eq s (codes "set") then set_item (sources_in sets es) else modifier_of sets (own_name es) es) ≡ true) (sym word)
       (at t.value (bytes_eq w.value (codes "set")) (bytes_eq w.value (codes "modifier")) w.none)
     where

@@ -95,7 +95,7 @@ completes_all name numbers n all q c = or_none (map.get numbers q) ∙ c q
 pub completes_first : (name : List ℕ) (numbers : Numbers) (all : List Entry) → numbers ≡ map.empty → Completes name numbers 0 all all
 completes_first name numbers all e q = ap (λ o. option_or o (position_from (λ x. bytes_eq (pointer name x) q) 0 all)) (ap (λ m. map.get m q) e ∙ map.get-empty text_cmp q)
 
--- the members from a number on, and behind the last
+-- the members from a number on, and after the last
 pub next_fields : (fields : List Field) (n : ℕ) (x : Field) → n < length fields → x ≡ get_or fields n x → entries_of_fields (drop n fields) ≡ field_view x ∷ entries_of_fields (drop (n + 1) fields)
 next_fields fields n x h is = ap entries_of_fields (drop_more fields n x h) ∙ ap (λ y. field_view y ∷ entries_of_fields (drop (n + 1) fields)) (sym is)
 

@@ -5,7 +5,7 @@ use Rattle.std.proofs.lemmas.Slice.Eq.{bytes_eq-Decides}
 use Rattle.std.specs.List.{position_from}
 use Rattle.std.specs.Str.{bytes_eq}
 use Rattle.json_span.specs.Tree.{Placed, Entry, value_of_name}
-use Rattle.resolver_doc.specs.Document.{SetData, set_item, resolver_of, elements_at, text_at, pointer, set_entries, modifier_entries, order_items, set_number, modifier_number, name_in, member_entries, set_or_file, source_by, source_of, sources_of, sources_in, set_of, context_of, text_in, modifier_of, named_modifier, named_item, own_name, item_by, item_of}
+use Rattle.resolver_doc.specs.Document.{SetData, set_item, resolver_of, elements_at, text_at, pointer, set_entries, modifier_entries, order_items, set_number, modifier_number, name_in, member_entries, set_or_file, source_by, source_of, sources_of, sources_in, set_of, context_of, member_text, modifier_of, named_modifier, named_item, own_name, item_by, item_of}
 use Rattle.resolver_doc.specs.Form.{unreserved, context_entries, entries_at}
 use Rattle.resolver_doc.specs.Rings.{is_set_named, is_right, are_right, are_sets_right, is_item_right, are_items_right}
 
@@ -106,7 +106,7 @@ module _ (sets : List Entry) where
       own false = modifier_right (own_name (entries_at n)) (entries_at n)
 
       at : (o : Option Placed) → is_item_right listed (item_by sets modifiers (entries_at n) o) ≡ true
-      at None = own (bytes_eq (unwrap_or (text_in (codes "type") (entries_at n)) []) (codes "set"))
+      at None = own (bytes_eq (unwrap_or (member_text (codes "type") (entries_at n)) []) (codes "set"))
       at (Some string) = named (text_at string) (set_number sets (text_at string))
 
   items_right : (modifiers : List Entry) (ns : List Placed) → are_items_right listed (map (item_of sets modifiers) ns) ≡ true

@@ -221,7 +221,7 @@ map_push : (rows : List (Vec ℕ Global)) (row : Vec ℕ Global) → map (λ r. 
 map_push [] row = refl
 map_push (r ∷ rows) row = ap (λ xs. r.items ∷ xs) (map_push rows row)
 
--- behind the rows of the sets stands that of all sets
+-- after the rows of the sets stands that of all sets
 pub table_push : (rows : List (Vec ℕ Global)) (row : Vec ℕ Global) (sets : List SetData) → map (λ r. r.items) rows ≡ map (λ s. sets_in s.sources) sets → row.items ≡ range_with_len 0 (length sets) → map (λ r. r.items) (rows ++ row ∷ []) ≡ set_rows sets
 table_push rows row sets e f = map_push rows row ∙ (ap (λ xs. xs ++ row.items ∷ []) e ∙ ap (λ ys. map (λ s. sets_in s.sources) sets ++ ys ∷ []) f)
 

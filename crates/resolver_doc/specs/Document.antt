@@ -104,12 +104,12 @@ abbrev pub context_of : List Entry → Entry → SetData
 context_of sets e = record { name = e.name; sources = sources_of sets e.value }
 
 -- the text of a member, where it is one
-abbrev pub text_in : List ℕ → List Entry → Option (List ℕ)
-text_in name es = option_and_then (λ n. string_in (tree_of n)) (value_of_name name es)
+abbrev pub member_text : List ℕ → List Entry → Option (List ℕ)
+member_text name es = option_and_then (λ n. string_in (tree_of n)) (value_of_name name es)
 
 -- a modifier of this name with these members
 abbrev pub modifier_of : List Entry → List ℕ → List Entry → ItemData
-modifier_of sets name es = modifier_item name (map (context_of sets) (unreserved (context_entries es))) (text_in (codes "default") es)
+modifier_of sets name es = modifier_item name (map (context_of sets) (unreserved (context_entries es))) (member_text (codes "default") es)
 
 -- an item that is a reference is what it names
 abbrev pub named_modifier : List Entry → List Entry → Option ℕ → ItemData
@@ -122,11 +122,11 @@ named_item sets modifiers text (Some v) = set_item (sources_in sets (member_entr
 
 -- any other is a set or a modifier of its own
 abbrev pub own_name : List Entry → List ℕ
-own_name es = unwrap_or (text_in (codes "name") es) []
+own_name es = unwrap_or (member_text (codes "name") es) []
 
 abbrev pub own_item : List Entry → List Entry → ItemData
 own_item sets es =
-    if bytes_eq (unwrap_or (text_in (codes "type") es) []) (codes "set") then set_item (sources_in sets es)
+    if bytes_eq (unwrap_or (member_text (codes "type") es) []) (codes "set") then set_item (sources_in sets es)
     else modifier_of sets (own_name es) es
 
 abbrev pub item_by : List Entry → List Entry → List Entry → Option Placed → ItemData

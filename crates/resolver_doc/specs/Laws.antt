@@ -29,7 +29,7 @@ EachDocumentAnswers = (root : Placed) → IsUnbroken root ⊎ IsBroken root
 
 -- Names of files, and what pointers name.
 
--- the name behind some `./`
+-- the name after some `./`
 abbrev pub behind_dots : ℕ → List ℕ → List ℕ
 behind_dots zero name = name
 behind_dots (suc n) name = full_stop ∷ (solidus ∷ behind_dots n name)
@@ -39,7 +39,7 @@ pub record IsWithoutDots (text name : List ℕ) : Type 0 where
   pub whole : text ≡ behind_dots times name
   pub first : (rest : List ℕ) → name ≢ full_stop ∷ (solidus ∷ rest)
 
--- a file's name is what stands behind all leading `./`
+-- a file's name is what stands after all leading `./`
 abbrev pub DotsAreTaken : Type 0
 DotsAreTaken = (text : List ℕ) → IsWithoutDots text (without_dots text)
 

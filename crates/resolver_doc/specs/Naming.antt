@@ -8,7 +8,7 @@ use Rattle.resolver_doc.specs.declared.rule.PlanRule.TheVariants.{Reference, Mod
 use Rattle.resolver_doc.specs.declared.rule.Break.{Break}
 use Rattle.resolver_doc.specs.Break.{at_value}
 use Rattle.resolver_doc.specs.Form.{unreserved, context_entries, entries_at}
-use Rattle.resolver_doc.specs.Document.{elements_at, text_at, set_entries, modifier_entries, order_items, set_number, modifier_number, name_in, without_dots, text_in}
+use Rattle.resolver_doc.specs.Document.{elements_at, text_at, set_entries, modifier_entries, order_items, set_number, modifier_number, name_in, without_dots, member_text}
 
 -- a source names a set, or a file whose name is a path; none names a modifier
 abbrev pub named_breaks_by : Placed → Option ℕ → List Break
@@ -42,7 +42,7 @@ names_item sets modifiers text = is_some (set_number sets text) || is_some (modi
 
 abbrev pub own_breaks : List Entry → List Entry → List Break
 own_breaks sets es =
-    if bytes_eq (unwrap_or (text_in (codes "type") es) []) (codes "set") then set_breaks sets es
+    if bytes_eq (unwrap_or (member_text (codes "type") es) []) (codes "set") then set_breaks sets es
     else modifier_breaks sets es
 
 abbrev pub named_item_breaks : List Entry → List Entry → Placed → List Break
@@ -63,7 +63,7 @@ name_of_number sets modifiers None (Some v) = Some (name_in modifiers v)
 name_of_number sets modifiers None None = None
 
 abbrev pub item_name_by : List Entry → List Entry → List Entry → Option Placed → Option (List ℕ)
-item_name_by sets modifiers es None = text_in (codes "name") es
+item_name_by sets modifiers es None = member_text (codes "name") es
 item_name_by sets modifiers es (Some string) =
     name_of_number sets modifiers (set_number sets (text_at string)) (modifier_number modifiers (text_at string))
 

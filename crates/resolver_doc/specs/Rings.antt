@@ -20,11 +20,11 @@ set_in (inline_source n) = []
 abbrev pub sets_in : List SourceData → List ℕ
 sets_in sources = flat_map set_in sources
 
--- a row for each set, and behind them one of all sets
+-- a row for each set, and after them one of all sets
 abbrev pub set_rows : List SetData → List (List ℕ)
 set_rows sets = map (λ s. sets_in s.sources) sets ++ range_with_len 0 (length sets) ∷ []
 
--- what a set names; the number behind the last set stands for the document, which names each set
+-- what a set names; the number after the last set stands for the document, which names each set
 abbrev pub set_needs : List SetData → ℕ → List ℕ
 set_needs sets v = slice_index_or (set_rows sets) v []
 

@@ -5,7 +5,10 @@ ghost use Rattle.std.specs.List.{flat_map};
 ghost use Rattle.json_span.specs.Tree.{value_of_name};
 ghost use Rattle.json_span.specs.View.{ref_view, fields_view};
 ghost use Rattle.resolver_doc.specs.Break.{with_breaks, first_of};
-ghost use Rattle.resolver_doc.specs.Form.{unreserved, optional_member, needed_member, each_value, set_form, modifier_form, list_with, typed_form, item_type, item_members, item_form, version_form, document_members, form_breaks};
+ghost use Rattle.resolver_doc.specs.Form.{unreserved, optional_member, needed_member, each_value};
+ghost use Rattle.resolver_doc.specs.Form.{set_form, modifier_form, list_with, typed_form};
+ghost use Rattle.resolver_doc.specs.Form.{item_type, item_members, item_form, version_form};
+ghost use Rattle.resolver_doc.specs.Form.{document_members, form_breaks};
 
 use crate::form::{
     is_counted, is_reference, modifier, modifier_members, needed_text, optional_text, reference,
@@ -25,7 +28,8 @@ fn typed(
     first: &mut Option<Break>,
 ) -> Result<(), NoMemory>
     ensures { OnOk result (first.new ≡ with_breaks first.old
-        (typed_form (ref_view owner.entry) (fields_view fields.now) (ref_view node.entry) word.now)) }
+        (typed_form (ref_view owner.entry) (fields_view fields.now)
+        (ref_view node.entry) word.now)) }
 {
     if word == "set" {
         needed_text(owner, fields, "name", first);
@@ -141,7 +145,8 @@ fn each_set(alloc: Global, node: NodeRef<'_, '_>, first: &mut Option<Break>) -> 
 
 fn sets(alloc: Global, fields: &Fields<'_, '_>, first: &mut Option<Break>) -> Result<(), NoMemory>
     ensures { OnOk result (first.new ≡ with_breaks first.old
-        (optional_member (each_value set_form) (value_of_name (codes "sets") (fields_view fields.now)))) }
+        (optional_member (each_value set_form)
+        (value_of_name (codes "sets") (fields_view fields.now)))) }
 {
     let Some(node) = fields.get("sets") else {
         return Ok(());

@@ -17,7 +17,7 @@ pub enum PlanFault<'s> {
         rule: PlanRule,
         /// The byte offset of the span's beginning.
         start: usize,
-        /// The byte offset behind the span.
+        /// The byte offset after the span.
         end: usize,
         /// The names of the sets of the ring, each of which names the next one and the last the first; empty for every
         /// rule but [`PlanRule::Cycle`].

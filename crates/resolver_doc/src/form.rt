@@ -6,7 +6,12 @@ ghost use Rattle.json_span.specs.Tree.{string_in, value_of_name};
 ghost use Rattle.json_span.specs.View.{ref_view, json_view, field_view, fields_view};
 ghost use Rattle.resolver_doc.specs.Break.{with_breaks, at_name};
 ghost use Rattle.resolver_doc.specs.declared.rule.PlanRule.TheVariants.{Shape};
-ghost use Rattle.resolver_doc.specs.Form.{is_reserved, unreserved, optional_member, needed_member, text_form, reference_form, has_ref, source_form, sources_form, set_members, set_form, has_context, context_form, counts_some, contexts_form, context_entries, default_form, modifier_members, modifier_form};
+ghost use Rattle.resolver_doc.specs.Form.{is_reserved, unreserved, optional_member, needed_member};
+ghost use Rattle.resolver_doc.specs.Form.{text_form, reference_form, has_ref, source_form};
+ghost use Rattle.resolver_doc.specs.Form.{sources_form, set_members, set_form, has_context};
+ghost use Rattle.resolver_doc.specs.Form.{context_form, counts_some, contexts_form};
+ghost use Rattle.resolver_doc.specs.Form.{context_entries, default_form, modifier_members};
+ghost use Rattle.resolver_doc.specs.Form.{modifier_form};
 
 use crate::rule::{Break, PlanRule, at_name, at_value};
 use json_span::{Field, Fields, NodeRef, ValueType};
@@ -50,7 +55,8 @@ pub(crate) fn needed_text(
     first: &mut Option<Break>,
 )
     ensures { first.new ≡ with_breaks first.old
-        (needed_member text_form (ref_view owner.entry) (value_of_name name.now (fields_view fields.now))) }
+        (needed_member text_form (ref_view owner.entry)
+        (value_of_name name.now (fields_view fields.now))) }
 {
     match fields.get(name) {
         Some(node) => text(node, first),

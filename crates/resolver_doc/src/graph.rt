@@ -45,7 +45,7 @@ fn rows(alloc: Global, sets: &[SetDef<'_, '_>]) -> Result<Vec<Vec<usize>>, NoMem
     Ok(rows)
 }
 
-/// What each set names, by numbers, and behind the last set a row of all sets.
+/// What each set names, by numbers, and after the last set a row of all sets.
 pub(crate) fn graph_of(alloc: Global, sets: &[SetDef<'_, '_>]) -> Result<Vec<Vec<usize>>, NoMemory>
     requires { IsTrue (are_sets_right (sets_view sets.now) (sets_view sets.now)) }
     ensures rows { IfOk result (λ graph. ListsNeeds graph.items (sets_view sets.now)) }

@@ -4,9 +4,13 @@ ghost use Rattle.std.specs.Prelude.{◌≡◌, IfOk, OnOk, Option, map};
 ghost use Rattle.std.specs.List.{flat_map};
 ghost use Rattle.json_span.specs.View.{ref_view, field_view};
 ghost use Rattle.resolver_doc.specs.Break.{with_breaks};
-ghost use Rattle.resolver_doc.specs.Document.{set_item, context_of, set_of, sources_in, member_entries, name_in, text_in, modifier_of, own_item, item_of, named_item, text_at, set_number, order_items};
+ghost use Rattle.resolver_doc.specs.Document.{set_item, context_of, set_of, sources_in};
+ghost use Rattle.resolver_doc.specs.Document.{member_entries, name_in, member_text, modifier_of};
+ghost use Rattle.resolver_doc.specs.Document.{own_item, item_of, named_item, text_at, set_number};
+ghost use Rattle.resolver_doc.specs.Document.{order_items};
 ghost use Rattle.resolver_doc.specs.Form.{unreserved, context_entries, entries_at};
-ghost use Rattle.resolver_doc.specs.Naming.{sources_breaks, set_breaks, modifier_breaks, own_breaks, item_breaks, named_item_breaks};
+ghost use Rattle.resolver_doc.specs.Naming.{sources_breaks, set_breaks, modifier_breaks};
+ghost use Rattle.resolver_doc.specs.Naming.{own_breaks, item_breaks, named_item_breaks};
 ghost use Rattle.resolver_doc.specs.View.{set_view, sets_view, item_view, order_view};
 ghost use Rattle.resolver_doc.specs.inner.Known.{known_sets, known_modifiers};
 

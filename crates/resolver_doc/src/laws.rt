@@ -1,7 +1,9 @@
 // Laws of the definitions alone, for the layers above.
 
 ghost use Rattle.resolver_doc.specs.Break.{FirstIsTold, NoneIsTold};
-ghost use Rattle.resolver_doc.specs.Laws.{OneFault, UnbrokenIsNotRefused, EachDocumentAnswers, DotsAreTaken, PointersSpell, PointersFind, ContextsAreApart};
+ghost use Rattle.resolver_doc.specs.Laws.{OneFault, UnbrokenIsNotRefused, EachDocumentAnswers};
+ghost use Rattle.resolver_doc.specs.Laws.{DotsAreTaken, PointersSpell, PointersFind};
+ghost use Rattle.resolver_doc.specs.Laws.{ContextsAreApart};
 
 /// Of several breaks the first by its start and then by its rule's number is told, and where none is told there is none.
 pub fn break_laws()
@@ -21,7 +23,7 @@ pub fn each_document_answers()
     ensures { EachDocumentAnswers }
 {}
 
-/// A file's name is what stands behind all leading `./` of a text. A text points to a member whose name it spells, and the
+/// A file's name is what stands after all leading `./` of a text. A text points to a member whose name it spells, and the
 /// pointer to a member finds one of its name. In a document without a flaw the contexts of a modifier have different names.
 pub fn naming_laws()
     ensures files { DotsAreTaken }

@@ -1,11 +1,13 @@
 // Members of values, by their names and their numbers.
 
-ghost use Rattle.std.specs.Prelude.{◌≡◌, [], ℕ, List, IfOk, OnOk, option_map, unwrap_or, map as map_list};
+ghost use Rattle.std.specs.Prelude.{◌≡◌, [], ℕ, List, IfOk, OnOk, option_map, unwrap_or};
+ghost use Rattle.std.specs.Prelude.{map as map_list};
 ghost use Rattle.std.specs.FinMap as map;
 ghost use Rattle.json_span.specs.Tree.{value_of_name};
 ghost use Rattle.json_span.specs.View.{ref_view, field_view};
 ghost use Rattle.resolver_doc.specs.Form.{entries_at};
-ghost use Rattle.resolver_doc.specs.Document.{section, pointer, pointed_number, name_in, text_at, text_in};
+ghost use Rattle.resolver_doc.specs.Document.{section, pointer, pointed_number, name_in, text_at};
+ghost use Rattle.resolver_doc.specs.Document.{member_text};
 ghost use Rattle.resolver_doc.specs.inner.Pointers.{AddsFirst};
 
 use crate::form::is_counted;
@@ -16,7 +18,8 @@ use tk_io::{NoMemory, Text};
 
 /// The value of the member of this name.
 pub(crate) fn member<'a, 's>(node: NodeRef<'a, 's>, name: &str) -> Option<NodeRef<'a, 's>>
-    ensures { option_map ref_view result ≡ value_of_name name.now (entries_at (ref_view node.entry)) }
+    ensures { option_map ref_view result
+        ≡ value_of_name name.now (entries_at (ref_view node.entry)) }
 {
     let Some(fields) = node.as_object() else {
         return None;
@@ -108,7 +111,7 @@ pub(crate) fn member_text<'s>(
     node: NodeRef<'_, 's>,
     name: &str,
 ) -> Result<Option<Text<'s>>, NoMemory>
-    ensures { IfOk result (λ text. text ≡ text_in name.now (entries_at (ref_view node.entry))) }
+    ensures { IfOk result (λ text. text ≡ member_text name.now (entries_at (ref_view node.entry))) }
 {
     match member(node, name) {
         Some(value) => value.as_text(alloc),
@@ -123,7 +126,7 @@ pub(crate) fn text_or_empty<'s>(
     name: &str,
 ) -> Result<Text<'s>, NoMemory>
     ensures { IfOk result
-        (λ text. text ≡ unwrap_or (text_in name.now (entries_at (ref_view node.entry))) []) }
+        (λ text. text ≡ unwrap_or (member_text name.now (entries_at (ref_view node.entry))) []) }
 {
     match member_text(alloc, node, name)? {
         Some(text) => Ok(text),

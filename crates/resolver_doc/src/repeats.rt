@@ -4,7 +4,8 @@ ghost use Rattle.std.specs.Prelude.{◌≡◌, [], ◌∷◌, IfOk, OnOk, Option
 ghost use Rattle.json_span.specs.View.{ref_view, items_view};
 ghost use Rattle.resolver_doc.specs.Break.{with_breaks};
 ghost use Rattle.resolver_doc.specs.Document.{order_items};
-ghost use Rattle.resolver_doc.specs.Naming.{item_name, name_string, of_each, repeat_at, repeats, with_name};
+ghost use Rattle.resolver_doc.specs.Naming.{item_name, name_string, of_each, repeat_at, repeats};
+ghost use Rattle.resolver_doc.specs.Naming.{with_name};
 ghost use Rattle.resolver_doc.specs.inner.Known.{known_sets, known_modifiers};
 ghost use Rattle.resolver_doc.specs.inner.Pointers.{HoldsTexts};
 

@@ -30,7 +30,7 @@ impl<'a, 's> Resolver<'a, 's> {
     ghost use Rattle.resolver_doc.specs.Rings.{ListsNeeds};
 
     /// What each set names, as a table for a search of rings and orders: row v lists the numbers of the sets that set v
-    /// names, in order, and the row behind the last set lists all sets.
+    /// names, in order, and the row after the last set lists all sets.
     pub fn set_graph(&self, alloc: Global) -> Result<Vec<Vec<usize>>, NoMemory>
         ensures rows { IfOk result (λ graph. ListsNeeds graph.items (sets_view self.now.sets)) }
         ensures graph { IfOk result (λ graph. IsGraph graph.items) }

@@ -2,7 +2,8 @@
 
 ghost use Rattle.std.specs.Prelude.{◌≡◌};
 ghost use Rattle.json_span.specs.View.{ref_view, field_view};
-ghost use Rattle.resolver_doc.specs.Break.{rule_number, is_before, earlier, with_breaks, at_value, at_name};
+ghost use Rattle.resolver_doc.specs.Break.{rule_number, is_before, earlier, with_breaks, at_value};
+ghost use Rattle.resolver_doc.specs.Break.{at_name};
 
 use json_span::{Field, NodeRef};
 

@@ -4,9 +4,11 @@ ghost use Rattle.std.specs.Prelude.{◌≡◌, ◌≢◌, ◌∷◌, ℕ, List, 
 ghost use Rattle.tk_io.specs.Characters.{full_stop, solidus};
 ghost use Rattle.json_span.specs.View.{ref_view};
 ghost use Rattle.resolver_doc.specs.Break.{with_breaks};
-ghost use Rattle.resolver_doc.specs.Document.{text_at, set_number, without_dots, set_or_file, source_of, sources_of, sources_in};
+ghost use Rattle.resolver_doc.specs.Document.{text_at, set_number, without_dots, set_or_file};
+ghost use Rattle.resolver_doc.specs.Document.{source_of, sources_of, sources_in};
 ghost use Rattle.resolver_doc.specs.Form.{entries_at};
-ghost use Rattle.resolver_doc.specs.Naming.{named_breaks_by, source_breaks, sources_breaks, set_breaks};
+ghost use Rattle.resolver_doc.specs.Naming.{named_breaks_by, source_breaks, sources_breaks};
+ghost use Rattle.resolver_doc.specs.Naming.{set_breaks};
 ghost use Rattle.resolver_doc.specs.View.{source_view, sources_view};
 ghost use Rattle.resolver_doc.specs.inner.Known.{known_sets};
 

@@ -21,7 +21,7 @@ not_in x (y ∷ ys) h (inl e) =
     let other : bytes_eq x y ≡ false = (neither (bytes_eq x y) (list_any (λ z. bytes_eq x z) ys) h).0 in cc
 not_in x (y ∷ ys) h (inr i) = not_in x ys (neither (bytes_eq x y) (list_any (λ z. bytes_eq x z) ys) h).1 i
 
--- endings behind one name
+-- endings after one name
 in_ended : (n a : List ℕ) (bs : List (List ℕ)) → In (n ++ a) (map (λ b. n ++ b) bs) → In a bs
 in_ended n a [] i = i
 in_ended n a (b ∷ bs) (inl e) = inl (append_cancel_left n a b e)

@@ -14,7 +14,7 @@ pub string_again : QuotedReadsBack
 string_again [] t = refl
 string_again (c ∷ x) t = escaped_step c (flat_map escaped_character x) x t ((c == quote) || (c == backslash)) refl (string_again x t)
 
--- what is found, and what is found with more behind
+-- what is found, and what is found with more after it
 abbrev pub Longer : List ℕ → Option (List ℕ × List ℕ) → Option (List ℕ × List ℕ) → Type 0
 Longer t None y = Unit {0}
 Longer t (Some r) y = y ≡ Some (r.0, r.1 ++ t)

@@ -179,7 +179,7 @@ pub root_joined : (p : Platform) → joined_names p [] ≡ codes "root"
 unfolding chars
 root_joined p = refl
 
--- the first name, and the others behind joints
+-- the first name, and the others after joints
 pub first_joined : (p : Platform) (first : List ℕ) (rest : List (List ℕ)) → joined_names p (first ∷ rest) ≡ spelled p first ++ flat_map (λ name. joint p ∷ spelled p name) rest
 first_joined p first [] = sym (append-nil (spelled p first))
 first_joined p first (name ∷ names) = ap (λ (cs : List ℕ). spelled p first ++ (joint p ∷ cs)) (first_joined p name names)

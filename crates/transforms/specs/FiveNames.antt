@@ -1,10 +1,10 @@
--- The names of a typography's five values: what stands behind the name of its token.
+-- The names of a typography's five values: what stands after the name of its token.
 use Rattle.std.specs.Prelude.{ℕ, List, [], ◌∷◌, ◌++◌, codes, map}
 use Rattle.ring.specs.Lists.{AreApart}
 use Rattle.transforms.specs.PlatformName.{joint}
 use Rattle.transforms.specs.declared.platform.Platform.{Platform}
 
--- two words behind joints
+-- two words after joints
 abbrev pub two_words : Platform → List ℕ → List ℕ → List ℕ
 two_words platform first second = joint platform ∷ (first ++ (joint platform ∷ second))
 

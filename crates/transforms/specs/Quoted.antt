@@ -19,7 +19,7 @@ escaped_character c = if (c == quote) || (c == backslash) then backslash ∷ c �
 abbrev pub with_first : ℕ → Option (List ℕ × List ℕ) → Option (List ℕ × List ℕ)
 with_first c found = option_map (λ r. (c ∷ r.0, r.1)) found
 
--- what stands before the next `"`, and behind it; `\` gives the character behind it, which may be `"`
+-- what stands before the next `"`, and after it; `\` gives the character after it, which may be `"`
 abbrev pub string_from : Bool → List ℕ → Option (List ℕ × List ℕ)
 string_from escaped [] = None
 string_from true (c ∷ t) = with_first c (string_from false t)

@@ -2,7 +2,7 @@
 use Rattle.std.specs.Prelude.{◌≡◌, Bool, true, false, ℕ, List, [], ◌∷◌, ◌++◌}
 use Rattle.std.specs.List.{flat_map}
 
--- what stands before the bodies, between each two, behind the last where there is one, and at the end
+-- what stands before the bodies, between each two, after the last where there is one, and at the end
 pub record FrameData : Type 0 where
   pub head : List ℕ
   pub glue : List ℕ
@@ -19,7 +19,7 @@ abbrev pub are_some : List (List ℕ) → Bool
 are_some [] = false
 are_some (body ∷ bodies) = true
 
--- what stands behind the last body, where there is one
+-- what stands after the last body, where there is one
 abbrev pub behind_last : FrameData → List (List ℕ) → List ℕ
 behind_last frame [] = []
 behind_last frame (body ∷ bodies) = frame.last
@@ -28,7 +28,7 @@ behind_last frame (body ∷ bodies) = frame.last
 abbrev pub sheet_text : FrameData → List (List ℕ) → List ℕ
 sheet_text frame bodies = frame.head ++ (glued frame.glue bodies ++ (behind_last frame bodies ++ frame.tail))
 
--- a frame with nothing between bodies or behind the last
+-- a frame with nothing between bodies or after the last
 abbrev pub plain_frame : List ℕ → List ℕ → FrameData
 plain_frame head tail = record { head = head; glue = []; last = []; tail = tail }
 

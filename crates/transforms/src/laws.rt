@@ -49,7 +49,7 @@ pub fn spelling_laws()
     ensures scaled { ScaledAreWritten }
 {}
 
-/// In a frame with nothing between bodies or behind the last, they stand one after another.
+/// In a frame with nothing between bodies or after the last, they stand one after another.
 pub fn sheet_laws()
     ensures { PlainFramesJoin }
 {}

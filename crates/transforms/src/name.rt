@@ -180,7 +180,7 @@ fn identifier(
 }
 
 /// The name of the token at the path: the prefix and the path's names without a last `$root`, character by character. On
-/// CSS they are joined by `-` behind `--`, elsewhere by `_`, with a `_` before a digit in front. The path `$root` alone has
+/// CSS they are joined by `-` after `--`, elsewhere by `_`, with a `_` before a leading digit. The path `$root` alone has
 /// the name `root`.
 pub fn name_for(
     alloc: Global,

@@ -19,7 +19,7 @@ pub struct Frag {
     pub body: Bytes,
 }
 
-/// What stands around the bodies of a sheet: before all, between each two, behind the last where there is one, and at the
+/// What stands around the bodies of a sheet: before all, between each two, after the last where there is one, and at the
 /// end.
 #[derive(Clone, Copy, Debug)]
 pub struct Frame {
@@ -43,7 +43,8 @@ impl Model for Sheet {
 
     ghost Value = { OpenSheet };
 
-    ghost view = { λ s. record { frame = frame_view s.frame; text = s.text; has_body = s.has_body } };
+    ghost view = { λ s.
+        record { frame = frame_view s.frame; text = s.text; has_body = s.has_body } };
 }
 
 impl Sheet {
@@ -72,7 +73,7 @@ impl Sheet {
         Ok(())
     }
 
-    /// Adds the fragment's body at the end, behind the glue where there is a body before it. Where memory runs out the sheet
+    /// Adds the fragment's body at the end, after the glue where there is a body before it. Where memory runs out the sheet
     /// stays.
     pub fn add(&mut self, frag: &Frag) -> Result<(), NoMemory>
         ensures ok { OnOk result (Gains self.old self.new frag.now.body) }

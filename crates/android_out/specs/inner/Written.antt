@@ -11,14 +11,14 @@ pub record IsFragment (name : List ℕ) (vs : Values) (f : Frag) : Type 0 where
   pub names : f.names ≡ value_names vs
   pub body : f.body ≡ body_text name vs
 
--- a line up to its content, and behind it
+-- a line up to its content, and after it
 abbrev pub start_text : Tag → List ℕ → List ℕ
 start_text tag name = codes "  <" ++ (tag_name tag ++ (attributes tag ++ (codes " name=\"" ++ (name ++ codes "\">"))))
 
 abbrev pub end_text : Tag → List ℕ
 end_text tag = codes "</" ++ (tag_name tag ++ codes ">\n")
 
--- whether a word is begun behind a byte, or none where the byte can't stand there
+-- whether a word is begun after a byte, or none where the byte can't stand there
 abbrev pub after_byte : Bool → ℕ → Option Bool
 after_byte begun c =
     if c == blank then (if begun then Some false else None)

@@ -11,13 +11,13 @@ gap tight = if tight then [] else codes " "
 abbrev pub with_piece : Line → Piece → Line
 with_piece l p = record { text = l.text ++ (gap (is_tight p || l.is_tight) ++ piece_text p); is_tight = is_opening p }
 
-abbrev pub added : Line → List Piece → Line
-added l [] = l
-added l (p ∷ ps) = added (with_piece l p) ps
+abbrev pub with_pieces : Line → List Piece → Line
+with_pieces l [] = l
+with_pieces l (p ∷ ps) = with_pieces (with_piece l p) ps
 
-abbrev pub marked : Line → List Mark → Line
-marked l [] = l
-marked l (m ∷ ms) = marked (with_piece l (mark m)) ms
+abbrev pub with_marks : Line → List Mark → Line
+with_marks l [] = l
+with_marks l (m ∷ ms) = with_marks (with_piece l (mark m)) ms
 
 -- the start of a declaration
 abbrev pub started : Line → List ℕ → Line

@@ -107,7 +107,7 @@ abbrev pub AreSolid : (ℕ → List TokenSource) → List RowData → (ℕ → T
 AreSolid of_set rows K parts = (p : PartData) → In p parts → IsSolid of_set rows K p
 
 -- a row tells what comes to these sources
-pub record IsRow (of_set : ℕ → List TokenSource) (rows : List RowData) (K : ℕ → Type 0) (sources : List TokenSource) (row : RowData) : Type 0 where
+pub record RowTells (of_set : ℕ → List TokenSource) (rows : List RowData) (K : ℕ → Type 0) (sources : List TokenSource) (row : RowData) : Type 0 where
   pub whole : flat_map (part_sources of_set) row.parts ≡ sources
   pub count : row.count ≡ min (length sources) LAST_NUMBER
   pub solid : AreSolid of_set rows K row.parts
@@ -115,4 +115,4 @@ pub record IsRow (of_set : ℕ → List TokenSource) (rows : List RowData) (K : 
 -- the rows tell what each set comes to
 pub record IsTable (of_set : ℕ → List TokenSource) (sets : ℕ) (rows : List RowData) : Type 0 where
   pub long : length rows ≡ sets
-  pub row : (v : ℕ) → v < sets → IsRow of_set rows (λ w. w < sets) (of_set v) (row_at rows v)
+  pub row : (v : ℕ) → v < sets → RowTells of_set rows (λ w. w < sets) (of_set v) (row_at rows v)

@@ -3,9 +3,9 @@ use Rattle.std.proofs.Common.{◌≡◌, ◌∷◌, drop}
 use Rattle.std.specs.List.{flat_map}
 use Rattle.css_out.specs.Piece.{comma}
 use Rattle.css_out.specs.PlatformValue.{family_marks}
-use Rattle.css_out.specs.inner.Added.{marked}
+use Rattle.css_out.specs.inner.Added.{with_marks}
 use Rattle.css_out.proofs.spelling.spell_more_families.Given as goal
 
 abbrev pub invariant-loop-family : goal.invariant-loop-family
 invariant-loop-family l =
-    marked l.line (flat_map (λ y. comma ∷ family_marks y) (drop l.family-index l.families)) ≡ marked l.fn.line (flat_map (λ y. comma ∷ family_marks y) l.families)
+    with_marks l.line (flat_map (λ y. comma ∷ family_marks y) (drop l.family-index l.families)) ≡ with_marks l.fn.line (flat_map (λ y. comma ∷ family_marks y) l.families)

@@ -1,4 +1,4 @@
--- What was appended are the names so far, each behind a joint.
+-- What was appended are the names so far, each after a joint.
 use Rattle.std.proofs.Common.{◌≡◌, ◌++◌, ◌∷◌, take}
 use Rattle.std.specs.List.{flat_map}
 use Rattle.transforms.specs.PlatformName.{joint, spelled}
