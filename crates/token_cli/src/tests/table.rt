@@ -2,7 +2,7 @@
 
 use crate::Status;
 
-/// A run without a failing call: the words, the script, and what is written, what is said and how it ends.
+/// A run without a failing call: the arguments, the script, and what is written, what is said and how it ends.
 pub struct Case {
     pub words: &'static str,
     pub script: &'static [u8],
