@@ -26,7 +26,7 @@ class Ran(NamedTuple):
 
 
 def run(words, given=b"", tokc=None, at=TOP):
-    """Runs words in a folder, with another program for tokc where one is given."""
+    """Runs a command in a folder, with another program for tokc where one is given."""
     env = dict(os.environ, PYTHONDONTWRITEBYTECODE="1")
     env.pop("TOKC", None)
     if tokc:

@@ -20,7 +20,7 @@ def setUpModule():
 
 
 class Words(Room):
-    """Words that are none of the forms are answered at once, by `tokc` itself, as the program answers them."""
+    """Arguments that are none of the forms are answered at once, by `tokc` itself, as the program answers them."""
 
     def test_no_form(self):
         shutil.copy(TOKC, self.at("tokc"))

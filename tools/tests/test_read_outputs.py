@@ -31,7 +31,7 @@ SWIFT = "import UIKit\n"
 NAMES = ["--a", "--b", "--d-font-family", "--d-font-size", "--d-font-weight", "--d-letter-spacing", "--d-line-height"]
 VALUES = ["1px", "1px", '"A B"', "1rem", "700", "0px", "1.5"]
 
-# A browser that keeps the page and prints what stands beside it, and a tool that keeps its words and refuses a text that is named.
+# A browser that keeps the page and prints what stands beside it, and a tool that keeps its arguments and refuses a text that is named.
 BROWSER = '#!/bin/sh\nfor last; do :; done\ncp "${last#file://}" "${0%/*}/page" && exec cat "${0%/*}/dom"\n'
 ODD = "#!/bin/sh\nfor last; do :; done\nif grep -q BAD \"$last\"; then echo \"$last: no such thing\" >&2; exit 1; fi\n"
 

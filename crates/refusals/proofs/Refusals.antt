@@ -16,7 +16,7 @@ past xs n k h le lt =
 newline : (xs : List ℕ) (i : ℕ) → slice_get xs i ≡ Some 10 → not (get_or xs (i + 1 - 1) 0 == 10) ≡ false
 newline xs i h = let e : i + 1 - 1 ≡ i = omega arith in rw (e, get_or_from_slice_get xs i 10 0 h) refl
 
--- behind the last newline
+-- after the last newline
 pub column_some : (xs : List ℕ) (i : ℕ) → i < length xs → slice_get xs i ≡ Some 10 → All (λ x. x ≢ 10) (drop (i + 1) xs) → length xs - i ≡ suffix_len (λ b. not (b == 10)) xs + 1
 column_some xs i lt h rest =
     let is : suffix_len (λ b. not (b == 10)) xs ≡ length xs - (i + 1) = suffix_len_is (λ b. not (b == 10)) xs (i + 1) 0 (omega arith) (λ k le inside. past xs (i + 1) k rest le inside) (λ _. newline xs i h) in

@@ -78,7 +78,7 @@ rule_name rule.NameClash = codes "name-clash"
 abbrev pub line_of : List ℕ → ℕ → ℕ
 line_of text start = count_by (λ b. b == newline) (take start text) + 1
 
--- one plus the bytes behind the last of them
+-- one plus the bytes after the last of them
 abbrev pub column_of : List ℕ → ℕ → ℕ
 column_of text start = suffix_len (λ b. not (b == newline)) (take start text) + 1
 

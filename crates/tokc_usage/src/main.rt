@@ -1,4 +1,4 @@
-//! The program as `tokc` is, run with other words than it knows: it ends with their status, and writes nothing to standard
+//! The program as `tokc` is, run with other arguments than it knows: it ends with their status, and writes nothing to standard
 //! output.
 #![tactic(auto)]
 

@@ -23,7 +23,7 @@ in_either x (y ∷ xs) ys (inl same) = inl (inl same)
 in_either x (y ∷ xs) ys (inr i) = elim (in_either x xs ys i) as (λ _. In x (y ∷ xs) ⊎ In x ys) [ inl a ↦ inl (inr a) | inr b ↦ inr b ]
 
 module _ (T : Tokens) (own group : Kinds) where
-  -- a link below a place: the steps from there, what is written at their end, the kind, and how many links may stand behind it
+  -- a link below a place: the steps from there, what is written at their end, the kind, and how many links may follow it
   pub record Stands (k : ℕ) (p : Place) (l : Link) : Type 0 where
     pub steps : List Step
     pub trail : l.trail ≡ p.trail ++ steps
@@ -43,7 +43,7 @@ module _ (T : Tokens) (own group : Kinds) where
   same_steps : (c d : Container) (steps others : List Step) → parts c steps ≡ parts d others → steps ≡ others
   same_steps c d steps others e = cc
 
-  -- the depth behind a link
+  -- the depth after a link
   link_depth : (k : ℕ) (p : Place) (token : List Step) → T p ≡ Some (refers token []) → LinkDepth T k p → (j : ℕ) × (k ≡ suc j) × LinkDepth T j (whole token)
   link_depth k p token e (depth_leaf f) = let h = same_written p e f in cc
   link_depth k p token e (depth_steps f) = let h = same_written p e f in cc

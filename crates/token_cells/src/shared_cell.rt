@@ -9,7 +9,7 @@ use std::rc::Rc;
 use tk_io::NoMemory;
 
 /// What a token comes to, in one place or more, seen as the cell itself.
-#[derive(Drop)]
+#[derive(Debug, Drop)]
 pub struct SharedCell<'s> {
     cell: Rc<TokenCell<'s>>,
 }

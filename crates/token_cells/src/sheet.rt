@@ -13,7 +13,8 @@ use transforms::Sheet;
 
 // Adds what the token gives to a sheet of this format.
 fn add_body(sheet: &mut Sheet, format: Format, cell: &TokenCell<'_>) -> Result<(), NoMemory>
-    ensures { OnOk result ((frame : FrameData) (bodies : List (List ℕ)) → Holds sheet.old frame bodies
+    ensures { OnOk result ((frame : FrameData) (bodies : List (List ℕ))
+        → Holds sheet.old frame bodies
         → Holds sheet.new frame (bodies ++ bodies_for format cell.now)) }
 {
     match cell {

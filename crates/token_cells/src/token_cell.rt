@@ -26,7 +26,7 @@ use transforms::{Config, Frag};
 use type_rules::{ValueFault, ValueRule};
 
 /// What a token comes to. It holds no offset, so that it stays right where its file is moved.
-#[derive(Drop)]
+#[derive(Debug, Drop)]
 pub enum TokenCell<'s> {
     /// The first rule that the token breaks.
     Refused {

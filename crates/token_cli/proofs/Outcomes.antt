@@ -124,7 +124,7 @@ of_script command left rest claim c script which reads told h =
     let S : List ℕ → Type 0 = λ s. (fs : List EventData) × IsScript s fs × claim (telling_of c) (events_for c fs) in
     of_given c left S script reads told (at_some c command M which h).1
 
--- words are a command or none
+-- arguments are a command or none
 pub no_command : (command : Option Command) (c : Command) → command ≡ Some c → command ≡ None → ⊥
 no_command command c some none = none-some c (sym none ∙ some)
 

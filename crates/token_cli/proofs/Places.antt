@@ -18,6 +18,6 @@ read_listed xs v ys i d e h = subst (λ l. slice_get l i ≡ Some (v (get_or xs 
 pub at_listed : {A B : Type 0} (xs : List A) (v : A → B) (ys : List B) (i : ℕ) (x : A) → map v xs ≡ ys → i < length xs → x ≡ get_or xs i x → slice_get ys i ≡ Some (v x)
 at_listed xs v ys i x e h is = subst (λ z. slice_get ys i ≡ Some (v z)) (sym is) (read_listed xs v ys i x e h)
 
--- behind the listed items there are no more
+-- after the listed items there are no more
 pub all_listed : {A B : Type 0} (xs : List A) (v : A → B) (ys : List B) (i : ℕ) → map v xs ≡ ys → length xs ≤ i → length ys ≤ i
 all_listed xs v ys i e h = omega (arith, h, length-map xs v, ap length e)

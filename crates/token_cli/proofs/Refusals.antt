@@ -32,7 +32,7 @@ pub passed : (es : List Entry) (i : ℕ) (e : Entry) (here whole : Bool) → sli
 passed es i e here whole h is other before =
     ap (λ n. any_refusal (drop n es)) (sym (plus_one i)) ∙ (ap (λ b. b || any_refusal (drop (suc i) es)) (sym other ∙ is) ∙ (sym (from_here es i e h) ∙ before))
 
--- behind the end there is none
+-- after the end there is none
 pub none_behind : (es : List Entry) (i : ℕ) → length es ≤ i → false ≡ any_refusal (drop i es)
 none_behind [] zero h = refl
 none_behind [] (suc i) h = refl

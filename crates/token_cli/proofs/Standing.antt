@@ -44,7 +44,7 @@ no_commit es = record { count = omega arith; built = no_held es; changes = tt }
 pub nothing_yet : (told : Telling) → commits_so_far told [] ≡ line_text (head_line told)
 nothing_yet told = ap (λ l. line_text (head_line told) ++ l) (no_text told 1) ∙ append-nil (line_text (head_line told))
 
--- behind the header
+-- after the header
 pub stands_first : (told : Telling) (es : List EventData) (s : State) (old now : Option (List ℕ)) → s ≡ record { files = map.empty; held = map.empty; commits = 0 } → Appends old now (line_text (head_line told)) → Stands told es 0 s old now
 stands_first told es s old now is written =
     let P : List ℕ → Type 0 = λ l. Appends old now l in

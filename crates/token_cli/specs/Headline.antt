@@ -28,7 +28,7 @@ use Rattle.token_cli.specs.declared.telling.Telling.TheVariants.{Records, Counts
 abbrev pub most_bytes : ℕ
 most_bytes = 67108864
 
--- the command that the words of a command line are, if they are one
+-- the command that the arguments of a command line are, if they are one
 abbrev pub asked_by : {Z : Type 0} → List (String Z) → Option Command
 asked_by words = command_of (map_list string_bytes words)
 

@@ -10,9 +10,9 @@ use command_words::Command;
 use std::alloc::Global;
 use tk_io::{CleanSource, NullSink};
 
-/// Runs the words over a source and sinks that never fail, and writes to nothing. No fault is answered then, so the words
-/// and the bytes that the source has left decide the status, out of memory aside: this follows from the contract of
-/// `run` alone.
+/// Runs the arguments over a source and sinks that never fail, and writes to nothing. No fault is answered then, so the
+/// arguments and the bytes that the source has left decide the status, out of memory aside: this follows from the
+/// contract of `run` alone.
 pub fn run_clean(alloc: Global, words: &[String], src: &mut CleanSource<'_>) -> Status
     ensures read { result ≢ Status.ReadFault }
     ensures write { result ≢ Status.WriteFault }

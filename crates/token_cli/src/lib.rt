@@ -1,4 +1,4 @@
-//! The command line of tokc: its words, its script, its stream and statistics, and the call that does the whole job.
+//! The command line of tokc: its arguments, its script, its stream and statistics, and the call that does the whole job.
 #![tactic(auto)]
 
 mod building;

@@ -1,4 +1,4 @@
-// Running the words of the command line.
+// Running the arguments of the command line.
 ghost use Rattle.std.specs.Prelude.{Some, None, Err, List, ◌⊎◌, ◌≡◌, ◌≢◌, ◌≤◌, ◌<◌, ℕ, Bool, true};
 ghost use Rattle.std.specs.Prelude.{length};
 ghost use Rattle.tk_io.specs.Causes.{Rose};
@@ -71,7 +71,7 @@ fn tell_generated<K: Sink>(alloc: Global, seed: u32, size: u32, out: &mut K) -> 
     write_script(alloc, Command::Gen(seed, size), script.as_slice(), out)
 }
 
-// All that the words ask for, but for the report.
+// All that the arguments ask for, but for the report.
 fn main_job<S: Source, K: Sink>(
     alloc: Global,
     words: &[String],
@@ -98,11 +98,11 @@ fn main_job<S: Source, K: Sink>(
     }
 }
 
-/// Does what the words say, writes the stream or the statistics to `out` and a line about a failure to `err`, and answers
-/// how it ended.
+/// Does what the arguments say, writes the stream or the statistics to `out` and a line about a failure to `err`, and
+/// answers how it ended.
 ///
-/// The words are `build`, `replay` or `stats`, for the script of the source, or `gen SEED SIZE`, for the script that is
-/// made of these two numbers. Commit after commit, the stream has exactly the output files that a build from nothing of
+/// They are `build`, `replay` or `stats`, for the script of the source, or `gen SEED SIZE`, for the script that is made
+/// of these two numbers. Commit after commit, the stream has exactly the output files that a build from nothing of
 /// the files then present would change, and the statistics say how many they are. `build` acts as if every commit were
 /// taken out and one stood at the end; `gen` writes statistics, and reads nothing.
 pub fn run<S: Source, K: Sink, E: Sink>(
@@ -126,7 +126,7 @@ pub fn run<S: Source, K: Sink, E: Sink>(
         → WroteWhole (telling_of c) (events_for c es) refused
         (K.written out.old) (K.written out.new)
         → result ≡ whole_status refused }
-    // The usage is told only of words that are no command, ..
+    // The usage is told only of arguments that are no command, ..
     ensures usage { result ≡ Status.Usage → asked_by words.now ≡ None }
     // .. and of them it is, or memory ran out; nothing is read or written for them.
     ensures words { asked_by words.now ≡ None

@@ -12,7 +12,7 @@ pub enum Status {
     Done,
     /// All was written, and a refusal is held after the last commit.
     Refused,
-    /// The words are none that are known.
+    /// The arguments are none that are known.
     Usage,
     /// The script has no reading.
     BadScript,

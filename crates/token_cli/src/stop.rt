@@ -11,7 +11,7 @@ use tk_io::{Failed, NoMemory, ReadStop};
 /// Why a run ends before all is written.
 #[derive(Clone, Copy, Debug, PartialEq, Eq)]
 pub enum Stop {
-    /// The words are no command.
+    /// The arguments are no command.
     Usage,
     /// The script has no reading; it is refused at this byte.
     BadScript(usize),

@@ -11,7 +11,7 @@ use std::process::Abort;
 use std::test::Fail;
 use tk_io::{CleanSource, MemSink, MemSource};
 
-// Words that stand between blanks.
+// Arguments that stand between blanks.
 fn words_of(alloc: Global, line: &str) -> Result<Vec<String>, Fail> {
     let mut words = Vec::new(alloc);
     for word in line.split(' ') {

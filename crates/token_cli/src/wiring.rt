@@ -1,4 +1,4 @@
-// The program: the words of its command line, its streams, and the number that it ends with.
+// The program: the arguments of its command line, its streams, and the number that it ends with.
 ghost use Rattle.std.specs.Prelude.{◌≡◌};
 ghost use Rattle.std.specs.Process.{exit_status};
 ghost use Rattle.token_cli.specs.Report.{status_number};
@@ -9,7 +9,7 @@ use std::env;
 use std::process::ExitCode;
 use tk_io::{StdSink, StdSource};
 
-// The words after the program's name. Where one of them is no text there are none, which is no known list of words.
+// The arguments. Where one of them is no text there are none, which is no known list of arguments.
 fn words(rt: &HostRuntime) -> Vec<String> {
     let mut words = Vec::new(rt.alloc());
     if let Ok(args) = env::args(rt) {
@@ -22,7 +22,7 @@ fn words(rt: &HostRuntime) -> Vec<String> {
     words
 }
 
-/// Does what the words of the command line say: reads the script from standard input, writes the stream to standard
+/// Does what the arguments say: reads the script from standard input, writes the stream to standard
 /// output and a line about a failure to standard error, and ends with the number of the status.
 pub fn program(rt: &HostRuntime) -> ExitCode
     ensures { (status : StatusData) × (exit_status result ≡ status_number status) }

@@ -1,4 +1,4 @@
-//! Words that are no command and scripts that have no reading, with what is said of them.
+//! Arguments that are no command and scripts that have no reading, with what is said of them.
 
 use super::table::Case;
 use crate::Status;

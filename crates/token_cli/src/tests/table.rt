@@ -2,7 +2,7 @@
 
 use crate::Status;
 
-/// A run without a failing call: the words, the script, and what is written, what is said and how it ends.
+/// A run without a failing call: the arguments, the script, and what is written, what is said and how it ends.
 pub struct Case {
     pub words: &'static str,
     pub script: &'static [u8],
@@ -11,7 +11,7 @@ pub struct Case {
     pub status: Status,
 }
 
-pub static CASES: [Case; 27] = [
+pub static CASES: [Case; 29] = [
     Case {
         words: "build",
         script: br#"tokc-script 1
@@ -275,11 +275,11 @@ done 1
     Case {
         words: "replay",
         script: br#"tokc-script 1
-put tokens.json 102
-{"a":{"$value":"{b}"},"b":{"$value":"{c}"},"c":{"$type":"dimension","$value":{"value":4,"unit":"px"}}}
+put tokens.json 81
+{"a":{"$value":"{b}"},"b":{"$type":"dimension","$value":{"value":4,"unit":"px"}}}
 commit
-put tokens.json 102
-{"a":{"$value":"{b}"},"b":{"$value":"{c}"},"c":{"$type":"dimension","$value":{"value":5,"unit":"px"}}}
+put tokens.json 81
+{"a":{"$value":"{b}"},"b":{"$type":"dimension","$value":{"value":5,"unit":"px"}}}
 commit
 put tokc.toml 14
 prefix = "ds"
@@ -292,92 +292,81 @@ commit
 "#,
         written: r#"tokc-stream 1
 commit 1
-file default/Tokens.swift 148
+file default/Tokens.swift 111
 import UIKit
 
 public enum Tokens {
   public static let a: CGFloat = 4.0
   public static let b: CGFloat = 4.0
-  public static let c: CGFloat = 4.0
 }
 
-file default/tokens.css 56
+file default/tokens.css 39
 :root {
   --a: var(--b);
-  --b: var(--c);
-  --c: 4px;
+  --b: 4px;
 }
 
-file default/tokens.json 210
+file default/tokens.json 141
 {
   "a": {"$type": "dimension", "$value": {"value": 4, "unit": "px"}},
-  "b": {"$type": "dimension", "$value": {"value": 4, "unit": "px"}},
-  "c": {"$type": "dimension", "$value": {"value": 4, "unit": "px"}}
+  "b": {"$type": "dimension", "$value": {"value": 4, "unit": "px"}}
 }
 
-file default/tokens.xml 154
+file default/tokens.xml 124
 <?xml version="1.0" encoding="utf-8"?>
 <resources>
   <dimen name="a">4dp</dimen>
   <dimen name="b">4dp</dimen>
-  <dimen name="c">4dp</dimen>
 </resources>
 
 commit 2
-file default/Tokens.swift 148
+file default/Tokens.swift 111
 import UIKit
 
 public enum Tokens {
   public static let a: CGFloat = 5.0
   public static let b: CGFloat = 5.0
-  public static let c: CGFloat = 5.0
 }
 
-file default/tokens.css 56
+file default/tokens.css 39
 :root {
   --a: var(--b);
-  --b: var(--c);
-  --c: 5px;
+  --b: 5px;
 }
 
-file default/tokens.json 210
+file default/tokens.json 141
 {
   "a": {"$type": "dimension", "$value": {"value": 5, "unit": "px"}},
-  "b": {"$type": "dimension", "$value": {"value": 5, "unit": "px"}},
-  "c": {"$type": "dimension", "$value": {"value": 5, "unit": "px"}}
+  "b": {"$type": "dimension", "$value": {"value": 5, "unit": "px"}}
 }
 
-file default/tokens.xml 154
+file default/tokens.xml 124
 <?xml version="1.0" encoding="utf-8"?>
 <resources>
   <dimen name="a">5dp</dimen>
   <dimen name="b">5dp</dimen>
-  <dimen name="c">5dp</dimen>
 </resources>
 
 commit 3
-file default/Tokens.swift 157
+file default/Tokens.swift 117
 import UIKit
 
 public enum Tokens {
   public static let ds_a: CGFloat = 5.0
   public static let ds_b: CGFloat = 5.0
-  public static let ds_c: CGFloat = 5.0
 }
 
-file default/tokens.css 71
+file default/tokens.css 48
 :root {
   --ds-a: var(--ds-b);
-  --ds-b: var(--ds-c);
-  --ds-c: 5px;
+  --ds-b: 5px;
 }
 
-file default/tokens.xml 163
+file default/tokens.xml 130
 <?xml version="1.0" encoding="utf-8"?>
 <resources>
   <dimen name="ds_a">5dp</dimen>
   <dimen name="ds_b">5dp</dimen>
-  <dimen name="ds_c">5dp</dimen>
 </resources>
 
 commit 4
@@ -474,6 +463,31 @@ ring "#/a/b"
 
 done 1
 "##,
+        said: "",
+        status: Status::Refused,
+    },
+    Case {
+        words: "build",
+        script: br#"tokc-script 1
+put tokens.json 668
+{"a":{"t":{"$type":"number","$value":1}},"b":{"x":{"$extends":"{a}"},"y":{"$extends":"{a}"}},"c":{"x":{"$extends":"{b}"},"y":{"$extends":"{b}"}},"d":{"x":{"$extends":"{c}"},"y":{"$extends":"{c}"}},
+"e":{"x":{"$extends":"{d}"},"y":{"$extends":"{d}"}},"f":{"x":{"$extends":"{e}"},"y":{"$extends":"{e}"}},"g":{"x":{"$extends":"{f}"},"y":{"$extends":"{f}"}},"h":{"x":{"$extends":"{g}"},"y":{"$extends":"{g}"}},
+"i":{"x":{"$extends":"{h}"},"y":{"$extends":"{h}"}},"j":{"x":{"$extends":"{i}"},"y":{"$extends":"{i}"}},"k":{"x":{"$extends":"{j}"},"y":{"$extends":"{j}"}},"l":{"x":{"$extends":"{k}"},"y":{"$extends":"{k}"}},
+"m":{"x":{"$extends":"{l}"},"y":{"$extends":"{l}"}}}
+"#,
+        written: "tokc-stream 1\ncommit 1\nfile default/REFUSED 74\nrule extends-count\nfile tokens.json\nline 1 column 1\nbytes 0 0\ncount 24560\n\ndone 1\n",
+        said: "",
+        status: Status::Refused,
+    },
+    Case {
+        words: "build",
+        script: br#"tokc-script 1
+put tokens.json 440
+{"a":{"x":{"x":{"x":{"x":{"x":{"x":{"x":{"x":{"x":{"x":{"x":{"x":{"x":{"x":{"x":{"x":{"x":{"x":{"x":{"x":{"x":{}}}}}}}}}}}}}}}}}}}}}},
+"b":{"x":{"x":{"x":{"x":{"x":{"x":{"x":{"x":{"x":{"x":{"x":{"x":{"x":{"x":{"x":{"x":{"x":{"x":{"x":{"x":{"x":{"$extends":"{a}"}}}}}}}}}}}}}}}}}}}}}},
+"c":{"x":{"x":{"x":{"x":{"x":{"x":{"x":{"x":{"x":{"x":{"x":{"x":{"x":{"x":{"x":{"x":{"x":{"x":{"x":{"x":{"x":{"x":{"$extends":"{b}"}}}}}}}}}}}}}}}}}}}}}}}}
+"#,
+        written: "tokc-stream 1\ncommit 1\nfile default/REFUSED 72\nrule extends-height\nfile tokens.json\nline 1 column 1\nbytes 0 0\ncount 65\n\ndone 1\n",
         said: "",
         status: Status::Refused,
     },
