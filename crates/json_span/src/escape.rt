@@ -37,7 +37,7 @@ fn unit_at(text: &[u8], at: usize) -> u32
         → code_unit_of (get_or text.now at 0) (get_or text.now (at + 1) 0)
         (get_or text.now (at + 2) 0) (get_or text.now (at + 3) 0) ≡ Some n
         → result ≡ n }
-    ensures small { result < 65536 }
+    ensures small { result < 2 ^ 16 }
 {
     let first = hex_value(text[at]);
     let second = hex_value(text[at + 1]);

@@ -5,6 +5,7 @@ ghost use Rattle.std.specs.Prelude.{◌≡◌, ◌≤◌, ◌<◌, ◌++◌, [],
 ghost use Rattle.std.specs.Prelude.{IfOk, IfErr};
 ghost use Rattle.grammar.specs.Grammar.{named, seq};
 ghost use Rattle.grammar.specs.Predict.{begins, first};
+ghost use Rattle.tk_io.specs.Characters.{colon_sign};
 ghost use Rattle.json_span.specs.Grammar.{value, ws, one};
 ghost use Rattle.json_span.specs.Steered.{ahead, symbol, before_of, more_of, close_of, list_of};
 ghost use Rattle.json_span.specs.inner.Scan.{ReadsTo, Scans, rule_of};
@@ -55,7 +56,7 @@ pub(crate) fn before_end(text: &str, at: usize, bracket: Bracket) -> Result<usiz
 /// The end of the colon after a name, and of the blanks around it.
 pub(crate) fn colon_end(text: &str, at: usize) -> Result<usize, usize>
     requires { at ≤ length text.now }
-    ensures { Scans (seq ws (symbol 58)) text.now at result }
+    ensures { Scans (seq ws (symbol colon_sign)) text.now at result }
 {
     let colon = blanks_end(text, at);
     let end = row_end(text, colon, &[Class::One(b':')])?;
