@@ -1,7 +1,10 @@
 -- From the numbered groups to the tree: its breaks, and that it has none.
 use Rattle.std.proofs.Common.{◌≡◌, ℕ, ◌<◌, min, List, [], get_or, refl, sym, ap, ◌∙◌, subst, length, arith, All, Vec}
-use Rattle.std.proofs.lemmas.List.{length-map}
+use Rattle.std.proofs.lemmas.List.{get_or_read, length-map}
 use Rattle.std.specs.declared.alloc.Global.{Global}
+use Rattle.ring.specs.declared.search.Found.{Found}
+use Rattle.ring.specs.declared.search.Found.TheVariants.{Ring}
+use Rattle.ring.specs.Answer.{IfRing}
 use Rattle.ring.specs.Graph.{needs_in, IsGraph}
 use Rattle.ring.specs.Routes.{IsRing, HasNoRing}
 use Rattle.ring.specs.Values.{Comes, IsTotal}
@@ -68,11 +71,21 @@ module _ (nodes : List GroupAt) (n : IsNumbering nodes) where
     ring_break ring NoMemory r all h = tt
 
     -- the total of the root's members is its count
-    pub root_count : (own table : List ℕ) (shown : ℕ) → own ≡ own_counts nodes → shown ≡ get_or table 0 0 → IsTotal (needs_in lists) own 0 (get_or table 0 0)
+    pub root_count : (own table : List ℕ) (shown : ℕ) → own ≡ own_counts nodes → length table ≡ length lists → shown ≡ get_or table 0 shown → IsTotal (needs_in lists) own 0 (get_or table 0 0)
         → (k : ℕ) × Counts (group_in nodes 0) [] k × (shown ≡ min k most_told)
-    root_count own table shown e read t =
+    root_count own table shown e many read t =
         let u : IsTotal (needs_in lists) (own_counts nodes) 0 (get_or table 0 0) = subst (λ (xs : List ℕ). IsTotal (needs_in lists) xs 0 (get_or table 0 0)) e t in
-        (u.0, value count_of u.0 (counts_are nodes (needs_in lists) 0 u.0 u.1), read ∙ u.2)
+        (u.0, value count_of u.0 (counts_are nodes (needs_in lists) 0 u.0 u.1), get_or_read table 0 shown (omega (arith, needs_some, many)) read 0 ∙ u.2)
+
+-- the lists of nodes are those of the groups that the nodes show
+pub as_many : (ns : List Node) (lists : List (Vec ℕ Global)) → length lists ≡ length ns → length lists ≡ length (nodes_view ns)
+as_many ns lists e = e ∙ sym (length-map ns node_view)
+
+-- the ring that was found, of numbers of nodes
+pub found_ring : (ns : List Node) (lists : List (Vec ℕ Global)) (f : Found) (ring : Vec ℕ Global) → length lists ≡ length ns → f ≡ Ring ring
+    → IfRing f (IsRing (needs_in lists) 0) → IfRing f (All (λ v. v < length lists)) → IsRing (needs_in lists) 0 ring.items × All (λ v. v < length (nodes_view ns)) ring.items
+found_ring ns lists f ring e is r all =
+    (subst (λ (x : Found). IfRing x (IsRing (needs_in lists) 0)) is r, subst (λ (n : ℕ). All (λ v. v < n) ring.items) (as_many ns lists e) (subst (λ (x : Found). IfRing x (All (λ v. v < length lists))) is all))
 
 -- the numbers of the paths of nodes
 pub places_of : (ns : List Node) (places : Places) → ArePlaces (nodes_view ns) (length ns) places → ArePlaces (nodes_view ns) (length (nodes_view ns)) places

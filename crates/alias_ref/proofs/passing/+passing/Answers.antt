@@ -1,4 +1,4 @@
-use Rattle.std.proofs.Common.{◌≡◌, ℕ, List, ◌+◌, ◌∷◌, ◌++◌, [], length, drop, Some, None, arith, refl, sym, ap, ap₂, ◌∙◌, subst, length-append}
+use Rattle.std.proofs.Common.{rules, ◌≡◌, ℕ, List, ◌+◌, ◌∷◌, ◌++◌, [], length, drop, Some, None, arith, refl, sym, ap, ap₂, ◌∙◌, subst, length-append}
 use Rattle.std.specs.Prelude.{IfOk}
 use Rattle.std.specs.FinMap as map
 use Rattle.std.proofs.lemmas.Result.{err_from_is_err_and}
@@ -99,8 +99,8 @@ follow-loop-step-preserved t c =
     let turn = turn_on T settle home (way_of T settle home c.args.named.now.token c.args.named.now.trail) here s (drop (i + 1) ss) inv.0 inv.1 so_far end.place ends written in
     (xs, clean_append T inv.0 (settle here).seen inv.1 seen, ap (λ x. after_visits xs (steps_from T settle home x (drop (i + 1) ss))) place ∙ turn, there, same_then c.args.trace.now c.loop-step.trace c.settle.new.trace inv.4 k.branch)
 
-pub follow-returns-clause-seen : goal.follow-returns-clause-seen
-follow-returns-clause-seen t c =
+pub follow-returns : goal.follow-returns
+follow-returns t c =
     let T = written_in c.args.flat.now in
     let settle = settle_by T (passed T c.args.trace.now.places.items) in
     let home = c.args.home.now in
@@ -108,18 +108,12 @@ follow-returns-clause-seen t c =
     let ss = c.as_slice-steps.result.now in
     let so_far = ap (λ xs. after_visits inv.0 (steps_from T settle home c.loop-step.spot.place xs)) (sym (drop_all ss c.loop-step.step-index (λ k. omega (arith, k)))) ∙ inv.2 in
     let done = turns_done T settle home (way_of T settle home c.args.named.now.token c.args.named.now.trail) c.loop-step.spot.place inv.0 so_far in
-    subst (λ w. Clean T c.args.trace.now.visits c.loop-step.trace.visits w.seen) (sym done) inv.1
-
-pub follow-returns-clause-ends : goal.follow-returns-clause-ends
-follow-returns-clause-ends t c =
-    let T = written_in c.args.flat.now in
-    let settle = settle_by T (passed T c.args.trace.now.places.items) in
-    let home = c.args.home.now in
-    let inv = c.loop-step.invariant in
-    let ss = c.as_slice-steps.result.now in
-    let so_far = ap (λ xs. after_visits inv.0 (steps_from T settle home c.loop-step.spot.place xs)) (sym (drop_all ss c.loop-step.step-index (λ k. omega (arith, k)))) ∙ inv.2 in
-    let done = turns_done T settle home (way_of T settle home c.args.named.now.token c.args.named.now.trail) c.loop-step.spot.place inv.0 so_far in
-    ap (λ w. w.ends) done
+    record {
+      seen = subst (λ w. Clean T c.args.trace.now.visits c.loop-step.trace.visits w.seen) (sym done) inv.1;
+      ends = ap (λ w. w.ends) done;
+      found = inv.3;
+      branch = inv.4;
+    }
 
 pub pass-returns-in_err-enter-clause-seen : goal.pass-returns-in_err-enter-clause-seen
 pass-returns-in_err-enter-clause-seen t c =
@@ -155,26 +149,21 @@ pass-returns-in_err-end-clause-seen t c =
     let own = e.broken flat T c.requires.starts (spot_start flat spot c.requires.at) is in
     rw (p.1, p.2) (pass_fault T c.args.trace.now.visits c.args.trace.now.places.items c.enter.new.self.places.items spot.place (content_view spot.content) is own e.places e.counted c.in_err-end.field-0.0 c.in_err-end.ensures.seen)
 
-pub pass-returns-clause-seen : goal.pass-returns-clause-seen
-pass-returns-clause-seen t c =
+pub pass-returns : goal.pass-returns
+pass-returns t c =
     let T = written_in c.args.flat.now in
     let flat = c.args.flat.now in
     let spot = c.args.spot in
     let is = spot_written flat spot c.requires.at in
     let e = c.in_ok-enter.ensures in
     let own = e.broken flat T c.requires.starts (spot_start flat spot c.requires.at) is in
-    subst (λ k. Clean T c.args.trace.now.visits k (passed T c.args.trace.now.places.items spot.place).seen) (sym c.leave.ensures.visits)
-    (pass_clean T c.args.trace.now.visits c.args.trace.now.places.items c.enter.new.self.places.items spot.place (content_view spot.content) is own e.places e.counted c.in_ok-end.ensures.seen)
-
-pub pass-returns-clause-ends : goal.pass-returns-clause-ends
-pass-returns-clause-ends t c =
-    let T = written_in c.args.flat.now in
-    let flat = c.args.flat.now in
-    let spot = c.args.spot in
-    let is = spot_written flat spot c.requires.at in
-    let e = c.in_ok-enter.ensures in
-    let own = e.broken flat T c.requires.starts (spot_start flat spot c.requires.at) is in
-    pass_ends T c.args.trace.now.visits c.args.trace.now.places.items c.enter.new.self.places.items spot.place (content_view spot.content) is own e.places e.counted c.in_ok-end.end.place c.in_ok-end.ensures.ends
+    record {
+      seen = subst (λ k. Clean T c.args.trace.now.visits k (passed T c.args.trace.now.places.items spot.place).seen) (sym c.leave.ensures.visits)
+          (pass_clean T c.args.trace.now.visits c.args.trace.now.places.items c.enter.new.self.places.items spot.place (content_view spot.content) is own e.places e.counted c.in_ok-end.ensures.seen);
+      ends = pass_ends T c.args.trace.now.visits c.args.trace.now.places.items c.enter.new.self.places.items spot.place (content_view spot.content) is own e.places e.counted c.in_ok-end.end.place c.in_ok-end.ensures.ends;
+      found = c.in_ok-end.ensures.found;
+      branch = search rules;
+    }
 
 pub pass_on-returns-in_err-target-clause-seen : goal.pass_on-returns-in_err-target-clause-seen
 pass_on-returns-in_err-target-clause-seen t c =
@@ -219,34 +208,28 @@ pass_on-returns t c =
       branch = (refl {A = List Place}, refl {A = List ℕ});
     }
 
-pub settle-returns-then-is_reference-clause-seen : goal.settle-returns-then-is_reference-clause-seen
-settle-returns-then-is_reference-clause-seen t c =
+pub settle-returns-then-is_reference : goal.settle-returns-then-is_reference
+settle-returns-then-is_reference t c =
     let T = written_in c.args.flat.now in
     let pass = passed T c.args.trace.now.places.items in
     let is = spot_written c.args.flat.now c.args.spot c.requires.at in
-    let refers = ap is_reference is ∙ sym c.is_reference.ensures ∙ c.if-is_reference.true in
-    subst (λ w. Sees T w.seen c.args.trace.now.visits c.pass.new.trace.visits c.pass.result) (sym (settle_passes T pass c.args.spot.place refers)) c.pass.ensures.seen
+    let passes = settle_passes T pass c.args.spot.place (ap is_reference is ∙ sym c.is_reference.ensures ∙ c.if-is_reference.true) in
+    record {
+      seen = subst (λ w. Sees T w.seen c.args.trace.now.visits c.pass.new.trace.visits c.pass.result) (sym passes) c.pass.ensures.seen;
+      ends = subst (λ w. IfOk c.pass.result (λ e. w.ends ≡ Some e.place)) (sym passes) c.pass.ensures.ends;
+      found = c.pass.ensures.found;
+      branch = c.pass.ensures.branch;
+    }
 
-pub settle-returns-then-is_reference-clause-ends : goal.settle-returns-then-is_reference-clause-ends
-settle-returns-then-is_reference-clause-ends t c =
+pub settle-returns-else-is_reference : goal.settle-returns-else-is_reference
+settle-returns-else-is_reference t c =
     let T = written_in c.args.flat.now in
     let pass = passed T c.args.trace.now.places.items in
     let is = spot_written c.args.flat.now c.args.spot c.requires.at in
-    let refers = ap is_reference is ∙ sym c.is_reference.ensures ∙ c.if-is_reference.true in
-    subst (λ w. IfOk c.pass.result (λ e. w.ends ≡ Some e.place)) (sym (settle_passes T pass c.args.spot.place refers)) c.pass.ensures.ends
-
-pub settle-returns-else-is_reference-clause-seen : goal.settle-returns-else-is_reference-clause-seen
-settle-returns-else-is_reference-clause-seen t c =
-    let T = written_in c.args.flat.now in
-    let pass = passed T c.args.trace.now.places.items in
-    let is = spot_written c.args.flat.now c.args.spot c.requires.at in
-    let stays = ap is_reference is ∙ sym c.is_reference.ensures ∙ c.if-is_reference.false in
-    subst (λ w. Clean T c.args.trace.now.visits c.args.trace.now.visits w.seen) (sym (settle_stays T pass c.args.spot.place stays)) (clean_nil T c.args.trace.now.visits)
-
-pub settle-returns-else-is_reference-clause-ends : goal.settle-returns-else-is_reference-clause-ends
-settle-returns-else-is_reference-clause-ends t c =
-    let T = written_in c.args.flat.now in
-    let pass = passed T c.args.trace.now.places.items in
-    let is = spot_written c.args.flat.now c.args.spot c.requires.at in
-    let stays = ap is_reference is ∙ sym c.is_reference.ensures ∙ c.if-is_reference.false in
-    ap (λ w. w.ends) (settle_stays T pass c.args.spot.place stays)
+    let stays = settle_stays T pass c.args.spot.place (ap is_reference is ∙ sym c.is_reference.ensures ∙ c.if-is_reference.false) in
+    record {
+      seen = subst (λ w. Clean T c.args.trace.now.visits c.args.trace.now.visits w.seen) (sym stays) (clean_nil T c.args.trace.now.visits);
+      ends = ap (λ w. w.ends) stays;
+      found = c.requires.at;
+      branch = (refl {A = List Place}, refl {A = List ℕ});
+    }

@@ -244,9 +244,10 @@ walk_on-returns-in_err-found-in-Refers-clause-seen t c =
     rw (p.1, p.2) (subst (λ w. IsFault f (first_break T n (walk_written T settle walk spot.place (Some w)))) (sym view)
     (target_then_fault T f settle walk spot.place q token trail k.ends k.seen fault))
 
-pub walk_on-returns-in-Refers-clause-seen : goal.walk_on-returns-in-Refers-clause-seen
-walk_on-returns-in-Refers-clause-seen t c =
+pub walk_on-returns-in-Refers : goal.walk_on-returns-in-Refers
+walk_on-returns-in-Refers t c =
     let T = written_in c.args.flat.now in
+    let flat = c.args.flat.now in
     let spot = c.args.spot in
     let branch = c.args.trace.now.places.items in
     let n = c.args.trace.now.visits in
@@ -255,61 +256,19 @@ walk_on-returns-in-Refers-clause-seen t c =
     let token = c.in-Refers.named.token in
     let trail = c.in-Refers.named.trail in
     let view = ap content_view c.in-Refers.is in
+    let is = spot_written flat spot c.requires.at ∙ ap (λ w. Some w) view in
     let k = c.in_ok-target-in-Refers.ensures in
     let q = c.in_ok-target-in-Refers.target.place in
     let found = c.in_ok-found-in-Refers in
+    let refer = c.in_ok-refer-in-Refers in
     let clean = subst (λ b. Clean T c.follow.new.trace.visits c.walk.new.trace.visits (walked T b q)) k.branch.0 found.ensures.seen in
-    subst (λ w. Clean T n c.walk.new.trace.visits (walk_written T settle walk spot.place (Some w))) (sym view) (target_clean T settle walk spot.place q token trail k.ends k.seen clean)
-
-pub walk_on-returns-in-Refers-clause-means : goal.walk_on-returns-in-Refers-clause-means
-walk_on-returns-in-Refers-clause-means t c =
-    let T = written_in c.args.flat.now in
-    let flat = c.args.flat.now in
-    let spot = c.args.spot in
-    let branch = c.args.trace.now.places.items in
-    let token = c.in-Refers.named.token in
-    let trail = c.in-Refers.named.trail in
-    let view = ap content_view c.in-Refers.is in
-    let is = spot_written flat spot c.requires.at ∙ ap (λ w. Some w) view in
-    let k = c.in_ok-target-in-Refers.ensures in
-    let q = c.in_ok-target-in-Refers.target.place in
-    let found = c.in_ok-found-in-Refers in
-    let refer = c.in_ok-refer-in-Refers in
-    subst (λ v. Means T spot.place (plain_view v)) (sym refer.ensures.plain) (means_target (lead_by T branch spot.place q token trail is k.ends) found.ensures.means)
-
-pub walk_on-returns-in-Refers-clause-kind : goal.walk_on-returns-in-Refers-clause-kind
-walk_on-returns-in-Refers-clause-kind t c = λ at.
-    let T = written_in c.args.flat.now in
-    let flat = c.args.flat.now in
-    let spot = c.args.spot in
-    let branch = c.args.trace.now.places.items in
-    let settle = settle_by T (passed T branch) in
-    let token = c.in-Refers.named.token in
-    let trail = c.in-Refers.named.trail in
-    let view = ap content_view c.in-Refers.is in
-    let is = spot_written flat spot c.requires.at ∙ ap (λ w. Some w) view in
-    let k = c.in_ok-target-in-Refers.ensures in
-    let q = c.in_ok-target-in-Refers.target.place in
-    let found = c.in_ok-found-in-Refers in
-    let refer = c.in_ok-refer-in-Refers in
     let own = own_is flat spot.place spot.token.now c.requires.at.value c.requires.at.stands in
     let group = group_is flat spot.place spot.token.now c.requires.at.value c.requires.at.stands in
-    refers_kind T (own_in flat) (group_in flat) settle spot.place q token trail found.found.kind refer.field-0.kind is k.ends found.ensures.kind
-    (refer.ensures.kind ∙ ap₂ (λ x y. either x (either (lent found.found.kind trail) y)) (sym own) (sym group)) at
-
-pub walk_on-returns-in-Refers-clause-links : goal.walk_on-returns-in-Refers-clause-links
-walk_on-returns-in-Refers-clause-links t c =
-    let T = written_in c.args.flat.now in
-    let flat = c.args.flat.now in
-    let spot = c.args.spot in
-    let branch = c.args.trace.now.places.items in
-    let settle = settle_by T (passed T branch) in
-    let token = c.in-Refers.named.token in
-    let trail = c.in-Refers.named.trail in
-    let view = ap content_view c.in-Refers.is in
-    let is = spot_written flat spot c.requires.at ∙ ap (λ w. Some w) view in
-    let k = c.in_ok-target-in-Refers.ensures in
-    let q = c.in_ok-target-in-Refers.target.place in
-    let found = c.in_ok-found-in-Refers in
-    let refer = c.in_ok-refer-in-Refers in
-    refers_grown T (own_in flat) (group_in flat) c.args.own settle spot.place q token trail found.found.kind c.args.links.now c.walk.new.links c.refer.new.links is k.ends found.ensures.kind found.ensures.links refer.ensures.links
+    record {
+      seen = subst (λ w. Clean T n c.walk.new.trace.visits (walk_written T settle walk spot.place (Some w))) (sym view) (target_clean T settle walk spot.place q token trail k.ends k.seen clean);
+      means = subst (λ v. Means T spot.place (plain_view v)) (sym refer.ensures.plain) (means_target (lead_by T branch spot.place q token trail is k.ends) found.ensures.means);
+      kind = λ at. refers_kind T (own_in flat) (group_in flat) settle spot.place q token trail found.found.kind refer.field-0.kind is k.ends found.ensures.kind
+          (refer.ensures.kind ∙ ap₂ (λ x y. either x (either (lent found.found.kind trail) y)) (sym own) (sym group)) at;
+      links = refers_grown T (own_in flat) (group_in flat) c.args.own settle spot.place q token trail found.found.kind c.args.links.now c.walk.new.links c.refer.new.links is k.ends found.ensures.kind found.ensures.links refer.ensures.links;
+      branch = same_then c.args.trace.now c.follow.new.trace c.walk.new.trace k.branch found.ensures.branch;
+    }

@@ -1,1 +1,0 @@
-use Rattle.group_inherit.proofs.checked.counted_order.Goals as goal
