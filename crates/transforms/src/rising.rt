@@ -40,16 +40,6 @@ impl<'s> Model for RisingNames<'s> {
         T (is_sorted text_cmp (entries_view (λ k. k) (λ v. v) m.entries.items)) };
 }
 
-// How two names are ordered. Texts are compared by words, and bytes one by one, so names that are texts go as such.
-fn order(a: &[u8], b: &[u8]) -> Ordering
-    ensures { result ≡ text_cmp a.now b.now }
-{
-    match (str::from_utf8(a), str::from_utf8(b)) {
-        (Ok(a), Ok(b)) => a.cmp(b),
-        _ => a.cmp(b),
-    }
-}
-
 // Where the name stands among entries whose names rise, or where it belongs.
 fn place_of(entries: &[(Bytes, Path<'_>)], name: &[u8]) -> Result<usize, usize>
     requires { T (is_sorted text_cmp (entries_view (λ k. k) (λ v. v) entries.now)) }
@@ -58,13 +48,13 @@ fn place_of(entries: &[(Bytes, Path<'_>)], name: &[u8]) -> Result<usize, usize>
     let Some(last) = entries.last() else {
         return Err(0);
     };
-    if order(last.0.as_slice(), name).is_lt() {
+    if last.0.as_slice().cmp(name).is_lt() {
         return Err(entries.len());
     }
     entries.binary_search_by(
         |entry: &(Bytes, Path<'_>)| -> Ordering
             ensures { result ≡ text_cmp entry.now.0 name.entry.now }
-        { order(entry.0.as_slice(), name) },
+        { entry.0.as_slice().cmp(name) },
     )
 }
 

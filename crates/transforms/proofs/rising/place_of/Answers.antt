@@ -7,7 +7,7 @@ use Rattle.transforms.proofs.rising.place_of.Goals as goal
 
 pub returns-then-is_lt : goal.returns-then-is_lt
 returns-then-is_lt c =
-    let below = ap (λ s. text_cmp s c.args.name.now) (sym c.as_slice.ensures) ∙ (sym c.order.ensures ∙ is_less c.order.result (sym c.if-is_lt.ensures)) in
+    let below = ap (λ s. text_cmp s c.args.name.now) (sym c.as_slice.ensures) ∙ (sym c.cmp.ensures ∙ is_less c.cmp.result (sym c.if-is_lt.ensures)) in
     (omega (arith), above_last nat_list_cmp_total (λ e. e.0) (λ e. e.1) c.args.name.now c.args.entries.now c.in-Some.last.now c.requires c.in-Some.ensures.value below)
 
 pub returns : goal.returns
