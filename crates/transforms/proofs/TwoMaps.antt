@@ -7,8 +7,7 @@ use Rattle.std.specs.Option.{option_or}
 use Rattle.std.specs.Ordering.{eq_by_cmp, is_eq}
 use Rattle.tk_io.specs.Order.{text_cmp}
 use Rattle.tk_io.proofs.TextMaps.{text_cmp-IsAntisymmetric}
-use Rattle.transforms.specs.Clash.{Taken}
-use Rattle.transforms.specs.inner.NamesOfBoth.{names_of_both}
+use Rattle.transforms.specs.Clash.{Taken, names_of_both}
 
 module _ {X : Type 0} where
   first_of_two : (b : Bool) (x : X) (f s : Option X) → cond b (Some x) (option_or f s) ≡ option_or (cond b (Some x) f) s

@@ -1,5 +1,5 @@
 pub mod Joined
-pub mod NamesOfBoth
+pub mod Rising
 pub mod Growing
 pub mod Elsewhere
 pub mod Unread

@@ -28,7 +28,7 @@ impl<'s> Model for Clash<'s> {
     ghost use Rattle.std.specs.FinMap as map;
     ghost use Rattle.std.specs.Coded.{coded_list, coded_ℕ};
     ghost use Rattle.tk_io.specs.Order.{text_cmp};
-    ghost use Rattle.transforms.specs.inner.NamesOfBoth.{names_of_both};
+    ghost use Rattle.transforms.specs.Clash.{names_of_both};
 
     ghost Value = { map.FinMap text_cmp (List (List ℕ)) };
 

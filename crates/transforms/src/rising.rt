@@ -7,7 +7,7 @@ ghost use Rattle.std.specs.Option.{option_copied};
 ghost use Rattle.tk_io.specs.Order.{text_cmp};
 ghost use Rattle.tk_io.specs.Search.{IsKeyPlace};
 ghost use Rattle.tk_io.specs.View.{entries_view};
-ghost use Rattle.transforms.specs.inner.NamesOfBoth.{IsPut};
+ghost use Rattle.transforms.specs.inner.Rising.{IsPut};
 
 use name_path::Path;
 use std::alloc::Global;

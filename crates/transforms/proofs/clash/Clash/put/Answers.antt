@@ -2,7 +2,8 @@ use Rattle.std.proofs.Common.{ap, ap₂, subst, ◌∙◌}
 use Rattle.std.specs.Cmp.Lexicographic.{nat_list_cmp_total}
 use Rattle.std.specs.FinMap as map
 use Rattle.tk_io.proofs.MapViews.{at_insert}
-use Rattle.transforms.specs.inner.NamesOfBoth.{names_of_both, IsPut}
+use Rattle.transforms.specs.Clash.{names_of_both}
+use Rattle.transforms.specs.inner.Rising.{IsPut}
 use Rattle.transforms.proofs.TwoMaps.{put_in_first, put_in_second}
 use Rattle.transforms.proofs.clash.Clash.put.Goals as goal
 

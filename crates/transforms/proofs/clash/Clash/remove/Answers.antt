@@ -2,7 +2,7 @@ use Rattle.std.proofs.Common.{ap, ap₂, ◌∙◌}
 use Rattle.std.specs.Cmp.Lexicographic.{nat_list_cmp_total}
 use Rattle.std.specs.FinMap as map
 use Rattle.tk_io.proofs.MapViews.{at_remove}
-use Rattle.transforms.specs.inner.NamesOfBoth.{names_of_both}
+use Rattle.transforms.specs.Clash.{names_of_both}
 use Rattle.transforms.proofs.TwoMaps.{removed_from_both}
 use Rattle.transforms.proofs.clash.Clash.remove.Goals as goal
 
