@@ -143,31 +143,43 @@ fn sheets_are_framed(rt: HostRuntime) -> Result<(), Fail> {
     Ok(())
 }
 
-fn is_at(answer: &Option<Path<'_>>, names: &[&str]) -> bool {
+/// Tokens that are added one after another: path, names, and the names of the path that is answered, if one is.
+const TOKENS: [(&str, &[&str], &[&str]); 5] = [
+    ("a", &["x", "y"], &[]),
+    ("a.b", &["z"], &[]),
+    ("b", &["w", "z", "y"], &["a", "b"]),
+    // Nothing was added of the token before; this name is before others.
+    ("c", &["w"], &[]),
+    ("d", &["zz", "w"], &["c"]),
+];
+
+fn is_answered(answer: &Option<Path<'_>>, wanted: &[&str]) -> bool {
     match answer {
         Some(path) => path
             .as_slice()
             .iter()
             .map(|name| name.as_str())
-            .eq(names.iter().copied()),
-        None => false,
+            .eq(wanted.iter().copied()),
+        None => wanted.is_empty(),
     }
+}
+
+/// Whether a row's token has the row's answer.
+fn answers<'s>(
+    alloc: Global,
+    clash: &mut Clash<'s>,
+    row: &(&'s str, &'static [&'static str], &'static [&'static str]),
+) -> Result<bool, NoMemory> {
+    let answer = clash.add(&path(alloc, row.0)?, &names(alloc, row.1)?)?;
+    Ok(is_answered(&answer, row.2))
 }
 
 #[test]
 fn clashes_name_the_first(rt: HostRuntime) -> Result<(), Fail> {
-    let alloc = rt.alloc();
-    let mut clash = Clash::new(alloc);
-    let first = clash.add(&path(alloc, "a")?, &names(alloc, &["x", "y"])?)?;
-    assert!(rt; first.is_none());
-    let second = clash.add(&path(alloc, "a.b")?, &names(alloc, &["z"])?)?;
-    assert!(rt; second.is_none());
-    let both = clash.add(&path(alloc, "b")?, &names(alloc, &["w", "z", "y"])?)?;
-    assert!(rt; is_at(&both, &["a", "b"]));
-    let not_added = clash.add(&path(alloc, "c")?, &names(alloc, &["w"])?)?;
-    assert!(rt; not_added.is_none());
-    let out_of_order = clash.add(&path(alloc, "d")?, &names(alloc, &["zz", "w"])?)?;
-    assert!(rt; is_at(&out_of_order, &["c"]));
+    let mut clash = Clash::new(rt.alloc());
+    for row in &TOKENS {
+        assert!(rt; answers(rt.alloc(), &mut clash, row)?, "{}", row.0);
+    }
     Ok(())
 }
 
