@@ -8,6 +8,8 @@ pub mod Places
 pub mod Targets
 mod Children
 mod Groups
+mod Listed
+mod NamesStand
 mod OneAnswer
 mod Order
 mod ShapesOfSlices

@@ -12,7 +12,7 @@ use Rattle.name_path.proofs.Spellings.{names_plain}
 use Rattle.token_tree.specs.Texts.{is_name, read_step, pointer_steps, curly_names, group_named}
 use Rattle.token_tree.proofs.Names.{and_left, and_right, and_both, same_text, text_same, names_test, test_names}
 
-is_byte : (b n : ℕ) → (b == n) ≡ true → b ≡ n
+pub is_byte : (b n : ℕ) → (b == n) ≡ true → b ≡ n
 is_byte b n e = grind (arith, nat_tests)
 
 -- a byte that begins no escape stands for itself

@@ -1,2 +1,4 @@
 pub mod Lists
+pub mod Names
+pub mod Listed
 pub mod Outcomes

@@ -1,10 +1,11 @@
 //! Reading groups.
 
-ghost use Rattle.std.specs.Prelude.{◌≡◌, [], OnOk, IfOk, IfErr};
+ghost use Rattle.std.specs.Prelude.{◌≡◌, [], OnOk, IfOk, IfErr, option_map};
 ghost use Rattle.json_span.specs.View.{ref_view, field_view, fields_view};
 ghost use Rattle.token_tree.specs.Answer.{TellsFirst};
 ghost use Rattle.token_tree.specs.Promise.{StandsIn};
 ghost use Rattle.token_tree.specs.Shape.{child_breaks, root_breaks, reserved_breaks};
+ghost use Rattle.token_tree.specs.inner.Listed.{AreListed};
 ghost use Rattle.token_tree.specs.inner.Outcomes.{EachStands, NamesDiffer};
 ghost use Rattle.token_tree.specs.inner.Outcomes.{AreChildren, IsChildIn, IsChildOf};
 ghost use Rattle.token_tree.specs.inner.Outcomes.{IsExtendsOf, IsGroupOf};
@@ -12,7 +13,8 @@ ghost use Rattle.token_tree.specs.inner.Outcomes.{entries_breaks, member_breaks}
 
 use crate::entries::push_some;
 use crate::fault::{Rule, ShapeFault};
-use crate::properties::{are_token, has_group_form, is_name, is_reserved, target_in};
+use crate::listed_members::ListedMembers;
+use crate::properties::{has_group_form, is_name, is_reserved, target_in};
 use crate::token::{read_token, said_deprecated, said_kind};
 use crate::tree::{Child, Extends, Group, Member, Members};
 use json_span::{Field, Fields, NodeRef};
@@ -23,11 +25,11 @@ use tk_io::NoMemory;
 fn extends_of<'s>(
     alloc: Global,
     file: &'s str,
-    fields: &Fields<'_, 's>,
+    found: Option<NodeRef<'_, 's>>,
 ) -> Result<Option<Extends<'s>>, NoMemory>
-    ensures { IfOk result (IsExtendsOf file.entry.now (fields_view fields.now)) }
+    ensures { IfOk result (IsExtendsOf file.entry.now (option_map ref_view found.entry)) }
 {
-    let Some(node) = fields.get("$extends") else {
+    let Some(node) = found else {
         return Ok(None);
     };
     let Some(target) = target_in(alloc, node)? else {
@@ -56,10 +58,11 @@ fn read_root<'s>(
     let Some(fields) = node.as_object() else {
         return Err(ShapeFault::Broken(Rule::RootToken, node.start(), node.end()));
     };
-    if !are_token(&fields) {
+    let listed = ListedMembers::among(alloc, text, &fields)?;
+    if !listed.are_token() {
         return Err(ShapeFault::Broken(Rule::RootToken, node.start(), node.end()));
     }
-    let def = read_token(alloc, file, text, node, &fields)?;
+    let def = read_token(alloc, file, text, node, &fields, &listed)?;
     Ok(Child::Token(def))
 }
 
@@ -83,17 +86,19 @@ pub(crate) fn read_group<'s>(
     file: &'s str,
     text: &'s str,
     fields: &Fields<'_, 's>,
+    listed: &ListedMembers<'_, 's>,
 ) -> Result<Group<'s>, ShapeFault>
     requires stands { EachStands text.now (fields_view fields.now) }
     requires differ { NamesDiffer (fields_view fields.now) }
+    requires listed { AreListed listed.now (fields_view fields.now) }
     ensures sound { OnOk result (entries_breaks (fields_view fields.now) ≡ []) }
     ensures ok { IfOk result (IsGroupOf file.entry.now text.entry.now (fields_view fields.now)) }
     ensures broken { IfErr result (TellsFirst (entries_breaks (fields_view fields.now))) }
 {
     let members = read_members(alloc, file, text, fields)?;
-    let kind = said_kind(alloc, fields)?;
-    let deprecated = said_deprecated(alloc, fields)?;
-    let extends = extends_of(alloc, file, fields)?;
+    let kind = said_kind(alloc, listed.kind)?;
+    let deprecated = said_deprecated(alloc, listed.deprecated)?;
+    let extends = extends_of(alloc, file, listed.extends)?;
     Ok(Group {
         kind,
         deprecated,
@@ -170,11 +175,12 @@ fn read_child<'s>(
     let Some(fields) = node.as_object() else {
         return Err(ShapeFault::Broken(Rule::Member, node.start(), node.end()));
     };
-    if are_token(&fields) {
-        let def = read_token(alloc, file, text, node, &fields)?;
+    let listed = ListedMembers::among(alloc, text, &fields)?;
+    if listed.are_token() {
+        let def = read_token(alloc, file, text, node, &fields, &listed)?;
         return Ok(Child::Token(def));
     }
-    let group = read_group(alloc, file, text, &fields)?;
+    let group = read_group(alloc, file, text, &fields, &listed)?;
     let shared = Rc::new(alloc, group)?;
     Ok(Child::Group(shared))
 }

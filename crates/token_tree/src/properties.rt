@@ -1,30 +1,17 @@
-//! The properties that a token or a group may have: which are there, and whether they have their
+//! The properties that a token or a group may have: what they mean, and whether they have their
 //! form.
 
 ghost use Rattle.std.specs.Prelude.{◌≡◌, IfOk};
-ghost use Rattle.json_span.specs.View.{json_view, fields_view};
+ghost use Rattle.json_span.specs.View.{json_view};
 ghost use Rattle.token_tree.specs.Texts.{is_reserved, is_name};
-ghost use Rattle.token_tree.specs.Shape.{are_token, has, has_form, has_group_form, has_token_form};
+ghost use Rattle.token_tree.specs.Shape.{has_form, has_group_form, has_token_form};
 ghost use Rattle.token_tree.specs.Shape.{is_mark, is_text, kind_in, mark_in, target_in};
 
 use crate::mark::Mark;
-use json_span::{Fields, NodeRef, ValueType};
+use json_span::{NodeRef, ValueType};
 use name_path::{Kind, Path, RefStop, read_group};
 use std::alloc::Global;
 use tk_io::NoMemory;
-
-pub(crate) fn has(fields: &Fields<'_, '_>, name: &str) -> bool
-    ensures { result ≡ has name.now (fields_view fields.now) }
-{
-    fields.get(name).is_some()
-}
-
-/// Whether an object of these members is a token.
-pub(crate) fn are_token(fields: &Fields<'_, '_>) -> bool
-    ensures { result ≡ are_token (fields_view fields.now) }
-{
-    has(fields, "$value") || has(fields, "$ref")
-}
 
 /// Whether a name begins with `$`.
 pub(crate) fn is_reserved(name: &str) -> bool

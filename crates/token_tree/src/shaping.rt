@@ -8,7 +8,7 @@ ghost use Rattle.token_tree.specs.Shape.{shape_breaks};
 
 use crate::fault::{Rule, ShapeFault};
 use crate::group::read_group;
-use crate::properties::are_token;
+use crate::listed_members::ListedMembers;
 use crate::tree::Group;
 use json_span::Node;
 use std::alloc::Global;
@@ -35,8 +35,9 @@ pub fn shape<'s>(
     let Some(fields) = root.as_object() else {
         return Err(ShapeFault::Broken(Rule::Root, root.start(), root.end()));
     };
-    if are_token(&fields) {
+    let listed = ListedMembers::among(alloc, text, &fields)?;
+    if listed.are_token() {
         return Err(ShapeFault::Broken(Rule::Root, root.start(), root.end()));
     }
-    read_group(alloc, file, text, &fields)
+    read_group(alloc, file, text, &fields, &listed)
 }

@@ -1,20 +1,20 @@
 //! Reading the definition of a token.
 
-ghost use Rattle.std.specs.Prelude.{◌≡◌, [], true, OnOk, IfOk, IfErr};
-ghost use Rattle.json_span.specs.Tree.{tree_of};
+ghost use Rattle.std.specs.Prelude.{◌≡◌, [], true, OnOk, IfOk, IfErr, codes, option_map};
+ghost use Rattle.json_span.specs.Tree.{string_in, tree_of};
 ghost use Rattle.json_span.specs.View.{node_view, ref_view, field_view, fields_view};
 ghost use Rattle.token_tree.specs.Answer.{TellsFirst, IsObjectOf};
 ghost use Rattle.token_tree.specs.Promise.{StandsIn};
-ghost use Rattle.token_tree.specs.Shape.{are_token, has_token_form, is_object, slice_of};
-ghost use Rattle.token_tree.specs.Shape.{token_breaks, token_member_breaks, token_value};
-ghost use Rattle.token_tree.specs.Shape.{extensions_of, said_deprecated, said_description};
-ghost use Rattle.token_tree.specs.Shape.{said_kind};
-ghost use Rattle.token_tree.specs.inner.Outcomes.{ExtensionsStand, def_at, slice_view};
+ghost use Rattle.token_tree.specs.Shape.{are_token, has, is_object, kind_in, mark_in, slice_of};
+ghost use Rattle.token_tree.specs.Shape.{token_breaks, token_member_breaks};
+ghost use Rattle.token_tree.specs.inner.Listed.{AreListed, said_in, value_among};
+ghost use Rattle.token_tree.specs.inner.Outcomes.{IsObjectIn, def_at, slice_view};
 
 use crate::definition::TokenDef;
 use crate::fault::{Rule, ShapeFault};
+use crate::listed_members::ListedMembers;
 use crate::mark::Mark;
-use crate::properties::{has, has_token_form, is_reserved, kind_in, mark_in};
+use crate::properties::{has_token_form, is_reserved, kind_in, mark_in};
 use json_span::{Field, Fields, Node, NodeRef};
 use name_path::Kind;
 use std::alloc::Global;
@@ -37,35 +37,38 @@ fn check_member(alloc: Global, valued: bool, field: Field<'_, '_>) -> Result<(),
     Ok(())
 }
 
-fn check_token(alloc: Global, fields: &Fields<'_, '_>) -> Result<(), ShapeFault>
+fn check_token(alloc: Global, fields: &Fields<'_, '_>, valued: bool) -> Result<(), ShapeFault>
+    requires { valued ≡ has (codes "$value") (fields_view fields.now) }
     ensures ok { OnOk result (token_breaks (fields_view fields.now) ≡ []) }
     ensures broken { IfErr result (TellsFirst (token_breaks (fields_view fields.now))) }
 {
-    let valued = has(fields, "$value");
     for field in *fields {
         check_member(alloc, valued, field)?;
     }
     Ok(())
 }
 
-/// What `$type` says.
-pub(crate) fn said_kind(alloc: Global, fields: &Fields<'_, '_>) -> Result<Option<Kind>, NoMemory>
-    ensures { IfOk result (λ k. k ≡ said_kind (fields_view fields.now)) }
+/// What a `$type` says that was found or not.
+pub(crate) fn said_kind(
+    alloc: Global,
+    found: Option<NodeRef<'_, '_>>,
+) -> Result<Option<Kind>, NoMemory>
+    ensures { IfOk result (λ k. k ≡ said_in kind_in found.entry) }
 {
-    match fields.get("$type") {
+    match found {
         Some(node) => kind_in(alloc, node),
         None => Ok(None),
     }
 }
 
-/// What `$deprecated` says.
+/// What a `$deprecated` says that was found or not.
 pub(crate) fn said_deprecated<'s>(
     alloc: Global,
-    fields: &Fields<'_, 's>,
+    found: Option<NodeRef<'_, 's>>,
 ) -> Result<Option<Mark<'s>>, NoMemory>
-    ensures { IfOk result (λ m. m ≡ said_deprecated (fields_view fields.now)) }
+    ensures { IfOk result (λ m. m ≡ said_in mark_in found.entry) }
 {
-    match fields.get("$deprecated") {
+    match found {
         Some(node) => mark_in(alloc, node),
         None => Ok(None),
     }
@@ -73,11 +76,11 @@ pub(crate) fn said_deprecated<'s>(
 
 fn said_description<'s>(
     alloc: Global,
-    fields: &Fields<'_, 's>,
+    found: Option<NodeRef<'_, 's>>,
 ) -> Result<Option<Text<'s>>, NoMemory>
-    ensures { IfOk result (λ d. d ≡ said_description (fields_view fields.now)) }
+    ensures { IfOk result (λ d. d ≡ said_in string_in found.entry) }
 {
-    match fields.get("$description") {
+    match found {
         Some(node) => node.as_text(alloc),
         None => Ok(None),
     }
@@ -92,24 +95,26 @@ fn slice_of<'s>(text: &'s str, node: NodeRef<'_, '_>) -> &'s str
     &text[node.start()..node.end()]
 }
 
-fn extensions_of<'s>(text: &'s str, fields: &Fields<'_, '_>) -> Option<&'s str>
-    requires stands { ExtensionsStand text.now (fields_view fields.now) }
-    requires sound { token_breaks (fields_view fields.now) ≡ [] }
-    ensures { slice_view result ≡ extensions_of text.entry.now (fields_view fields.now) }
+fn extensions_of<'s>(text: &'s str, found: Option<NodeRef<'_, '_>>) -> Option<&'s str>
+    requires { IsObjectIn text.now (option_map ref_view found) }
+    ensures { slice_view result
+        ≡ option_map (slice_of text.entry.now) (option_map ref_view found.entry) }
 {
-    let node = fields.get("$extensions")?;
+    let node = found?;
     Some(slice_of(text, node))
 }
 
 // What the token's `$ref` or else its `$value` holds.
-fn token_value<'s>(node: NodeRef<'_, 's>, fields: &Fields<'_, 's>) -> Result<Node<'s>, NoMemory>
-    requires { IsObjectOf (ref_view node) (fields_view fields.now) }
-    ensures { IfOk result (λ n. node_view n ≡ token_value (ref_view node.entry)) }
+fn token_value<'s>(
+    node: NodeRef<'_, 's>,
+    listed: &ListedMembers<'_, 's>,
+) -> Result<Node<'s>, NoMemory>
+    ensures { IfOk result (λ n. node_view n ≡ value_among listed.now (ref_view node.entry)) }
 {
-    if let Some(value) = fields.get("$ref") {
+    if let Some(value) = listed.reference {
         return value.node();
     }
-    if let Some(value) = fields.get("$value") {
+    if let Some(value) = listed.value {
         return value.node();
     }
     node.node()
@@ -122,29 +127,31 @@ pub(crate) fn read_token<'s>(
     text: &'s str,
     node: NodeRef<'_, 's>,
     fields: &Fields<'_, 's>,
+    listed: &ListedMembers<'_, 's>,
 ) -> Result<Rc<TokenDef<'s>>, ShapeFault>
     requires stands { StandsIn text.now (ref_view node) }
     requires members { IsObjectOf (ref_view node) (fields_view fields.now) }
+    requires listed { AreListed listed.now (fields_view fields.now) }
     requires token { are_token (fields_view fields.now) ≡ true }
     ensures sound { OnOk result (token_breaks (fields_view fields.now) ≡ []) }
     ensures ok { IfOk result (λ def. def.value ≡ def_at file.entry.now text.entry.now node.entry) }
     ensures broken { IfErr result (TellsFirst (token_breaks (fields_view fields.now))) }
 {
-    check_token(alloc, fields)?;
-    let value = token_value(node, fields)?;
-    let kind = said_kind(alloc, fields)?;
-    let description = said_description(alloc, fields)?;
-    let deprecated = said_deprecated(alloc, fields)?;
+    check_token(alloc, fields, listed.value.is_some())?;
+    let value = token_value(node, listed)?;
+    let kind = said_kind(alloc, listed.kind)?;
+    let description = said_description(alloc, listed.description)?;
+    let deprecated = said_deprecated(alloc, listed.deprecated)?;
     let def = TokenDef {
         file,
         source: slice_of(text, node),
         start: node.start(),
         end: node.end(),
         value,
-        by_ref: has(fields, "$ref"),
+        by_ref: listed.reference.is_some(),
         kind,
         description,
-        extensions: extensions_of(text, fields),
+        extensions: extensions_of(text, listed.extensions),
         deprecated,
     };
     let shared = Rc::new(alloc, def)?;

@@ -1,15 +1,15 @@
 -- What private calls want to know of what they read, and what they answer.
-use Rattle.std.specs.Prelude.{◌≡◌, ◌++◌, ℕ, List, [], Option, Some, None, codes, option_map, slice_get}
+use Rattle.std.specs.Prelude.{◌≡◌, ◌++◌, ℕ, List, [], Option, Some, None, true, option_and_then, option_map, slice_get}
 use Rattle.std.specs.Borrow.{Bor}
 use Rattle.std.specs.FinMap as map
 use Rattle.std.specs.FinMap.Entries.{put}
 use Rattle.json_span.specs.Flaw.{flaw_in_members}
-use Rattle.json_span.specs.Tree.{Placed, Entry, an_object, members_of, value_of_name}
+use Rattle.json_span.specs.Tree.{Placed, Entry, an_object, members_of, tree_of}
 use Rattle.json_span.specs.View.{ref_view}
 use Rattle.json_span.specs.declared.node_ref.NodeRef.{NodeRef}
 use Rattle.tk_io.specs.Order.{text_cmp}
 use Rattle.token_tree.specs.Tree.{Definition, Named}
-use Rattle.token_tree.specs.Shape.{Break, child_breaks, group_breaks, group_member_breaks, extends_of, put_children, def_of, child_of, group_of}
+use Rattle.token_tree.specs.Shape.{Break, child_breaks, group_breaks, group_member_breaks, extension_at, is_object, put_children, def_of, child_of, group_of}
 use Rattle.token_tree.specs.View.{extends_view, child_view, member_view, group_view}
 use Rattle.token_tree.specs.MembersView.{entries_of}
 use Rattle.token_tree.specs.inner.Lists.{child_in, with_front}
@@ -55,8 +55,9 @@ IsChildOf file text n c = child_view c ≡ child_of file text n
 abbrev pub entries_breaks : List Entry → List Break
 entries_breaks es = group_breaks (members_of es)
 
-abbrev pub IsExtendsOf : List ℕ → List Entry → Option Extends → Type 0
-IsExtendsOf file es e = option_map extends_view e ≡ extends_of file es
+-- what is read of the value under `$extends`, where there is one
+abbrev pub IsExtendsOf : List ℕ → Option Placed → Option Extends → Type 0
+IsExtendsOf file n e = option_map extends_view e ≡ option_and_then (extension_at file) n
 
 abbrev pub AreChildren : List ℕ → List ℕ → List Entry → Named → Type 0
 AreChildren file text es members = members ≡ put_children file text (members_of es) map.empty
@@ -71,9 +72,9 @@ IsChildIn file text e m = option_map member_view m ≡ child_in file text e
 
 -- Tokens.
 
--- the value under `$extensions` stands in the text, where there is one
-abbrev pub ExtensionsStand : List ℕ → List Entry → Type 0
-ExtensionsStand text es = (n : Placed) → value_of_name (codes "$extensions") es ≡ Some n → StandsIn text n
+-- the value is an object of the text, where there is one
+abbrev pub IsObjectIn : List ℕ → Option Placed → Type 0
+IsObjectIn text found = (n : Placed) → found ≡ Some n → StandsIn text n × (is_object (tree_of n) ≡ true)
 
 -- a part of a text, looked at
 abbrev pub slice_view : Option (Bor (List ℕ)) → Option (List ℕ)

@@ -16,10 +16,17 @@ use Rattle.token_tree.specs.inner.Lists.{KeysAreApart}
 use Rattle.token_tree.specs.declared.tree.Member.{Member}
 use Rattle.token_tree.proofs.Children.{children_in, children_apart, one_read, put_all}
 use Rattle.token_tree.proofs.Groups.{object_is, group_child_breaks, group_child, token_child}
+use Rattle.token_tree.proofs.Listed.{listed_properties}
+use Rattle.token_tree.proofs.NamesStand.{names_stand}
 use Rattle.token_tree.proofs.Places.{members_stand, names_differ}
 use Rattle.token_tree.proofs.Sound.{first_stays, first_of}
 use Rattle.token_tree.proofs.Weights.{tree_weight, members_weight, weight_of}
 use Rattle.token_tree.proofs.group.+group.Goals as goal
+
+pub read_child-among-requires : goal.read_child-among-requires
+read_child-among-requires t c =
+    let es = fields_view c.in-Some.fields in
+    names_stand c.args.text.now (ref_view c.args.node) es (object_is (json_view c.args.node) es (sym c.in-Some.ensures)) c.requires.1.1
 
 pub read_child-read_token-requires-clause-members : goal.read_child-read_token-requires-clause-members
 read_child-read_token-requires-clause-members t c = object_is (json_view c.args.node) (fields_view c.in-Some.fields) (sym c.in-Some.ensures)
@@ -28,21 +35,21 @@ pub read_child-read_group-requires : goal.read_child-read_group-requires
 read_child-read_group-requires t c =
     let es = fields_view c.in-Some.fields in
     let are = object_is (json_view c.args.node) es (sym c.in-Some.ensures) in
-    (omega (arith, ap tree_weight are, weight_of (ref_view c.args.node)), (members_stand c.args.text.now (ref_view c.args.node) es are c.requires.1.1, names_differ c.args.text.now (ref_view c.args.node) es are c.requires.1.1))
+    (omega (arith, ap tree_weight are, weight_of (ref_view c.args.node)), (members_stand c.args.text.now (ref_view c.args.node) es are c.requires.1.1, (names_differ c.args.text.now (ref_view c.args.node) es are c.requires.1.1, c.in_ok-listed.ensures)))
 
 pub read_child-returns-in_err-group-clause-broken : goal.read_child-returns-in_err-group-clause-broken
 read_child-returns-in_err-group-clause-broken t c =
     let n = ref_view c.args.node in
     let es = fields_view c.in-Some.fields in
     let are = object_is (json_view c.args.node) es (sym c.in-Some.ensures) in
-    let none : are_token es ≡ false = sym c.are_token.ensures ∙ c.if-are_token.false in
+    let none : are_token es ≡ false = sym (c.are_token.ensures es c.in_ok-listed.ensures) ∙ c.if-are_token.false in
     let p = err_from_is_err_and c.from_residual-in_err-group.result c.from_residual-in_err-group.ensures.1 in
     rw (p.1, p.2) (first_of (group_breaks (members_of es)) (child_breaks n) _ (sym (group_child_breaks n es are none)) c.in_err-group.ensures.broken)
 
 pub read_child-returns-then-are_token-clause-ok : goal.read_child-returns-then-are_token-clause-ok
 read_child-returns-then-are_token-clause-ok t c =
     let es = fields_view c.in-Some.fields in
-    let some : are_token es ≡ true = sym c.are_token.ensures ∙ c.if-are_token.true in
+    let some : are_token es ≡ true = sym (c.are_token.ensures es c.in_ok-listed.ensures) ∙ c.if-are_token.true in
     ap a_token c.in_ok-def.ensures.ok
     ∙ sym (token_child c.args.file.now c.args.text.now (ref_view c.args.node) es (object_is (json_view c.args.node) es (sym c.in-Some.ensures)) some)
 
@@ -51,7 +58,7 @@ read_child-returns-clause-sound t c =
     let n = ref_view c.args.node in
     let es = fields_view c.in-Some.fields in
     let are = object_is (json_view c.args.node) es (sym c.in-Some.ensures) in
-    let none : are_token es ≡ false = sym c.are_token.ensures ∙ c.if-are_token.false in
+    let none : are_token es ≡ false = sym (c.are_token.ensures es c.in_ok-listed.ensures) ∙ c.if-are_token.false in
     group_child_breaks n es are none ∙ c.in_ok-group.ensures.sound
 
 pub read_child-returns-clause-ok : goal.read_child-returns-clause-ok
@@ -59,7 +66,7 @@ read_child-returns-clause-ok t c =
     let n = ref_view c.args.node in
     let es = fields_view c.in-Some.fields in
     let are = object_is (json_view c.args.node) es (sym c.in-Some.ensures) in
-    let none : are_token es ≡ false = sym c.are_token.ensures ∙ c.if-are_token.false in
+    let none : are_token es ≡ false = sym (c.are_token.ensures es c.in_ok-listed.ensures) ∙ c.if-are_token.false in
     ap (λ g. a_group (group_view g)) c.in_ok-shared.ensures.ok
     ∙ (ap a_group c.in_ok-group.ensures.ok
     ∙ sym (group_child c.args.file.now c.args.text.now n es are none))
@@ -68,8 +75,7 @@ pub read_group-returns-clause-ok : goal.read_group-returns-clause-ok
 read_group-returns-clause-ok t c =
     let es = fields_view c.args.fields.now in
     let file = c.args.file.now in
-    let own : ◌≡◌ {A = Properties} (record { kind = c.in_ok-kind.kind; deprecated = c.in_ok-deprecated.deprecated; extends = option_map extends_view c.in_ok-extends.extends }) (properties_of file es) =
-    λ i. record { kind = c.in_ok-kind.ensures i; deprecated = c.in_ok-deprecated.ensures i; extends = c.in_ok-extends.ensures i } in
+    let own = listed_properties file es c.args.listed.now (record { kind = c.in_ok-kind.kind; deprecated = c.in_ok-deprecated.deprecated; extends = option_map extends_view c.in_ok-extends.extends }) c.requires.1.1.1.1 c.in_ok-kind.ensures c.in_ok-deprecated.ensures c.in_ok-extends.ensures in
     ap₂ group_with (own ∙ ap (properties_of file) (sym (entries_in-of es))) c.in_ok-members.ensures.ok
 
 pub read_members-read_member-requires : goal.read_members-read_member-requires

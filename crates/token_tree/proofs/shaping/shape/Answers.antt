@@ -7,8 +7,15 @@ use Rattle.token_tree.specs.Answer.{TellsFirst}
 use Rattle.token_tree.specs.Shape.{are_token, token_breaks, entries_at, group_of, shape_of}
 use Rattle.token_tree.specs.View.{group_view}
 use Rattle.token_tree.proofs.Groups.{object_is, no_object, no_root, token_root, group_root, first_at}
+use Rattle.token_tree.proofs.NamesStand.{names_stand}
 use Rattle.token_tree.proofs.Places.{members_stand, names_differ}
 use Rattle.token_tree.proofs.shaping.shape.Goals as goal
+
+pub among-requires : goal.among-requires
+among-requires c =
+    let n = node_view c.args.root.now in
+    let es = fields_view c.in-Some.fields in
+    names_stand c.args.text.now n es (object_is (tree_of n) es (sym c.in-Some.ensures)) c.requires
 
 pub read_group-requires-clause-stands : goal.read_group-requires-clause-stands
 read_group-requires-clause-stands c =
@@ -27,7 +34,7 @@ returns-clause-sound c =
     let n = node_view c.args.root.now in
     let es = fields_view c.in-Some.fields in
     let are = object_is (tree_of (node_view c.args.root.now)) es (sym c.in-Some.ensures) in
-    let none : are_token es ≡ false = sym c.are_token.ensures ∙ c.if-are_token.false in
+    let none : are_token es ≡ false = sym (c.are_token.ensures es c.in_ok-listed.ensures) ∙ c.if-are_token.false in
     subst (λ z. OnOk c.read_group.result (z ≡ [])) (sym (group_root n es are none)) c.read_group.ensures.sound
 
 pub returns-clause-ok : goal.returns-clause-ok
@@ -42,7 +49,7 @@ returns-clause-broken c =
     let n = node_view c.args.root.now in
     let es = fields_view c.in-Some.fields in
     let are = object_is (tree_of (node_view c.args.root.now)) es (sym c.in-Some.ensures) in
-    let none : are_token es ≡ false = sym c.are_token.ensures ∙ c.if-are_token.false in
+    let none : are_token es ≡ false = sym (c.are_token.ensures es c.in_ok-listed.ensures) ∙ c.if-are_token.false in
     subst (λ z. IfErr c.read_group.result (TellsFirst z)) (sym (group_root n es are none)) c.read_group.ensures.broken
 
 pub returns-in_default-clause-broken : goal.returns-in_default-clause-broken
@@ -55,7 +62,7 @@ pub returns-then-are_token-clause-broken : goal.returns-then-are_token-clause-br
 returns-then-are_token-clause-broken c =
     let es = fields_view c.in-Some.fields in
     let are = object_is (tree_of (node_view c.args.root.now)) es (sym c.in-Some.ensures) in
-    let some : are_token es ≡ true = sym c.are_token.ensures ∙ c.if-are_token.true in
+    let some : are_token es ≡ true = sym (c.are_token.ensures es c.in_ok-listed.ensures) ∙ c.if-are_token.true in
     let n = node_view c.args.root.now in
     ap (λ z. slice_get z 0) (token_root n es are some)
     ∙ first_at rule.Root n (token_breaks (entries_at n)) c.start-then-are_token.result c.end-then-are_token.result c.start-then-are_token.ensures c.end-then-are_token.ensures
