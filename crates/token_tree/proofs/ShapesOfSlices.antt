@@ -1,14 +1,13 @@
 -- The shape of a value is decided by its file's name, its slice and where that starts.
-use Rattle.std.proofs.Common.{◌≡◌, ℕ, ◌+◌, ◌≤◌, List, length, cond, Option, Some, None, option_map, refl, sym, ap, ap₂, ◌∙◌, subst, arith, codes}
+use Rattle.std.proofs.Common.{◌≡◌, ℕ, ◌+◌, ◌≤◌, List, cond, Option, Some, None, option_map, refl, sym, ap, ap₂, ◌∙◌, subst, arith, codes}
 use Rattle.std.specs.Prelude.{slice_range}
 use Rattle.std.specs.FinMap as map
 use Rattle.json_span.specs.Laws.{ShowsOne}
 use Rattle.json_span.specs.Parts.{moved, moved_tree, moved_elements, moved_members, IsPart, itself, inside, IsInside, inside_array, inside_object, IsInElements, in_element, in_later_element, IsInMembers, in_member, in_later_member, SlicesShow}
 use Rattle.json_span.specs.Reading.{Shows}
-use Rattle.json_span.specs.Tree.{Tree, a_null, a_boolean, a_number, a_string, an_array, an_object, Placed, placed, Elements, no_elements, an_element, Members, no_members, a_member, Entry, entries_in, start_of, end_of, value_of_name}
+use Rattle.json_span.specs.Tree.{Tree, a_null, a_boolean, a_number, a_string, an_array, an_object, Placed, placed, Elements, no_elements, an_element, Members, no_members, a_member, entries_in, start_of, end_of, value_of_name}
 use Rattle.json_span.proofs.InOrder.{InOrder, PartsInOrder, ElementsInOrder, MembersInOrder, value_in_order}
 use Rattle.token_tree.specs.Laws.{OneShape}
-use Rattle.token_tree.specs.Promise.{StandsIn}
 use Rattle.token_tree.specs.Shape.{entries_at, extensions_of, slice_of, def_of, is_token, is_child, shape_breaks, shape_of, properties_of, put_children, child_of, group_of}
 use Rattle.token_tree.specs.Tree.{a_token, a_group, group_with, Named}
 use Rattle.token_tree.proofs.Keeps.{own_members, slice_again}

@@ -8,7 +8,7 @@ use Rattle.json_span.specs.Tree.{Entry, members_of}
 use Rattle.json_span.specs.View.{json_view, ref_view, field_view, fields_view}
 use Rattle.json_span.proofs.Views.{entries_in-of}
 use Rattle.token_tree.specs.inner.Outcomes.{NamesDiffer}
-use Rattle.token_tree.specs.Tree.{Properties, a_token, a_group, group_with}
+use Rattle.token_tree.specs.Tree.{a_token, a_group, group_with}
 use Rattle.token_tree.specs.Shape.{are_token, group_breaks, group_member_breaks, child_breaks, properties_of}
 use Rattle.token_tree.specs.View.{extends_view, group_view}
 use Rattle.token_tree.specs.MembersView.{entries_of}

@@ -1,4 +1,4 @@
-use Rattle.std.proofs.Common.{◌+◌, ◌<◌, arith}
+use Rattle.std.proofs.Common.{arith}
 use Rattle.json_span.specs.View.{field_view}
 use Rattle.token_tree.proofs.NamesStand.{not_reserved, within}
 use Rattle.token_tree.proofs.listed_members.may_be_listed.Goals as goal
