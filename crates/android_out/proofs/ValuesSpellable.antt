@@ -37,7 +37,7 @@ use Rattle.composite_rules.specs.declared.typed.Typed.{Typed}
 use Rattle.composite_rules.specs.declared.typed.Typed.TheVariants as typed
 use Rattle.composite_rules.specs.declared.typography.Typography.{Typography}
 use Rattle.android_out.specs.Element.{Content, color, integer, item, string}
-use Rattle.android_out.specs.PlatformValue.{is_srgb, component_color, digits_color, color_content, is_rem, size_content, whole_content, milliseconds_in, is_plain_char, are_words, family_content, simple_content, one_value, unless_omitted, android_values}
+use Rattle.android_out.specs.PlatformValue.{is_srgb, component_color, digits_color, color_content, is_rem, size_content, whole_content, milliseconds_in, is_plain_char, are_family_words, family_content, simple_content, one_value, unless_omitted, android_values}
 use Rattle.android_out.specs.Reading.{no_tag, is_unit}
 use Rattle.android_out.specs.inner.Written.{when_some, words_from}
 use Rattle.android_out.proofs.Words.{words_by_bytes}
@@ -170,7 +170,7 @@ words_plain b (c ∷ t) h = at (λ x i. words_plain x t i) (c == 32) refl (is_pl
 
 fine_family : (families : List (List ℕ)) → AreFine (family_content families)
 fine_family [] = tt
-fine_family (f ∷ fs) = fine_if (are_words f) (Some (string f)) (λ e. fine_string f (words_plain false f (sym (words_by_bytes f) ∙ e)))
+fine_family (f ∷ fs) = fine_if (are_family_words f) (Some (string f)) (λ e. fine_string f (words_plain false f (sym (words_by_bytes f) ∙ e)))
 
 fine_simple : (settings : Settings) (s : Simple) → settings.rem_base < 2 ^ 8 → IsSimple s → AreFine (simple_content settings s)
 fine_simple settings (simple.Color c) base h = fine_colors c h

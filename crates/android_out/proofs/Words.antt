@@ -4,16 +4,16 @@ use Rattle.std.specs.Prelude.{if◌then◌else◌}
 use Rattle.std.specs.List.{list_all, slice_split, onto_first}
 use Rattle.std.proofs.Math.Seq.{drop-cons}
 use Rattle.std.proofs.lemmas.List.{drop_all}
-use Rattle.android_out.specs.PlatformValue.{is_plain_char, is_word, are_words}
+use Rattle.android_out.specs.PlatformValue.{is_plain_char, is_family_word, are_family_words}
 use Rattle.android_out.specs.inner.Written.{when_some, words_from}
 
 -- whether the first of these pieces can end the word that is begun, and the others are words
 abbrev go_on : Bool → List (List ℕ) → Bool
 go_on begun [] = true
-go_on begun ([] ∷ ws) = begun && list_all is_word ws
-go_on begun ((c ∷ w) ∷ ws) = list_all is_plain_char (c ∷ w) && list_all is_word ws
+go_on begun ([] ∷ ws) = begun && list_all is_family_word ws
+go_on begun ((c ∷ w) ∷ ws) = list_all is_plain_char (c ∷ w) && list_all is_family_word ws
 
-starts : (ws : List (List ℕ)) → go_on false ws ≡ list_all is_word ws
+starts : (ws : List (List ℕ)) → go_on false ws ≡ list_all is_family_word ws
 starts [] = refl
 starts ([] ∷ ws) = refl
 starts ((c ∷ w) ∷ ws) = refl
@@ -43,7 +43,7 @@ by_bytes b (c ∷ t) = at (λ x. by_bytes x t) (c == 32) refl (is_plain_char c) 
     at again false e true h b = again true ∙ sym (begins c b pieces h)
     at again false e false h b = sym (stays_out c b pieces h)
 
-pub words_by_bytes : (t : List ℕ) → are_words t ≡ words_from false t
+pub words_by_bytes : (t : List ℕ) → are_family_words t ≡ words_from false t
 words_by_bytes t = sym (by_bytes false t ∙ starts (slice_split (λ c. c == 32) t))
 
 pub next_byte : (b : Bool) (t : List ℕ) (i : ℕ) → i < length t → words_from b (drop i t) ≡ words_from b (get_or t i 0 ∷ drop (i + 1) t)

@@ -82,17 +82,17 @@ time_content t = whole_content (milliseconds_in t.unit t.value)
 abbrev pub is_plain_char : ℕ → Bool
 is_plain_char c = is_ascii_alphanumeric c || ((c == hyphen) || ((c == low_line) || (c == full_stop)))
 
-abbrev pub is_word : List ℕ → Bool
-is_word [] = false
-is_word (c ∷ w) = list_all is_plain_char (c ∷ w)
+abbrev pub is_family_word : List ℕ → Bool
+is_family_word [] = false
+is_family_word (c ∷ w) = list_all is_plain_char (c ∷ w)
 
-abbrev pub are_words : List ℕ → Bool
-are_words text = list_all is_word (slice_split (λ c. c == blank) text)
+abbrev pub are_family_words : List ℕ → Bool
+are_family_words text = list_all is_family_word (slice_split (λ c. c == blank) text)
 
 -- the first family
 abbrev pub family_content : List (List ℕ) → Option Content
 family_content [] = None
-family_content (family ∷ families) = if are_words family then Some (string family) else None
+family_content (family ∷ families) = if are_family_words family then Some (string family) else None
 
 abbrev pub simple_content : Settings → Simple → Option Content
 simple_content settings (simple.Color c) = color_content c

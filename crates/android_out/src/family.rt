@@ -1,7 +1,7 @@
 //! Font families that are plain words.
 
 ghost use Rattle.std.specs.Prelude.{◌≡◌, option_map};
-ghost use Rattle.android_out.specs.PlatformValue.{is_plain_char, are_words, family_content};
+ghost use Rattle.android_out.specs.PlatformValue.{is_plain_char, are_family_words, family_content};
 ghost use Rattle.android_out.specs.inner.Written.{after_byte};
 ghost use Rattle.android_out.specs.inner.View.{content_view};
 
@@ -26,7 +26,7 @@ fn after_byte(begun: bool, c: u8) -> Option<bool>
 
 // Whether the text is one or more words with single blanks between.
 fn are_words(text: &[u8]) -> bool
-    ensures { result ≡ are_words text.now }
+    ensures { result ≡ are_family_words text.now }
 {
     let mut begun = false;
     for c in text {

@@ -11,7 +11,7 @@ use Rattle.transforms.specs.Quoted.{string_from}
 use Rattle.transforms.specs.Runs.{first_run, behind_run, starts_digit}
 use Rattle.transforms.proofs.QuotedReadsBack.{Longer, string_more}
 use Rattle.css_out.specs.Piece.{Piece, mark, var, number, percent, unit, word, opens, closes, comma, slash}
-use Rattle.css_out.specs.Reading.{in_word, in_name, is_some, closed_name, var_at, is_var, worded, string_piece, measured, numbered, starts_star, piece_at, is_blank, after_comment, skip_star, ValueStep, stop, skip, take, wrong, skipped, taken, step, Pieces, stops, skips, takes, colon, Colon, meets, misses, Declared, Turn, over, pass, names, other, comment_turn, name_turn, dashed, turn, tail, Block, ended, passes, declared}
+use Rattle.css_out.specs.Reading.{in_word, in_name, is_some, closed_name, var_at, is_var, worded, string_piece, measured, number_piece, starts_star, piece_at, is_blank, after_comment, skip_star, ValueStep, stop, skip, take, wrong, skipped, taken, step, Pieces, stops, skips, takes, colon, Colon, meets, misses, Declared, Turn, over, pass, names, other, comment_turn, name_turn, dashed, turn, tail, Block, ended, passes, declared}
 
 -- runs of bytes
 run_by : (b : Bool) (c d : ℕ) (f g r q s u t : List ℕ) → (if b then r else c ∷ s) ≡ d ∷ u → (r ≡ d ∷ u → (g ≡ f) × (q ≡ d ∷ (u ++ t)))
@@ -80,14 +80,14 @@ measured_more n (c ∷ u) t = taken_if t (c == 37) (Some (mark (percent n), u)) 
     (taken_if t (is_ascii_alphabetic c) _ (Some (mark (number n), c ∷ u)) _ (Some (mark (number n), c ∷ (u ++ t)))
     (unit_more n (c ∷ u) t (behind_run is_ascii_alphabetic (c ∷ u)) refl) (inr refl))
 
-numbered_if : (t : List ℕ) (b : Bool) (x y v w : Decimal × List ℕ) → Grown t (taken (numbered x)) (taken (numbered v)) → Grown t (taken (numbered y)) (taken (numbered w))
-    → Grown t (taken (numbered (if b then x else y))) (taken (numbered (if b then v else w)))
+numbered_if : (t : List ℕ) (b : Bool) (x y v w : Decimal × List ℕ) → Grown t (taken (number_piece x)) (taken (number_piece v)) → Grown t (taken (number_piece y)) (taken (number_piece w))
+    → Grown t (taken (number_piece (if b then x else y))) (taken (number_piece (if b then v else w)))
 numbered_if t true x y v w h i = h
 numbered_if t false x y v w h i = i
 
 -- a point alone ends a number, but nothing is read after it
 point_last : (b : Bool) (negative : Bool) (whole : List ℕ) (c : ℕ) (t : List ℕ) → (c == 46) ≡ b
-    → Grown t (taken (numbered (fraction_after negative whole (c ∷ [])))) (taken (numbered (fraction_after negative whole (c ∷ t))))
+    → Grown t (taken (number_piece (fraction_after negative whole (c ∷ [])))) (taken (number_piece (fraction_after negative whole (c ∷ t))))
 point_last true negative whole c t h = let point : c ≡ 46 = grind (arith, nat_tests) in rw point (inl refl)
 point_last false negative whole c t h = rw h (measured_more (decimal_of negative (digits_number whole) 0) (c ∷ []) t)
 
@@ -100,7 +100,7 @@ pointed negative whole c ds r s =
     if (c == 46) && nat_lt 0 (length ds) then (decimal_of negative (digits_number (whole ++ ds)) (length ds), r) else (decimal_of negative (digits_number whole) 0, c ∷ s)
 
 all_digits : (negative : Bool) (whole : List ℕ) (c : ℕ) (ds es r s t : List ℕ) → nat_lt 0 (length ds) ≡ true → nat_lt 0 (length es) ≡ true
-    → Grown t (taken (numbered (pointed negative whole c ds [] s))) (taken (numbered (pointed negative whole c es r (s ++ t))))
+    → Grown t (taken (number_piece (pointed negative whole c ds [] s))) (taken (number_piece (pointed negative whole c es r (s ++ t))))
 all_digits negative whole c ds es r s t h i =
     rw (h, i) (numbered_if t ((c == 46) && true)
     (decimal_of negative (digits_number (whole ++ ds)) (length ds), []) (decimal_of negative (digits_number whole) 0, c ∷ s)
@@ -114,16 +114,16 @@ some_digits : (d : ℕ) (s : List ℕ) → is_ascii_digit d ≡ true → nat_lt 
 some_digits d s h = rw h (longer (length (digits_front s)))
 
 point_digits : (b : Bool) (negative : Bool) (whole : List ℕ) (c d : ℕ) (s t : List ℕ) → is_ascii_digit d ≡ b → digits_rest (d ∷ s) ≡ []
-    → Grown t (taken (numbered (fraction_after negative whole (c ∷ d ∷ s)))) (taken (numbered (fraction_after negative whole (c ∷ d ∷ (s ++ t)))))
+    → Grown t (taken (number_piece (fraction_after negative whole (c ∷ d ∷ s)))) (taken (number_piece (fraction_after negative whole (c ∷ d ∷ (s ++ t)))))
 point_digits true negative whole c d s t h e =
-    let P : List ℕ → Type 0 = λ r. Grown t (taken (numbered (pointed negative whole c (digits_front (d ∷ s)) r (d ∷ s)))) (taken (numbered (fraction_after negative whole (c ∷ d ∷ (s ++ t))))) in
+    let P : List ℕ → Type 0 = λ r. Grown t (taken (number_piece (pointed negative whole c (digits_front (d ∷ s)) r (d ∷ s)))) (taken (number_piece (fraction_after negative whole (c ∷ d ∷ (s ++ t))))) in
     subst P (sym e) (all_digits negative whole c (digits_front (d ∷ s)) (digits_front (d ∷ (s ++ t))) (digits_rest (d ∷ (s ++ t))) (d ∷ s) t (some_digits d s h) (some_digits d (s ++ t) h))
 point_digits false negative whole c d s t h e =
     let same : digits_rest (d ∷ s) ≡ d ∷ s = rw h refl in
     absurd (not_nil d s (sym same ∙ e))
 
 point_more : (negative : Bool) (whole : List ℕ) (c : ℕ) (s t r : List ℕ) → digits_rest s ≡ r
-    → Grown t (taken (numbered (fraction_after negative whole (c ∷ s)))) (taken (numbered (fraction_after negative whole (c ∷ (s ++ t)))))
+    → Grown t (taken (number_piece (fraction_after negative whole (c ∷ s)))) (taken (number_piece (fraction_after negative whole (c ∷ (s ++ t)))))
 point_more negative whole c [] t [] e = point_last (c == 46) negative whole c t refl
 point_more negative whole c (d ∷ s) t [] e = point_digits (is_ascii_digit d) negative whole c d s t refl e
 point_more negative whole c s t (d ∷ u) e =
@@ -134,7 +134,7 @@ point_more negative whole c s t (d ∷ u) e =
     (measured_more _ (d ∷ u) t) (measured_more (decimal_of negative (digits_number whole) 0) (c ∷ s) t))
 
 number_more : (negative : Bool) (s t r : List ℕ) → digits_rest s ≡ r
-    → Grown t (taken (numbered (fraction_after negative (digits_front s) r))) (taken (numbered (unsigned_at negative (s ++ t))))
+    → Grown t (taken (number_piece (fraction_after negative (digits_front s) r))) (taken (number_piece (unsigned_at negative (s ++ t))))
 number_more negative s t [] e = inl refl
 number_more negative s t (c ∷ u) e = let (a, b) = digits-more s t c u e in rw (a, b) (point_more negative (digits_front s) c u t (digits_rest u) refl)
 

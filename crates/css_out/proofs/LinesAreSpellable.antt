@@ -50,7 +50,7 @@ use Rattle.css_out.specs.Reading.{is_var, are_closed}
 use Rattle.css_out.specs.Links.{link_for, item_link}
 use Rattle.css_out.specs.Parts.{Part, shown_part, shown, NamedParts, declaration}
 use Rattle.css_out.specs.PlatformValue.{size_marks, time_marks, number_marks, curve_marks, function_name, space_marks, has_percents, component_mark, component_marks, alpha_marks, color_marks, listed, is_generic, family_marks, families_marks, simple_marks, stroke_marks, border_marks, transition_marks, inset_marks, shadow_marks, position_mark, stop_marks, can_spell}
-use Rattle.css_out.specs.Fragment.{css_name, part, unless_linked, behind_commas, listed_parts, is_only, border_parts, transition_parts, shadow_parts, stop_parts, value_parts, typography_part, typography_line, lines_of, entries}
+use Rattle.css_out.specs.Fragment.{css_name, linked_or_plain, unless_linked, behind_commas, listed_parts, is_only, border_parts, transition_parts, shadow_parts, stop_parts, value_parts, typography_part, typography_line, lines_of, entries}
 use Rattle.css_out.proofs.SpellablePieces.{is_word, is_unit, IsSpellableMark, IsSpellable, AreSpellable}
 use Rattle.css_out.proofs.GenericsAreWords.{generic_is_word}
 use Rattle.css_out.proofs.RoundsEnd.{marks-append}
@@ -244,7 +244,7 @@ module _ (prefix : List ℕ) where
   IsNamed None = Unit {0}
   IsNamed (Some u) = is_property (css_name prefix u) ≡ true
 
-  part_sound : (o : Option (List (List ℕ))) (ms : List Mark) → IsNamed o → SoundMarks ms → SoundPart (part prefix o ms)
+  part_sound : (o : Option (List (List ℕ))) (ms : List Mark) → IsNamed o → SoundMarks ms → SoundPart (linked_or_plain prefix o ms)
   part_sound None ms n h = h
   part_sound (Some u) ms n h = name_sound (css_name prefix u) n
 
@@ -275,7 +275,7 @@ module _ {A : Type 0} (f : ℕ → A → List Part) (P : A → Type 0) (each : (
   listed_sound (x ∷ xs) h = all-append SoundPart (f 0 x) (behind_commas f 1 xs) (each 0 x h.0) (behind_sound 1 xs h.1)
 
 module _ (prefix : List ℕ) (links : List Link) (named : AllByRecursion (λ l. is_property (css_name prefix l.target) ≡ true) links) where
-  member_sound : (name : List ℕ) (k : Kind) (ms : List Mark) → SoundMarks ms → SoundPart (part prefix (link_for links (name ∷ []) k) ms)
+  member_sound : (name : List ℕ) (k : Kind) (ms : List Mark) → SoundMarks ms → SoundPart (linked_or_plain prefix (link_for links (name ∷ []) k) ms)
   member_sound name k ms h = part_sound prefix (link_for links (name ∷ []) k) ms (link_named prefix links named (name ∷ []) k) h
 
   border_sound : (b : Border) → IsBorder b → SoundParts (border_parts prefix links b)
@@ -296,7 +296,7 @@ module _ (prefix : List ℕ) (links : List Link) (named : AllByRecursion (λ l. 
     ),
   )
 
-  item_sound : (only : Bool) (i : ℕ) (name : List ℕ) (k : Kind) (ms : List Mark) → SoundMarks ms → SoundPart (part prefix (item_link links only (decimal i) name k) ms)
+  item_sound : (only : Bool) (i : ℕ) (name : List ℕ) (k : Kind) (ms : List Mark) → SoundMarks ms → SoundPart (linked_or_plain prefix (item_link links only (decimal i) name k) ms)
   item_sound only i name k ms h = part_sound prefix (item_link links only (decimal i) name k) ms
       (or_named prefix (if only then link_for links (name ∷ []) k else None) (link_for links (decimal i ∷ name ∷ []) k)
       (if_named prefix only (link_for links (name ∷ []) k) None (link_named prefix links named (name ∷ []) k) tt) (link_named prefix links named (decimal i ∷ name ∷ []) k)) h

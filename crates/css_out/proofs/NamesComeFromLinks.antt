@@ -32,7 +32,7 @@ use Rattle.css_out.specs.Piece.{Mark}
 use Rattle.css_out.specs.Parts.{Part, NamedParts}
 use Rattle.css_out.specs.Links.{same_trail, is_kind, link_for, item_link}
 use Rattle.css_out.specs.PlatformValue.{size_marks, time_marks, number_marks, curve_marks, color_marks, families_marks, simple_marks, stroke_marks, border_marks, transition_marks, listed, shadow_marks, stop_marks, can_spell, all_values, css_values}
-use Rattle.css_out.specs.Fragment.{css_name, part, unless_linked, behind_commas, listed_parts, is_only, border_parts, transition_parts, shadow_parts, stop_parts, typography_part, lines_of, entries}
+use Rattle.css_out.specs.Fragment.{css_name, linked_or_plain, unless_linked, behind_commas, listed_parts, is_only, border_parts, transition_parts, shadow_parts, stop_parts, typography_part, lines_of, entries}
 use Rattle.css_out.specs.Sources.{IsFrom, ComesFrom, HasRoom}
 
 both : (a b : Bool) → a && b ≡ true → (a ≡ true) × (b ≡ true)
@@ -121,7 +121,7 @@ module _ (prefix : List ℕ) (links : List Link) (v : Typed) where
   IsOne x ms = (n : List ℕ) → In (n, ms) (css_values n x)
 
   part_from : (x : Typed) (trail : List (List ℕ)) (ms : List Mark) (o : Option (List (List ℕ))) → link_for links trail (kind_of x) ≡ o
-      → part_at v trail ≡ Some x → IsOne x ms → ComesFrom prefix links v (part prefix o ms)
+      → part_at v trail ≡ Some x → IsOne x ms → ComesFrom prefix links v (linked_or_plain prefix o ms)
   part_from x trail ms None h stands one = tt
   part_from x trail ms (Some u) h stands one = from x trail u (css_name prefix u) ms h stands (one (css_name prefix u))
 
@@ -131,13 +131,13 @@ module _ (prefix : List ℕ) (links : List Link) (v : Typed) where
   unless_from ms ps (Some u) h one parts = (from v [] u (css_name prefix u) ms h refl (one (css_name prefix u)), tt)
 
   or_from : (x : Typed) (ms : List Mark) (a b : List (List ℕ)) (o p : Option (List (List ℕ))) → link_for links a (kind_of x) ≡ o → link_for links b (kind_of x) ≡ p
-      → part_at v a ≡ Some x → part_at v b ≡ Some x → IsOne x ms → ComesFrom prefix links v (part prefix (option_or o p) ms)
+      → part_at v a ≡ Some x → part_at v b ≡ Some x → IsOne x ms → ComesFrom prefix links v (linked_or_plain prefix (option_or o p) ms)
   or_from x ms a b None p h i s t one = part_from x b ms p i t one
   or_from x ms a b (Some u) p h i s t one = part_from x a ms (Some u) h s one
 
   -- a member of an item, of which only the item of a list of one may stand without an index
   item_from : (x : Typed) (ms : List Mark) (only : Bool) (index name : List ℕ) → (only ≡ true → part_at v (name ∷ []) ≡ Some x)
-      → part_at v (index ∷ name ∷ []) ≡ Some x → IsOne x ms → ComesFrom prefix links v (part prefix (item_link links only index name (kind_of x)) ms)
+      → part_at v (index ∷ name ∷ []) ≡ Some x → IsOne x ms → ComesFrom prefix links v (linked_or_plain prefix (item_link links only index name (kind_of x)) ms)
   item_from x ms true index name s t one =
       or_from x ms (name ∷ []) (index ∷ name ∷ []) (link_for links (name ∷ []) (kind_of x)) (link_for links (index ∷ name ∷ []) (kind_of x)) refl refl (s refl) t one
   item_from x ms false index name s t one = part_from x (index ∷ name ∷ []) ms (link_for links (index ∷ name ∷ []) (kind_of x)) refl t one

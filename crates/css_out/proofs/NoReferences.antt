@@ -9,7 +9,7 @@ use Rattle.composite_rules.specs.declared.gradient.ColorStop.{ColorStop}
 use Rattle.composite_rules.specs.declared.shadow.ShadowItem.{ShadowItem}
 use Rattle.composite_rules.specs.declared.typed.Typed.{Typed}
 use Rattle.composite_rules.specs.declared.typed.Typed.TheVariants as typed
-use Rattle.css_out.specs.Parts.{Part, plain, linked, shown, own, NamedParts, declaration, value, as_declared}
+use Rattle.css_out.specs.Parts.{Part, plain, linked, shown, own, NamedParts, declaration, own_value, as_declared}
 use Rattle.css_out.specs.Piece.{Mark, mark}
 use Rattle.css_out.specs.PlatformValue.{can_spell, css_values}
 use Rattle.css_out.specs.Fragment.{css_name, behind_commas, listed_parts, is_only, item_part, shadow_parts, stop_parts, lines_of, entries, fragment_entries}
@@ -73,11 +73,11 @@ module _ (prefix : List ℕ) where
   plain_entries : (name : List ℕ) (v : Typed) → PlainLines (entries prefix [] name v)
   plain_entries name v = plain_if (can_spell v) (lines_of prefix [] name None v) (plain_lines name v)
 
-  plain_declared : (es : List NamedParts) → PlainLines es → map declaration es ≡ map as_declared (map value es)
+  plain_declared : (es : List NamedParts) → PlainLines es → map declaration es ≡ map as_declared (map own_value es)
   plain_declared [] h = refl
   plain_declared (e ∷ es) h =
-      let first : declaration e ≡ as_declared (value e) = ap (λ ps. record { name = e.name; pieces = ps }) (plain_shown e.parts h.0) in
-      ap (λ d. d ∷ map declaration es) first ∙ ap (λ ds. as_declared (value e) ∷ ds) (plain_declared es h.1)
+      let first : declaration e ≡ as_declared (own_value e) = ap (λ ps. record { name = e.name; pieces = ps }) (plain_shown e.parts h.0) in
+      ap (λ d. d ∷ map declaration es) first ∙ ap (λ ds. as_declared (own_value e) ∷ ds) (plain_declared es h.1)
 
   declared_alone : (name : List ℕ) (v : Typed) → map declaration (entries prefix [] name v) ≡ map as_declared (css_values name v)
   declared_alone name v = plain_declared (entries prefix [] name v) (plain_entries name v) ∙ ap (map as_declared) (own_values prefix [] name v)

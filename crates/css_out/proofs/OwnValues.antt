@@ -18,16 +18,16 @@ use Rattle.composite_rules.specs.declared.typed.Typed.{Typed}
 use Rattle.composite_rules.specs.declared.typed.Typed.TheVariants as typed
 use Rattle.css_out.specs.Links.{link_for, item_link}
 use Rattle.css_out.specs.Spelling.{fragment_lines, fragment_names}
-use Rattle.css_out.specs.Parts.{declaration, Part, own_part, own, NamedParts, value}
+use Rattle.css_out.specs.Parts.{declaration, Part, own_part, own, NamedParts, own_value}
 use Rattle.css_out.specs.Piece.{Mark, comma, Values, value_names}
 use Rattle.css_out.specs.PlatformValue.{size_marks, time_marks, number_marks, curve_marks, color_marks, families_marks, stroke_marks, simple_marks, listed, border_marks, transition_marks, shadow_marks, stop_marks, can_spell, all_values, css_values}
-use Rattle.css_out.specs.Fragment.{spelled_links, css_name, part, unless_linked, behind_commas, listed_parts, is_only, border_parts, transition_parts, shadow_parts, stop_parts, typography_part, lines_of, entries}
+use Rattle.css_out.specs.Fragment.{spelled_links, css_name, linked_or_plain, unless_linked, behind_commas, listed_parts, is_only, border_parts, transition_parts, shadow_parts, stop_parts, typography_part, lines_of, entries}
 
 own-append : (ps qs : List Part) → own (ps ++ qs) ≡ own ps ++ own qs
 own-append ps qs = flat_map-append own_part ps qs
 
 module _ (prefix : List ℕ) where
-  own_of : (o : Option (List (List ℕ))) (ms : List Mark) → own_part (part prefix o ms) ≡ ms
+  own_of : (o : Option (List (List ℕ))) (ms : List Mark) → own_part (linked_or_plain prefix o ms) ≡ ms
   own_of None ms = refl
   own_of (Some u) ms = refl
 
@@ -46,7 +46,7 @@ module _ {A : Type 0} (f : ℕ → A → List Part) (g : A → List Mark) (each 
   own_listed (x ∷ xs) = own-append (f 0 x) (behind_commas f 1 xs) ∙ rw (each 0 x, own_behind 1 xs) refl
 
 module _ (prefix : List ℕ) (links : List Link) where
-  own_member : (name : List ℕ) (k : Kind) (ms : List Mark) → own_part (part prefix (link_for links (name ∷ []) k) ms) ≡ ms
+  own_member : (name : List ℕ) (k : Kind) (ms : List Mark) → own_part (linked_or_plain prefix (link_for links (name ∷ []) k) ms) ≡ ms
   own_member name k ms = own_of prefix (link_for links (name ∷ []) k) ms
 
   own_border : (b : Border) → own (border_parts prefix links b) ≡ border_marks b
@@ -64,7 +64,7 @@ module _ (prefix : List ℕ) (links : List Link) where
     own_member (codes "delay") kind.Duration (time_marks t.delay),
   ) refl
 
-  own_item : (only : Bool) (i : ℕ) (name : List ℕ) (k : Kind) (ms : List Mark) → own_part (part prefix (item_link links only (decimal i) name k) ms) ≡ ms
+  own_item : (only : Bool) (i : ℕ) (name : List ℕ) (k : Kind) (ms : List Mark) → own_part (linked_or_plain prefix (item_link links only (decimal i) name k) ms) ≡ ms
   own_item only i name k ms = own_of prefix (item_link links only (decimal i) name k) ms
 
   own_shadow : (only : Bool) (i : ℕ) (s : ShadowItem) → own (shadow_parts prefix links only i s) ≡ shadow_marks s
@@ -84,10 +84,10 @@ module _ (prefix : List ℕ) (links : List Link) where
   own_line None name k ending ms = rw (own_member name k ms) (append-nil ms)
   own_line (Some u) name k ending ms = append-nil ms
 
-  own_one : (whole : Option (List (List ℕ))) (ms : List Mark) → own (part prefix whole ms ∷ []) ≡ ms
+  own_one : (whole : Option (List (List ℕ))) (ms : List Mark) → own (linked_or_plain prefix whole ms ∷ []) ≡ ms
   own_one whole ms = rw (own_of prefix whole ms) (append-nil ms)
 
-  own_lines : (name : List ℕ) (whole : Option (List (List ℕ))) (v : Typed) → map value (lines_of prefix links name whole v) ≡ all_values name v
+  own_lines : (name : List ℕ) (whole : Option (List (List ℕ))) (v : Typed) → map own_value (lines_of prefix links name whole v) ≡ all_values name v
   own_lines name whole (typed.Simple s) = ap (λ ms. (name, ms) ∷ []) (own_one whole (simple_marks s))
   own_lines name whole (typed.StrokeStyle s) = ap (λ ms. (name, ms) ∷ []) (own_one whole (stroke_marks s))
   own_lines name whole (typed.Border b) = ap (λ ms. (name, ms) ∷ []) (own_unless prefix whole (border_marks b) (border_parts prefix links b) (own_border b))
@@ -108,20 +108,20 @@ module _ (prefix : List ℕ) (links : List Link) where
         own_line w (codes "lineHeight") kind.Number (height_end Css) (number_marks t.line_height),
       ) refl
 
-  map_if : (b : Bool) (es : List NamedParts) (vs : Values) → map value es ≡ vs → map value (if b then es else []) ≡ (if b then vs else [])
+  map_if : (b : Bool) (es : List NamedParts) (vs : Values) → map own_value es ≡ vs → map own_value (if b then es else []) ≡ (if b then vs else [])
   map_if true es vs h = h
   map_if false es vs h = refl
 
-  pub own_values : (name : List ℕ) (v : Typed) → map value (entries prefix links name v) ≡ css_values name v
+  pub own_values : (name : List ℕ) (v : Typed) → map own_value (entries prefix links name v) ≡ css_values name v
   own_values name v = map_if (can_spell v) (lines_of prefix links name (link_for links [] (kind_of v)) v) (all_values name v) (own_lines name (link_for links [] (kind_of v)) v)
 
 -- the names of lines are those of their values
-pub entry_names : (es : List NamedParts) → map (λ e. e.name) es ≡ value_names (map value es)
+pub entry_names : (es : List NamedParts) → map (λ e. e.name) es ≡ value_names (map own_value es)
 entry_names [] = refl
 entry_names (e ∷ es) = ap (λ ns. e.name ∷ ns) (entry_names es)
 
 -- lines declare the names of their values
-line_names : (es : List NamedParts) → map (λ d. d.name) (map declaration es) ≡ value_names (map value es)
+line_names : (es : List NamedParts) → map (λ d. d.name) (map declaration es) ≡ value_names (map own_value es)
 line_names [] = refl
 line_names (e ∷ es) = ap (λ ns. e.name ∷ ns) (line_names es)
 

@@ -14,7 +14,7 @@ use Rattle.css_out.specs.Piece.{Mark, Values, value_names}
 use Rattle.css_out.specs.PlatformValue.{css_values}
 use Rattle.css_out.specs.Reading.{Declared, Block, ended, head, foot}
 use Rattle.css_out.specs.Rounds.{Denotes, most_links}
-use Rattle.css_out.specs.Parts.{Part, plain, linked, NamedParts, declaration, value}
+use Rattle.css_out.specs.Parts.{Part, plain, linked, NamedParts, declaration, own_value}
 use Rattle.css_out.specs.Fragment.{css_name, spelled_links}
 use Rattle.css_out.specs.Sources.{TargetsAreNamed, IsFrom, ComesFrom}
 use Rattle.css_out.specs.Sheets.{Cell, cell_name, cell_entries, cell_text, cell_values, cell_names, sheet_bytes, sheet_values, LeadsTo, LinksLead, no_links, link_leads, IsSheet, Refers}
@@ -73,7 +73,7 @@ module _ (settings : Settings) (cells : List Cell) (sheet : IsSheet settings cel
       let l = led lead from.link (in_spelled settings.references from.link c.links from.listed) in
       let R : Values → Type 0 = λ vs. In (name, marks) vs in
       let own = own_values settings.prefix (spelled l.to) (cell_name settings l.to) l.to.typed in
-      let listed : In (name, marks) (map value (cell_entries settings l.to)) = subst R (sym own) (among c l.to name marks from l.way) in
+      let listed : In (name, marks) (map own_value (cell_entries settings l.to)) = subst R (sym own) (among c l.to name marks from l.way) in
       let (e, i, same) = value_in (cell_entries settings l.to) name marks listed in
       let P : ℕ → Type 0 = λ m. Nested all m parts in
       let Q : ℕ → Type 0 = λ m. Nested all m (linked name marks ∷ parts) in
@@ -97,9 +97,9 @@ module _ (settings : Settings) (cells : List Cell) (sheet : IsSheet settings cel
   nested (suc k) c i lead e j = part_nested (suc k) (λ m more. let same : k ≡ m = cc in subst Deep same (nested k)) c lead e.parts (entry_from c i e j)
 
   -- the lines of all tokens
-  all_values : (cs : List Cell) → map value (flat_map (cell_entries settings) cs) ≡ sheet_values settings cs
+  all_values : (cs : List Cell) → map own_value (flat_map (cell_entries settings) cs) ≡ sheet_values settings cs
   all_values [] = refl
-  all_values (c ∷ cs) = map-append value (cell_entries settings c) (flat_map (cell_entries settings) cs) ∙ rw (own_values settings.prefix (spelled c) (cell_name settings c) c.typed, all_values cs) refl
+  all_values (c ∷ cs) = map-append own_value (cell_entries settings c) (flat_map (cell_entries settings) cs) ∙ rw (own_values settings.prefix (spelled c) (cell_name settings c) c.typed, all_values cs) refl
 
   targets_named : (k : ℕ) (c : Cell) → LinksLead cells k c c.links → TargetsAreNamed settings.prefix (spelled c)
   targets_named k c lead = all_of (λ l. is_property (css_name settings.prefix l.target) ≡ true) (spelled c) (λ link i.

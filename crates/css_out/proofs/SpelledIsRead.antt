@@ -15,7 +15,7 @@ use Rattle.transforms.specs.Runs.{first_run, behind_run, ends_run, starts_digit,
 use Rattle.transforms.proofs.QuotedReadsBack.{string_again}
 use Rattle.transforms.proofs.RunsAreFirst.{first_run-append, behind_run-append, numbers_start}
 use Rattle.css_out.specs.Piece.{Piece, mark, var, number, percent, unit, string, word, opens, closes, comma, slash, is_opening}
-use Rattle.css_out.specs.Reading.{in_word, in_name, is_some, is_var, worded, string_piece, measured, numbered, is_blank, after_comment, take, taken, step, Pieces, stops, skips, takes, are_closed, meets, Declared, names, comment_turn, turn, Block, ended, passes, declared}
+use Rattle.css_out.specs.Reading.{in_word, in_name, is_some, is_var, worded, string_piece, measured, number_piece, is_blank, after_comment, take, taken, step, Pieces, stops, skips, takes, are_closed, meets, Declared, names, comment_turn, turn, Block, ended, passes, declared}
 use Rattle.css_out.specs.Spelling.{piece_text, is_tight, pieces_from, pieces_text, line_text, omitted_text, body_text}
 use Rattle.css_out.proofs.SpellablePieces.{is_word, is_unit, IsSpellable, AreSpellable}
 
@@ -38,7 +38,7 @@ ends_numbers [] e = refl
 ends_numbers (c ∷ t) e = grind arith
 
 -- numbers
-digit_step : (c : ℕ) (t : List ℕ) → is_ascii_digit c ≡ true → step (c ∷ t) ≡ taken (numbered (number_at (c ∷ t)))
+digit_step : (c : ℕ) (t : List ℕ) → is_ascii_digit c ≡ true → step (c ∷ t) ≡ taken (number_piece (number_at (c ∷ t)))
 digit_step c t h =
     let a : (c == 59) ≡ false = grind arith in let b : is_blank c ≡ false = grind arith in
     let d : (c == 47) ≡ false = grind arith in let f : (c == 44) ≡ false = grind arith in
@@ -46,23 +46,23 @@ digit_step c t h =
     let j : (c == 45) ≡ false = grind arith in
     rw (a, b, d, f, g, i, j, h) refl
 
-minus_step : (c : ℕ) (t : List ℕ) → (c == 45) && starts_digit t ≡ true → step (c ∷ t) ≡ taken (numbered (number_at (c ∷ t)))
+minus_step : (c : ℕ) (t : List ℕ) → (c == 45) && starts_digit t ≡ true → step (c ∷ t) ≡ taken (number_piece (number_at (c ∷ t)))
 minus_step c t h =
     let l = both (c == 45) (starts_digit t) h in
     let minus : c ≡ 45 = grind (arith, nat_tests, l.0) in
     rw (minus, l.1) refl
 
-either_step : (b : Bool) (c : ℕ) (t : List ℕ) → is_ascii_digit c ≡ b → b || ((c == 45) && starts_digit t) ≡ true → step (c ∷ t) ≡ taken (numbered (number_at (c ∷ t)))
+either_step : (b : Bool) (c : ℕ) (t : List ℕ) → is_ascii_digit c ≡ b → b || ((c == 45) && starts_digit t) ≡ true → step (c ∷ t) ≡ taken (number_piece (number_at (c ∷ t)))
 either_step true c t e h = digit_step c t e
 either_step false c t e h = minus_step c t h
 
-numeric : (t : List ℕ) → starts_number t ≡ true → step t ≡ taken (numbered (number_at t))
+numeric : (t : List ℕ) → starts_number t ≡ true → step t ≡ taken (number_piece (number_at t))
 numeric [] h = cc
 numeric (c ∷ t) h = either_step (is_ascii_digit c) c t refl h
 
 spelling_step : (d : Decimal) (t : List ℕ) → IsDec d → ends_number t ≡ true → step (spelling d ++ t) ≡ taken (measured d t)
 spelling_step d t h e =
-    numeric (spelling d ++ t) (numbers_start d t h) ∙ ap (λ r. taken (numbered r)) (number_again d t h e)
+    numeric (spelling d ++ t) (numbers_start d t h) ∙ ap (λ r. taken (number_piece r)) (number_again d t h e)
 
 measured_none : (d : Decimal) (t : List ℕ) → ends t ≡ true → measured d t ≡ Some (mark (number d), t)
 measured_none d [] e = refl

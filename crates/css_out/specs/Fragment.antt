@@ -30,9 +30,9 @@ abbrev pub spelled_links : Settings → List Link → List Link
 spelled_links settings links = if settings.references then links else []
 
 -- a part by itself, or by the name of a target
-abbrev pub part : List ℕ → Option (List (List ℕ)) → List Mark → Part
-part prefix None marks = plain marks
-part prefix (Some target) marks = linked (css_name prefix target) marks
+abbrev pub linked_or_plain : List ℕ → Option (List (List ℕ)) → List Mark → Part
+linked_or_plain prefix None marks = plain marks
+linked_or_plain prefix (Some target) marks = linked (css_name prefix target) marks
 
 -- a value in parts, or the name of the target of a link in place of all
 abbrev pub unless_linked : List ℕ → Option (List (List ℕ)) → List Mark → List Part → List Part
@@ -57,7 +57,7 @@ line name parts = record { name = name; parts = parts }
 
 module _ (prefix : List ℕ) (links : List Link) where
   abbrev pub member_part : List ℕ → Kind → List Mark → Part
-  member_part name kind marks = part prefix (link_for links (name ∷ []) kind) marks
+  member_part name kind marks = linked_or_plain prefix (link_for links (name ∷ []) kind) marks
 
   abbrev pub border_parts : Border → List Part
   border_parts b =
@@ -72,7 +72,7 @@ module _ (prefix : List ℕ) (links : List Link) where
       ∷ member_part (codes "delay") kind.Duration (time_marks t.delay) ∷ []
 
   abbrev pub item_part : Bool → ℕ → List ℕ → Kind → List Mark → Part
-  item_part is_only i name kind marks = part prefix (item_link links is_only (decimal i) name kind) marks
+  item_part is_only i name kind marks = linked_or_plain prefix (item_link links is_only (decimal i) name kind) marks
 
   abbrev pub shadow_parts : Bool → ℕ → ShadowItem → List Part
   shadow_parts is_only i item =
@@ -89,8 +89,8 @@ module _ (prefix : List ℕ) (links : List Link) where
 
   -- the parts of a value that stands in one line, where a link stands at the whole value and where none does
   abbrev pub value_parts : Option (List (List ℕ)) → Typed → List Part
-  value_parts whole (typed.Simple s) = part prefix whole (simple_marks s) ∷ []
-  value_parts whole (typed.StrokeStyle s) = part prefix whole (stroke_marks s) ∷ []
+  value_parts whole (typed.Simple s) = linked_or_plain prefix whole (simple_marks s) ∷ []
+  value_parts whole (typed.StrokeStyle s) = linked_or_plain prefix whole (stroke_marks s) ∷ []
   value_parts whole (typed.Border b) = unless_linked prefix whole (border_marks b) (border_parts b)
   value_parts whole (typed.Transition t) = unless_linked prefix whole (transition_marks t) (transition_parts t)
   value_parts whole (typed.Shadow items) =

@@ -12,7 +12,7 @@ use Rattle.css_out.specs.Piece.{value_names}
 use Rattle.css_out.specs.PlatformValue.{can_spell, css_values}
 use Rattle.css_out.specs.Reading.{Declared, Block, Reads}
 use Rattle.css_out.specs.Rounds.{Denotes}
-use Rattle.css_out.specs.Parts.{declaration, value, as_declared}
+use Rattle.css_out.specs.Parts.{declaration, own_value, as_declared}
 use Rattle.css_out.specs.Fragment.{css_name, entries}
 use Rattle.css_out.specs.Spelling.{body_text, fragment_lines, fragment_names}
 use Rattle.css_out.specs.Sources.{TargetsAreNamed, ComesFrom, HasRoom}
@@ -35,7 +35,7 @@ ReadOnce = (bytes : List ℕ) (ds es : List Declared) → Reads bytes ds → Rea
 -- without references the lines of a token have its values
 abbrev pub OwnValues : Type 0
 OwnValues = (prefix name : List ℕ) (links : List Link) (v : Typed)
-    → map value (entries prefix links name v) ≡ css_values name v
+    → map own_value (entries prefix links name v) ≡ css_values name v
 
 -- the lines of a token declare its names, and nothing else
 abbrev pub LinesAreNamed : Type 0

@@ -32,8 +32,8 @@ pub record NamedParts : Type 0 where
 abbrev pub declaration : NamedParts → Declared
 declaration e = record { name = e.name; pieces = shown e.parts }
 
-abbrev pub value : NamedParts → List ℕ × List Mark
-value e = (e.name, own e.parts)
+abbrev pub own_value : NamedParts → List ℕ × List Mark
+own_value e = (e.name, own e.parts)
 
 -- a name and its value as a declaration without `var()`
 abbrev pub as_declared : List ℕ × List Mark → Declared

@@ -56,8 +56,8 @@ measured d (c ∷ t) = if c == percent_sign then Some (mark (percent d), t)
     else Some (mark (number d), c ∷ t))
 
 -- a number of any length: digits, and optionally a point and digits
-abbrev pub numbered : Decimal × List ℕ → Option (Piece × List ℕ)
-numbered r = measured r.0 r.1
+abbrev pub number_piece : Decimal × List ℕ → Option (Piece × List ℕ)
+number_piece r = measured r.0 r.1
 
 -- the piece at the start, and what follows it
 abbrev pub piece_at : List ℕ → Option (Piece × List ℕ)
@@ -67,8 +67,8 @@ piece_at (c ∷ t) =
     else (if c == right_bracket then Some (mark closes, t)
     else (if c == solidus then Some (mark slash, t)
     else (if c == quote then string_piece (string_from false t)
-    else (if is_ascii_digit c then numbered (unsigned_at false (c ∷ t))
-    else (if (c == hyphen) && starts_digit t then numbered (unsigned_at true t)
+    else (if is_ascii_digit c then number_piece (unsigned_at false (c ∷ t))
+    else (if (c == hyphen) && starts_digit t then number_piece (unsigned_at true t)
     else (if is_ascii_alphabetic c then worded (first_run in_word (c ∷ t)) (behind_run in_word (c ∷ t)) else None))))))
 
 abbrev pub is_blank : ℕ → Bool

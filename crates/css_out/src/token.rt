@@ -7,7 +7,7 @@ ghost use Rattle.composite_rules.specs.Sound.{IsTyped, IsShadowItem, IsColorStop
 ghost use Rattle.css_out.specs.Piece.{var};
 ghost use Rattle.css_out.specs.Links.{item_link};
 ghost use Rattle.css_out.specs.Parts.{Part, shown_part, shown};
-ghost use Rattle.css_out.specs.Fragment.{css_name, part, behind_commas, listed_parts, member_part};
+ghost use Rattle.css_out.specs.Fragment.{css_name, linked_or_plain, behind_commas, listed_parts, member_part};
 ghost use Rattle.css_out.specs.Fragment.{border_parts, transition_parts, shadow_parts, stop_parts};
 ghost use Rattle.css_out.specs.Fragment.{is_only, value_parts};
 ghost use Rattle.css_out.specs.inner.Added.{with_piece, with_pieces};
@@ -49,7 +49,7 @@ impl<'a, 's> Token<'a, 's> {
         target: Option<&Path<'_>>,
         value: &T,
     ) -> Result<(), NoMemory>
-        ensures { OnOk result (line.new ≡ with_pieces line.old (shown_part (part
+        ensures { OnOk result (line.new ≡ with_pieces line.old (shown_part (linked_or_plain
             self.now.cfg.now.prefix (option_map (λ p. p.now) target.entry)
             (T.marks value.now)))) }
     {
@@ -110,7 +110,7 @@ impl<'a, 's> Token<'a, 's> {
         kind: Kind,
         value: &T,
     ) -> Result<(), NoMemory>
-        ensures { OnOk result (line.new ≡ with_pieces line.old (shown_part (part
+        ensures { OnOk result (line.new ≡ with_pieces line.old (shown_part (linked_or_plain
             self.now.cfg.now.prefix
             (item_link self.now.links.now place.now.is_only place.now.index.now name.now kind)
             (T.marks value.now)))) }

@@ -11,11 +11,11 @@ use Rattle.ring.proofs.Ends.{Ends, ends, no_ring}
 use Rattle.tk_io.specs.Order.{text_cmp}
 use Rattle.tk_io.proofs.TextMaps.{text_cmp-IsAntisymmetric}
 use Rattle.token_tree.specs.Tree.{Properties, Child, a_token, a_group, Group, group, Children, no_children, child, children_of, group_with}
-use Rattle.group_inherit.specs.Ordered.{entries_in}
-use Rattle.group_inherit.specs.inner.Bare.{IsBare, AreBare, IsBareChild, members_of, members_among, members_in, levels_of, levels_among, levels_in}
-use Rattle.group_inherit.specs.Merging.{named, empty_group}
+use Rattle.group_inherit.specs.Ordered.{child_entries}
+use Rattle.group_inherit.specs.inner.Bare.{IsBare, AreBare, IsBareChild, member_count_of, member_count_among, member_count_in, levels_of, levels_among, levels_in}
+use Rattle.group_inherit.specs.Merging.{children_by_name, empty_group}
 use Rattle.group_inherit.specs.Expansion.{without_extension, expanded, Expands, expands, AreExpanded, no_member, own_token, child_group, IsInherited, no_target}
-use Rattle.group_inherit.specs.Extension.{GroupPath, group_of, group_at, at_path, groups_from, groups_among, groups_in, children_in, extension_of, target_path, names_of_groups, needs_of, needs, Lost, lost_at, lost_among, has_group, lost_targets, how_many, count_of, tokens_height, greatest_raised, height_of}
+use Rattle.group_inherit.specs.Extension.{GroupPath, as_group, group_at, at_path, groups_from, groups_among, groups_in, children_in, extension_of, target_path, names_of_groups, needs_of, needs, Lost, lost_at, lost_among, has_group, lost_targets, how_many, count_of, tokens_height, greatest_raised, height_of}
 use Rattle.group_inherit.specs.inner.Numbering.{GroupAt, LacksName, AreNamed, AreNamedAmong, AreNamedIn}
 use Rattle.group_inherit.specs.Answer.{most_members, most_levels, most_told, IsCounted, IsSound}
 use Rattle.group_inherit.proofs.Finding.{goes_on}
@@ -23,25 +23,25 @@ use Rattle.group_inherit.proofs.Naming.{sorted_lacks, sorted_rest, get_here, get
 use Rattle.group_inherit.proofs.OrderedTrees.{again}
 use Rattle.group_inherit.proofs.Overs.{get_named}
 
-get_of : (cs : Children) (q : List ℕ) → map_of.get (named cs) q ≡ find text_cmp q (entries_in cs)
-get_of cs q = ap (λ (ds : Children). map_of.get (named ds) q) (sym (again cs)) ∙ get_named (entries_in cs) q
+get_of : (cs : Children) (q : List ℕ) → map_of.get (children_by_name cs) q ≡ find text_cmp q (child_entries cs)
+get_of cs q = ap (λ (ds : Children). map_of.get (children_by_name ds) q) (sym (again cs)) ∙ get_named (child_entries cs) q
 
 -- children in the order of their names are those of their map
-kept : (cs : Children) → T (is_sorted text_cmp (entries_in cs)) → map_of.entries (named cs) ≡ entries_in cs
+kept : (cs : Children) → T (is_sorted text_cmp (child_entries cs)) → map_of.entries (children_by_name cs) ≡ child_entries cs
 kept cs h =
-    ap map_of.entries (map_of.same_map nat_list_cmp_total text_cmp-IsAntisymmetric (named cs) (map_of.from_sorted (entries_in cs)) (λ q. get_of cs q ∙ sym (map_of.get-from_sorted text_cmp (entries_in cs) q h)))
-    ∙ map_of.entries-from_sorted text_cmp (entries_in cs) h
+    ap map_of.entries (map_of.same_map nat_list_cmp_total text_cmp-IsAntisymmetric (children_by_name cs) (map_of.from_sorted (child_entries cs)) (λ q. get_of cs q ∙ sym (map_of.get-from_sorted text_cmp (child_entries cs) q h)))
+    ∙ map_of.entries-from_sorted text_cmp (child_entries cs) h
 
 mutual
   pub bare_named : (g : Group) → IsBare g → AreNamed g
   bare_named (group ps cs) b = bare_named_among cs b.1 b.2
 
-  bare_named_among : (cs : Children) → T (is_sorted text_cmp (entries_in cs)) → AreBare cs → AreNamedAmong cs
+  bare_named_among : (cs : Children) → T (is_sorted text_cmp (child_entries cs)) → AreBare cs → AreNamedAmong cs
   bare_named_among no_children s b = tt
   bare_named_among (child name c cs) s b = (
-    subst (λ (ds : Children). LacksName name ds) (again cs) (sorted_lacks (name, c) (entries_in cs) s),
+    subst (λ (ds : Children). LacksName name ds) (again cs) (sorted_lacks (name, c) (child_entries cs) s),
     bare_named_in c b.0,
-    bare_named_among cs (sorted_rest (name, c) (entries_in cs) s) b.1,
+    bare_named_among cs (sorted_rest (name, c) (child_entries cs) s) b.1,
   )
 
   bare_named_in : (c : Child) → IsBareChild c → AreNamedIn c
@@ -84,8 +84,8 @@ abbrev pub groups_of : Children → List Group
 groups_of no_children = []
 groups_of (child name c cs) = group_alone c ++ groups_of cs
 
-below : (o : Option Child) (h : Group) → o ≡ Some (a_group h) → option_and_then (λ x. group_at x []) (option_and_then group_of o) ≡ Some h
-below o h e = ap (λ (r : Option Child). option_and_then (λ (x : Group). group_at x []) (option_and_then group_of r)) e
+below : (o : Option Child) (h : Group) → o ≡ Some (a_group h) → option_and_then (λ x. group_at x []) (option_and_then as_group o) ≡ Some h
+below o h e = ap (λ (r : Option Child). option_and_then (λ (x : Group). group_at x []) (option_and_then as_group r)) e
 
 module _ (tree : Group) {V : Type 0} (step : Group → List V → V) (value : Group → V)
     (same : (ps : Properties) (cs : Children) → IsBare (group ps cs) → step (group ps cs) (map value (groups_of cs)) ≡ value (group ps cs)) where
@@ -97,10 +97,10 @@ module _ (tree : Group) {V : Type 0} (step : Group → List V → V) (value : Gr
         let needed : needs tree path ≡ own = ap (needs_of path) at ∙ (ap (λ o. own ++ option_to_list (option_map (λ e. e.target) o)) b.0 ∙ append-nil own) in
         let all : AllCome (needs tree) (λ p xs. step (at_path tree p) xs) (needs tree path) (map value (groups_of cs)) =
         subst (λ (ws : List GroupPath). AllCome (needs tree) (λ p xs. step (at_path tree p) xs) ws (map value (groups_of cs))) (sym needed)
-        (all_come path cs (bare_named (group ps cs) b) (λ name h e. goes_on tree path (group ps cs) (name ∷ []) f ∙ below (map_of.get (named cs) name) h e) b.2) in
+        (all_come path cs (bare_named (group ps cs) b) (λ name h e. goes_on tree path (group ps cs) (name ∷ []) f ∙ below (map_of.get (children_by_name cs) name) h e) b.2) in
         subst (Comes (needs tree) (λ p xs. step (at_path tree p) xs) path) (ap (λ (h : Group). step h (map value (groups_of cs))) at ∙ same ps cs b) (comes all)
 
-    all_come : (path : GroupPath) (cs : Children) → AreNamedAmong cs → ((name : List ℕ) (h : Group) → map_of.get (named cs) name ≡ Some (a_group h) → group_at tree (path ++ name ∷ []) ≡ Some h) → AreBare cs
+    all_come : (path : GroupPath) (cs : Children) → AreNamedAmong cs → ((name : List ℕ) (h : Group) → map_of.get (children_by_name cs) name ≡ Some (a_group h) → group_at tree (path ++ name ∷ []) ≡ Some h) → AreBare cs
         → AllCome (needs tree) (λ p xs. step (at_path tree p) xs) (map (λ name. path ++ name ∷ []) (names_of_groups cs)) (map value (groups_of cs))
     all_come path no_children a h b = none
     all_come path (child name (a_token d) cs) a h b = all_come path cs a.2 (λ n g e. h n g (get_later name (a_token d) cs n (a_group g) a.0 e)) b.1
@@ -113,13 +113,13 @@ module _ (tree : Group) {V : Type 0} (step : Group → List V → V) (value : Gr
 
 -- The count.
 
-count_same : (cs : Children) → how_many cs + sum (map members_of (groups_of cs)) ≡ members_among cs
+count_same : (cs : Children) → how_many cs + sum (map member_count_of (groups_of cs)) ≡ member_count_among cs
 count_same no_children = omega arith
 count_same (child name (a_token d) cs) = omega (arith, count_same cs)
-count_same (child name (a_group g) cs) = omega (arith, sum_by-cons (λ (y : ℕ). y) (members_of g) (map members_of (groups_of cs)), count_same cs)
+count_same (child name (a_group g) cs) = omega (arith, sum_by-cons (λ (y : ℕ). y) (member_count_of g) (map member_count_of (groups_of cs)), count_same cs)
 
-pub bare_count : (tree : Group) → IsBare tree → Comes (needs tree) (λ path counts. count_of (at_path tree path) counts) [] (members_of tree)
-bare_count tree b = come tree count_of members_of (λ ps cs _. count_same cs) b
+pub bare_count : (tree : Group) → IsBare tree → Comes (needs tree) (λ path counts. count_of (at_path tree path) counts) [] (member_count_of tree)
+bare_count tree b = come tree count_of member_count_of (λ ps cs _. count_same cs) b
 
 -- The height.
 
@@ -133,14 +133,14 @@ bare_height tree b = come tree height_of levels_of (λ ps cs _. height_same cs) 
 
 mutual
   -- a group has as many members as levels, or more
-  pub low_levels : (g : Group) → levels_of g ≤ members_of g
+  pub low_levels : (g : Group) → levels_of g ≤ member_count_of g
   low_levels (group ps cs) = low_among cs
 
-  low_among : (cs : Children) → levels_among cs ≤ members_among cs
+  low_among : (cs : Children) → levels_among cs ≤ member_count_among cs
   low_among no_children = omega arith
   low_among (child name c cs) = omega (arith, low_in c, low_among cs)
 
-  low_in : (c : Child) → levels_in c ≤ members_in c + 1
+  low_in : (c : Child) → levels_in c ≤ member_count_in c + 1
   low_in (a_token d) = omega arith
   low_in (a_group g) = omega (arith, low_levels g)
 
@@ -149,7 +149,7 @@ mutual
 expanded_same : (ps : Properties) (cs : Children) → IsBare (group ps cs) → expanded (group ps cs) cs None ≡ group ps cs
 expanded_same ps cs b =
     let without : without_extension ps ≡ ps = λ i. record { kind = ps.kind; deprecated = ps.deprecated; extends = sym b.0 i } in
-    ap (λ (qs : Properties). group_with qs (named cs)) without
+    ap (λ (qs : Properties). group_with qs (children_by_name cs)) without
     ∙ (ap (λ es. group ps (children_of es)) (kept cs b.1) ∙ ap (group ps) (again cs))
 
 module _ (tree : Group) where
@@ -159,14 +159,14 @@ module _ (tree : Group) where
         let at : at_path tree path ≡ group ps cs = ap (λ (o : Option Group). unwrap_or o empty_group) f in
         let members : AreExpanded tree path (children_in (at_path tree path)) cs =
         subst (λ (g : Group). AreExpanded tree path (children_in g) cs) (sym at)
-        (bare_members path cs (bare_named (group ps cs) b) (λ name h e. goes_on tree path (group ps cs) (name ∷ []) f ∙ below (map_of.get (named cs) name) h e) b.2) in
+        (bare_members path cs (bare_named (group ps cs) b) (λ name h e. goes_on tree path (group ps cs) (name ∷ []) f ∙ below (map_of.get (children_by_name cs) name) h e) b.2) in
         let target : target_path (at_path tree path) ≡ None =
         ap target_path at ∙ ap (option_map (λ e. e.target)) b.0 in
         let inherited : IsInherited tree (target_path (at_path tree path)) None =
         subst (λ (o : Option GroupPath). IsInherited tree o None) (sym target) no_target in
         subst (Expands tree path) (ap (λ (g : Group). expanded g cs None) at ∙ expanded_same ps cs b) (expands members inherited)
 
-    bare_members : (path : GroupPath) (cs : Children) → AreNamedAmong cs → ((name : List ℕ) (h : Group) → map_of.get (named cs) name ≡ Some (a_group h) → group_at tree (path ++ name ∷ []) ≡ Some h) → AreBare cs
+    bare_members : (path : GroupPath) (cs : Children) → AreNamedAmong cs → ((name : List ℕ) (h : Group) → map_of.get (children_by_name cs) name ≡ Some (a_group h) → group_at tree (path ++ name ∷ []) ≡ Some h) → AreBare cs
         → AreExpanded tree path cs cs
     bare_members path no_children a h b = no_member
     bare_members path (child name (a_token d) cs) a h b = own_token (bare_members path cs a.2 (λ n g e. h n g (get_later name (a_token d) cs n (a_group g) a.0 e)) b.1)
@@ -193,10 +193,10 @@ bare_no_ring tree b = no_ring (needs tree) [] (comes_end (needs tree) (λ path c
 
 -- The verdict.
 
-pub bare_counted : (tree : Group) (shown : ℕ) → IsBare tree → shown ≡ min (members_of tree) most_told → shown ≤ most_members → IsCounted tree
-bare_counted tree shown b is h = (members_of tree, bare_count tree b, omega (arith, is, h))
+pub bare_counted : (tree : Group) (shown : ℕ) → IsBare tree → shown ≡ min (member_count_of tree) most_told → shown ≤ most_members → IsCounted tree
+bare_counted tree shown b is h = (member_count_of tree, bare_count tree b, omega (arith, is, h))
 
-pub bare_sound : (tree : Group) (shown levels : ℕ) → IsBare tree → shown ≡ min (members_of tree) most_told → levels ≡ min (levels_of tree) most_told → shown ≤ most_members → levels ≤ most_levels → IsSound tree
+pub bare_sound : (tree : Group) (shown levels : ℕ) → IsBare tree → shown ≡ min (member_count_of tree) most_told → levels ≡ min (levels_of tree) most_told → shown ≤ most_members → levels ≤ most_levels → IsSound tree
 bare_sound tree shown levels b is high h k = record {
   targets = bare_targets tree b;
   rings = bare_no_ring tree b;

@@ -16,7 +16,7 @@ use Rattle.token_tree.specs.Tree.{Child, a_token, a_group, Group, Children, no_c
 use Rattle.group_inherit.specs.declared.targets.Row.{Row}
 use Rattle.group_inherit.specs.Answer.{most_levels, most_told, IsCounted, IsLow}
 use Rattle.group_inherit.specs.Extension.{GroupPath, at_path, needs_of, needs, name_of_group, names_of_groups, group_names, children_in, how_many, count_of, token_height, tokens_height, greatest, greatest_raised, height_of, Heights}
-use Rattle.group_inherit.specs.inner.Numbering.{GroupAt, group_in, path_in, IsNumbering, IsRowOf, numbers_of, needs_by}
+use Rattle.group_inherit.specs.inner.Numbering.{GroupAt, numbered_group, numbered_path, IsNumbering, IsRowOf, numbers_of, needs_by}
 use Rattle.group_inherit.specs.inner.Outcomes.{IsHeight, HoldsHeight, own_counts}
 use Rattle.group_inherit.proofs.Trees.{root_path, at_tree, row_needs}
 
@@ -59,12 +59,12 @@ module _ {N : Type 0} (needs : N → List N) (at : N → Group) where
 
 -- Totals of the numbers of members are counts.
 
-own_at : (nodes : List GroupAt) (v : ℕ) → slice_index (own_counts nodes) v ≡ how_many (children_in (group_in nodes v))
+own_at : (nodes : List GroupAt) (v : ℕ) → slice_index (own_counts nodes) v ≡ how_many (children_in (numbered_group nodes v))
 own_at [] v = refl
 own_at (n ∷ ns) zero = refl
 own_at (n ∷ ns) (suc v) = own_at ns v
 
-pub counts_are : (nodes : List GroupAt) (needs : ℕ → List ℕ) (v n : ℕ) → Comes needs (total_step (own_counts nodes)) v n → Comes needs (λ w xs. count_of (group_in nodes w) xs) v n
+pub counts_are : (nodes : List GroupAt) (needs : ℕ → List ℕ) (v n : ℕ) → Comes needs (total_step (own_counts nodes)) v n → Comes needs (λ w xs. count_of (numbered_group nodes w) xs) v n
 counts_are nodes needs v n c = subst (λ (f : ℕ → List ℕ → ℕ). Comes needs f v n) (λ i. λ w xs. own_at nodes w i + sum xs) c
 
 -- how many children there are
@@ -122,11 +122,11 @@ module _ (tree : Group) (nodes : List GroupAt) (table : List ℕ) where
   -- the heights of which the table shows the capped ones
   record Behind (ws : List ℕ) : Type 0 where
     heights : List ℕ
-    come : AllCome (needs tree) (λ path hs. height_of (at_path tree path) hs) (map (path_in nodes) ws) heights
+    come : AllCome (needs tree) (λ path hs. height_of (at_path tree path) hs) (map (numbered_path nodes) ws) heights
     same : (a : ℕ) → min (max a (greatest (map (λ w. get_or table w 0) ws))) most_told ≡ min (max a (greatest heights)) most_told
     raised : (names : List (List ℕ)) (a : ℕ) → min (max a (greatest_raised names (map (λ w. get_or table w 0) ws))) most_told ≡ min (max a (greatest_raised names heights)) most_told
 
-  behind : (ws : List ℕ) → ((w : ℕ) → In w ws → IsHeight tree (path_in nodes w) (get_or table w 0)) → Behind ws
+  behind : (ws : List ℕ) → ((w : ℕ) → In w ws → IsHeight tree (numbered_path nodes w) (get_or table w 0)) → Behind ws
   behind [] known = record { heights = []; come = none; same = λ a. refl; raised = no_names }
     where
       no_names : (names : List (List ℕ)) (a : ℕ) → min (max a (greatest_raised names [])) most_told ≡ min (max a (greatest_raised names [])) most_told
@@ -150,8 +150,8 @@ module _ (tree : Group) (nodes : List GroupAt) (table : List ℕ) where
       each s h ss hs e same raised [] a = same a
       each s h ss hs e same raised (n ∷ ns) a = capped_up a s h (greatest_raised ns ss) (greatest_raised ns hs) e (raised ns (max a (h + 1)))
 
-  height_more : (path : GroupPath) (g : Group) (ws : List ℕ) (total : ℕ) → at_path tree path ≡ g → map (path_in nodes) ws ≡ needs_of path g →
-      ((w : ℕ) → In w ws → IsHeight tree (path_in nodes w) (get_or table w 0)) → total ≡ min (height_of g (map (λ w. get_or table w 0) ws)) most_told → IsHeight tree path total
+  height_more : (path : GroupPath) (g : Group) (ws : List ℕ) (total : ℕ) → at_path tree path ≡ g → map (numbered_path nodes) ws ≡ needs_of path g →
+      ((w : ℕ) → In w ws → IsHeight tree (numbered_path nodes w) (get_or table w 0)) → total ≡ min (height_of g (map (λ w. get_or table w 0) ws)) most_told → IsHeight tree path total
   height_more path g ws total at needed known is =
       let b = behind ws known in
       let step : GroupPath → List ℕ → ℕ = λ p hs. height_of (at_path tree p) hs in
@@ -163,17 +163,17 @@ module _ (tree : Group) (nodes : List GroupAt) (table : List ℕ) where
 pub heights_more : (nodes : List GroupAt) → IsNumbering nodes → (rows : List Row) (table order : List ℕ) (k v total : ℕ) (row : Row) → IsRowOf nodes v row → needs_by rows v ≡ numbers_of row →
     Follows (needs_by rows) [] order → k < length order → v ≡ get_or order k 0 → v < length nodes → v < length table →
     ((u : ℕ) → In u (take k order) → HoldsHeight nodes table u) →
-    total ≡ min (height_of (group_in nodes v) (map (λ w. get_or table w 0) (numbers_of row))) most_told →
+    total ≡ min (height_of (numbered_group nodes v) (map (λ w. get_or table w 0) (numbers_of row))) most_told →
     (u : ℕ) → In u (take (k + 1) order) → HoldsHeight nodes (set table v total) u
 heights_more nodes n rows table order k v total row of own f h e there within known is u i =
     elim (cases_eq u v) [
-      | inl p ↦ subst (λ (x : ℕ). HoldsHeight nodes (set table v total) x) (sym p) (subst (IsHeight (group_in nodes 0) (path_in nodes v)) (sym (get_or-set_same table v total 0 within)) here)
-      | inr q ↦ subst (IsHeight (group_in nodes 0) (path_in nodes u)) (sym (get_or-set_other table v u total 0 q)) (known u (before q))
+      | inl p ↦ subst (λ (x : ℕ). HoldsHeight nodes (set table v total) x) (sym p) (subst (IsHeight (numbered_group nodes 0) (numbered_path nodes v)) (sym (get_or-set_same table v total 0 within)) here)
+      | inr q ↦ subst (IsHeight (numbered_group nodes 0) (numbered_path nodes u)) (sym (get_or-set_other table v u total 0 q)) (known u (before q))
     ]
   where
-    here : IsHeight (group_in nodes 0) (path_in nodes v) total
+    here : IsHeight (numbered_group nodes 0) (numbered_path nodes v) total
     here =
-        height_more (group_in nodes 0) nodes table (path_in nodes v) (group_in nodes v) (numbers_of row) total (at_tree (group_in nodes 0) nodes n.all n.named v there) (row_needs nodes v row of)
+        height_more (numbered_group nodes 0) nodes table (numbered_path nodes v) (numbered_group nodes v) (numbers_of row) total (at_tree (numbered_group nodes 0) nodes n.all n.named v there) (row_needs nodes v row of)
         (λ w j. known w (follows_at (needs_by rows) [] order k f h w (subst (λ (x : ℕ). In w (needs_by rows x)) e (subst (In w) (sym own) j)))) is
 
     before : (u ≡ v → ⊥) → In u (take k order)
@@ -183,8 +183,8 @@ heights_more nodes n rows table order k v total row of own f h e there within kn
     ]
 
 -- the height of the root, by its path
-pub root_height : (nodes : List GroupAt) → IsNumbering nodes → (table : List ℕ) → HoldsHeight nodes table 0 → IsHeight (group_in nodes 0) [] (get_or table 0 0)
-root_height nodes n table t = subst (λ (p : GroupPath). IsHeight (group_in nodes 0) p (get_or table 0 0)) (root_path (group_in nodes 0) nodes n.all n.named) t
+pub root_height : (nodes : List GroupAt) → IsNumbering nodes → (table : List ℕ) → HoldsHeight nodes table 0 → IsHeight (numbered_group nodes 0) [] (get_or table 0 0)
+root_height nodes n table t = subst (λ (p : GroupPath). IsHeight (numbered_group nodes 0) p (get_or table 0 0)) (root_path (numbered_group nodes 0) nodes n.all n.named) t
 
 -- a height that is too large is told as it is, since there are not more levels than members
 pub height_fault : (tree : Group) (shown : ℕ) → IsHeight tree [] shown → IsCounted tree → most_levels < shown → Heights tree [] shown

@@ -16,10 +16,10 @@ use Rattle.token_tree.specs.Tree.{Extension, Child, a_token, a_group, Group, gro
 use Rattle.group_inherit.specs.declared.fault.TreeFault.TheVariants.{ExtendsTarget, ExtendsCycle, TooManyTokens, TooHigh}
 use Rattle.group_inherit.specs.Answer.{most_members, most_levels, most_told}
 use Rattle.group_inherit.specs.Expansion.{expanded, Expands, expands, AreExpanded, no_member, own_token, child_group, IsInherited, no_target, its_target}
-use Rattle.group_inherit.specs.Extension.{GroupPath, group_of, group_at, at_path, groups_from, group_paths, children_in, extension_of, names_of_groups, group_names, target_path, needs_of, needs, Lost, lost_targets, Counts, Heights, count_of, height_of}
+use Rattle.group_inherit.specs.Extension.{GroupPath, as_group, group_at, at_path, groups_from, group_paths, children_in, extension_of, names_of_groups, group_names, target_path, needs_of, needs, Lost, lost_targets, Counts, Heights, count_of, height_of}
 use Rattle.group_inherit.specs.Flattening.{flat_of}
 use Rattle.group_inherit.specs.Laws.{LosesTarget, HasBreak, HasFlat, EachTreeAnswers}
-use Rattle.group_inherit.specs.Merging.{named, empty_group}
+use Rattle.group_inherit.specs.Merging.{children_by_name, empty_group}
 use Rattle.group_inherit.specs.Ordered.{IsOrdered}
 use Rattle.group_inherit.specs.Span.{span_of}
 use Rattle.group_inherit.specs.inner.Numbering.{GroupAt, AreNamed, AreNamedAmong}
@@ -40,13 +40,13 @@ paths_decided p q = elim (cases_Bool (is_at (names_cmp p) q)) [
 -- Child groups by their names.
 
 named_group : (name : List ℕ) (cs : Children) → AreNamedAmong cs → In name (names_of_groups cs)
-    → (h : Group) × (map_of.get (named cs) name ≡ Some (a_group h))
+    → (h : Group) × (map_of.get (children_by_name cs) name ≡ Some (a_group h))
 named_group name no_children a i = absurd i
 named_group name (child k (a_token d) cs) a i =
     let f = named_group name cs a.2 i in
     (f.0, get_later k (a_token d) cs name (a_group f.0) a.0 f.1)
 named_group name (child k (a_group g) cs) a (inl e) =
-    (g, ap (λ (n : List ℕ). map_of.get (named (child k (a_group g) cs)) n) e ∙ get_here k (a_group g) cs)
+    (g, ap (λ (n : List ℕ). map_of.get (children_by_name (child k (a_group g) cs)) n) e ∙ get_here k (a_group g) cs)
 named_group name (child k (a_group g) cs) a (inr i) =
     let f = named_group name cs a.2 i in
     (f.0, get_later k (a_group g) cs name (a_group f.0) a.0 f.1)
@@ -55,7 +55,7 @@ child_there : (name : List ℕ) (g : Group) → AreNamed g → In name (group_na
     → (h : Group) × (group_at g (name ∷ []) ≡ Some h)
 child_there name (group ps cs) a i =
     let f = named_group name cs a i in
-    (f.0, ap (λ (o : Option Child). option_and_then (λ (x : Group). group_at x []) (option_and_then group_of o)) f.1)
+    (f.0, ap (λ (o : Option Child). option_and_then (λ (x : Group). group_at x []) (option_and_then as_group o)) f.1)
 
 -- A group has an expansion where all that it needs has one.
 

@@ -11,11 +11,11 @@ use Rattle.token_tree.specs.Tree.{Definition, Child, a_token, a_group, Group, Ch
 use Rattle.token_tree.specs.declared.tree.Group.{Group as GroupIn}
 use Rattle.group_inherit.specs.Expansion.{properties_in, without_extension, over_inherited, expanded, Expands, expands, AreExpanded, no_member, own_token, child_group, IsInherited, no_target, its_target}
 use Rattle.group_inherit.specs.Extension.{GroupPath, at_path, children_in, target_path, names_of_groups, paths_below}
-use Rattle.group_inherit.specs.Merging.{either, named}
-use Rattle.group_inherit.specs.Ordered.{entries_in}
+use Rattle.group_inherit.specs.Merging.{either, children_by_name}
+use Rattle.group_inherit.specs.Ordered.{child_entries}
 use Rattle.group_inherit.specs.Putting.{put_all}
 use Rattle.group_inherit.specs.inner.Outcomes.{HasMembers}
-use Rattle.group_inherit.specs.inner.Tables.{value, HaveExpansions, HasTarget}
+use Rattle.group_inherit.specs.inner.Tables.{tabled_group, HaveExpansions, HasTarget}
 use Rattle.group_inherit.proofs.OrderedTrees.{again, entries_again}
 use Rattle.group_inherit.proofs.Overs.{get_named, named_entries}
 use Rattle.group_inherit.proofs.Puts.{get_put_all, either_none}
@@ -26,31 +26,31 @@ Entries = List (List ℕ × Child)
 -- Expanded members have the names of the members, in their order.
 
 below_same : (x : List ℕ) (tree : Group) (path : GroupPath) (cs : Children) {ms : Children} → AreExpanded tree path cs ms
-    → below_all text_cmp x (entries_in ms) ≡ below_all text_cmp x (entries_in cs)
+    → below_all text_cmp x (child_entries ms) ≡ below_all text_cmp x (child_entries cs)
 below_same x tree path no_children no_member = refl
 below_same x tree path (child name (a_token d) cs) (own_token a) = ap (λ b. is_lt (text_cmp x name) && b) (below_same x tree path cs a)
 below_same x tree path (child name (a_group g) cs) (child_group e a) = ap (λ b. is_lt (text_cmp x name) && b) (below_same x tree path cs a)
 
 sorted_same : (tree : Group) (path : GroupPath) (cs : Children) {ms : Children} → AreExpanded tree path cs ms
-    → is_sorted text_cmp (entries_in ms) ≡ is_sorted text_cmp (entries_in cs)
+    → is_sorted text_cmp (child_entries ms) ≡ is_sorted text_cmp (child_entries cs)
 sorted_same tree path no_children no_member = refl
 sorted_same tree path (child name (a_token d) cs) (own_token a) = ap₂ ◌&&◌ (below_same name tree path cs a) (sorted_same tree path cs a)
 sorted_same tree path (child name (a_group g) cs) (child_group e a) = ap₂ ◌&&◌ (below_same name tree path cs a) (sorted_same tree path cs a)
 
 -- children in the order of their names, put one after the other
-named_put : (cs : Children) → T (is_sorted text_cmp (entries_in cs)) → named cs ≡ put_all (entries_in cs) map.empty
+named_put : (cs : Children) → T (is_sorted text_cmp (child_entries cs)) → children_by_name cs ≡ put_all (child_entries cs) map.empty
 named_put cs s =
     map.same_map nat_list_cmp_total text_cmp-IsAntisymmetric _ _ (λ q.
-    ap (λ (ds : Children). map.get (named ds) q) (sym (again cs))
-    ∙ (get_named (entries_in cs) q
-    ∙ sym (get_put_all nat_list_cmp_total text_cmp-IsAntisymmetric (entries_in cs) s map.empty q
-    ∙ (ap (either (find text_cmp q (entries_in cs))) (map.get-empty text_cmp q) ∙ either_none _))))
+    ap (λ (ds : Children). map.get (children_by_name ds) q) (sym (again cs))
+    ∙ (get_named (child_entries cs) q
+    ∙ sym (get_put_all nat_list_cmp_total text_cmp-IsAntisymmetric (child_entries cs) s map.empty q
+    ∙ (ap (either (find text_cmp q (child_entries cs))) (map.get-empty text_cmp q) ∙ either_none _))))
 
 -- Of the members `es`, those that are left and the numbers that are left for their groups, where these members were made.
 pub record Filling (tree : Group) (path : GroupPath) (table : List GroupIn) (es left : Entries) (numbers : List ℕ) (made : Named) : Type 0 where
   pub known : HaveExpansions tree table (paths_below path (children_of left)) numbers
   pub whole : (rest : Children) → AreExpanded tree path (children_of left) rest
-      → (ms : Children) × AreExpanded tree path (children_of es) ms × (named ms ≡ put_all (entries_in rest) made)
+      → (ms : Children) × AreExpanded tree path (children_of es) ms × (children_by_name ms ≡ put_all (child_entries rest) made)
 
 module _ (tree : Group) (path : GroupPath) (table : List GroupIn) (es : Entries) where
   -- at first all members are left
@@ -62,7 +62,7 @@ module _ (tree : Group) (path : GroupPath) (table : List GroupIn) (es : Entries)
       rest,
       a,
       named_put rest (subst T (sym (sorted_same tree path (children_of es) a ∙ ap (is_sorted text_cmp) (entries_again es))) s)
-          ∙ ap (put_all (entries_in rest)) (sym e),
+          ∙ ap (put_all (child_entries rest)) (sym e),
     );
   }
 
@@ -76,20 +76,20 @@ module _ (tree : Group) (path : GroupPath) (table : List GroupIn) (es : Entries)
         known = g.known;
         whole = λ rest a. (
             let w = g.whole (child name (a_token d) rest) (own_token a) in
-            (w.0, w.1, w.2 ∙ ap (put_all (entries_in rest)) (sym (put ∙ ap (map.insert made name) is))));
+            (w.0, w.1, w.2 ∙ ap (put_all (child_entries rest)) (sym (put ∙ ap (map.insert made name) is))));
       }
 
   -- a group's expansion stands in its place
   pub group_filled : (name : List ℕ) (c : Child) (g : Group) (left : Entries) (w : ℕ) (numbers : List ℕ) (made new : Named) → c ≡ a_group g
-      → new ≡ map.insert made name (a_group (value table w)) → Filling tree path table es ((name, c) ∷ left) (w ∷ numbers) made → Filling tree path table es left numbers new
+      → new ≡ map.insert made name (a_group (tabled_group table w)) → Filling tree path table es ((name, c) ∷ left) (w ∷ numbers) made → Filling tree path table es left numbers new
   group_filled name c g left w numbers made new is put f =
       let h : Filling tree path table es ((name, a_group g) ∷ left) (w ∷ numbers) made =
       subst (λ (x : Child). Filling tree path table es ((name, x) ∷ left) (w ∷ numbers) made) is f in
       record {
         known = h.known.1;
         whole = λ rest a. (
-            let v = h.whole (child name (a_group (value table w)) rest) (child_group h.known.0 a) in
-            (v.0, v.1, v.2 ∙ ap (put_all (entries_in rest)) (sym put)));
+            let v = h.whole (child name (a_group (tabled_group table w)) rest) (child_group h.known.0 a) in
+            (v.0, v.1, v.2 ∙ ap (put_all (child_entries rest)) (sym put)));
       }
 
   -- at the end no member is left
@@ -137,7 +137,7 @@ module _ (tree : Group) (table : List GroupIn) where
   none_inherited None h = no_target
   none_inherited (Some path) h = absurd h
 
-  pub some_inherited : (o : Option GroupPath) (w : ℕ) → HasTarget tree table o (Some w) → IsInherited tree o (Some (value table w))
+  pub some_inherited : (o : Option GroupPath) (w : ℕ) → HasTarget tree table o (Some w) → IsInherited tree o (Some (tabled_group table w))
   some_inherited None w h = absurd h
   some_inherited (Some path) w h = its_target h
 

@@ -8,7 +8,7 @@ use Rattle.token_tree.specs.Tree.{Child, a_token, a_group, Group, group, Childre
 use Rattle.group_inherit.specs.Expansion.{properties_in, without_extension, over_inherited, expanded, Expands, expands, AreExpanded, no_member, own_token, child_group, IsInherited, no_target, its_target}
 use Rattle.group_inherit.specs.Extension.{GroupPath, children_in, at_path, target_path}
 use Rattle.group_inherit.specs.Laws.{IsOwn, IsOfTarget, ExpandedByName}
-use Rattle.group_inherit.specs.Merging.{named, member_at, stands}
+use Rattle.group_inherit.specs.Merging.{children_by_name, member_at, stands}
 use Rattle.group_inherit.proofs.Merges.{no_earlier_member}
 use Rattle.group_inherit.proofs.Naming.{same_name, get_child, get_none}
 use Rattle.group_inherit.proofs.Overs.{named_entries, by_name}
@@ -37,19 +37,19 @@ own_same : (tree : Group) (path : GroupPath) (o p q r : Option Child) → o ≡ 
 own_same tree path o p q r e f h = subst (λ (x : Option Child). IsOwn tree path x q) (sym e) (subst (λ (y : Option Child). IsOwn tree path p y) (sym f) h)
 
 -- a member more
-own_more : (tree : Group) (path : GroupPath) (k name : List ℕ) (c d : Child) (cs ms : Children) → IsOwn tree (path ++ k ∷ []) (Some c) (Some d) → IsOwn tree (path ++ name ∷ []) (map_of.get (named cs) name) (map_of.get (named ms) name)
-    → IsOwn tree (path ++ name ∷ []) (map_of.get (named (child k c cs)) name) (map_of.get (named (child k d ms)) name)
+own_more : (tree : Group) (path : GroupPath) (k name : List ℕ) (c d : Child) (cs ms : Children) → IsOwn tree (path ++ k ∷ []) (Some c) (Some d) → IsOwn tree (path ++ name ∷ []) (map_of.get (children_by_name cs) name) (map_of.get (children_by_name ms) name)
+    → IsOwn tree (path ++ name ∷ []) (map_of.get (children_by_name (child k c cs)) name) (map_of.get (children_by_name (child k d ms)) name)
 own_more tree path k name c d cs ms here there = elim (cases_Bool (eq_by_cmp text_cmp name k)) [
-  | inl t ↦ own_same tree (path ++ name ∷ []) (map_of.get (named (child k c cs)) name) (Some c) (map_of.get (named (child k d ms)) name) (Some d)
-      (get_child k c cs name ∙ ap (λ b. cond b (Some c) (map_of.get (named cs) name)) t) (get_child k d ms name ∙ ap (λ b. cond b (Some d) (map_of.get (named ms) name)) t)
+  | inl t ↦ own_same tree (path ++ name ∷ []) (map_of.get (children_by_name (child k c cs)) name) (Some c) (map_of.get (children_by_name (child k d ms)) name) (Some d)
+      (get_child k c cs name ∙ ap (λ b. cond b (Some c) (map_of.get (children_by_name cs) name)) t) (get_child k d ms name ∙ ap (λ b. cond b (Some d) (map_of.get (children_by_name ms) name)) t)
       (subst (λ (n : List ℕ). IsOwn tree (path ++ n ∷ []) (Some c) (Some d)) (sym (same_name name k t)) here)
-  | inr f ↦ own_same tree (path ++ name ∷ []) (map_of.get (named (child k c cs)) name) (map_of.get (named cs) name) (map_of.get (named (child k d ms)) name) (map_of.get (named ms) name)
-      (get_child k c cs name ∙ ap (λ b. cond b (Some c) (map_of.get (named cs) name)) f) (get_child k d ms name ∙ ap (λ b. cond b (Some d) (map_of.get (named ms) name)) f) there
+  | inr f ↦ own_same tree (path ++ name ∷ []) (map_of.get (children_by_name (child k c cs)) name) (map_of.get (children_by_name cs) name) (map_of.get (children_by_name (child k d ms)) name) (map_of.get (children_by_name ms) name)
+      (get_child k c cs name ∙ ap (λ b. cond b (Some c) (map_of.get (children_by_name cs) name)) f) (get_child k d ms name ∙ ap (λ b. cond b (Some d) (map_of.get (children_by_name ms) name)) f) there
 ]
 
-own_at : (tree : Group) (path : GroupPath) (name : List ℕ) (cs : Children) {ms : Children} → AreExpanded tree path cs ms → IsOwn tree (path ++ name ∷ []) (map_of.get (named cs) name) (map_of.get (named ms) name)
+own_at : (tree : Group) (path : GroupPath) (name : List ℕ) (cs : Children) {ms : Children} → AreExpanded tree path cs ms → IsOwn tree (path ++ name ∷ []) (map_of.get (children_by_name cs) name) (map_of.get (children_by_name ms) name)
 own_at tree path name no_children no_member =
-    own_same tree (path ++ name ∷ []) (map_of.get (named no_children) name) None (map_of.get (named no_children) name) None (get_none name) (get_none name) refl
+    own_same tree (path ++ name ∷ []) (map_of.get (children_by_name no_children) name) None (map_of.get (children_by_name no_children) name) None (get_none name) (get_none name) refl
 own_at tree path name (child k (a_token d) cs) (own_token {members = ms} a) = own_more tree path k name (a_token d) (a_token d) cs ms refl (own_at tree path name cs a)
 own_at tree path name (child k (a_group g) cs) (child_group {e = e} {members = ms} x a) = own_more tree path k name (a_group g) (a_group e) cs ms (e, x, refl) (own_at tree path name cs a)
 
@@ -57,7 +57,7 @@ target_at : (tree : Group) (name : List ℕ) (o : Option GroupPath) {i : Option 
 target_at tree name None no_target = refl
 target_at tree name (Some path) (its_target {e = e} x) = (e, x, refl)
 
-child_in : (g : Group) (name : List ℕ) → member_at name g ≡ map_of.get (named (children_in g)) name
+child_in : (g : Group) (name : List ℕ) → member_at name g ≡ map_of.get (children_by_name (children_in g)) name
 child_in (group ps cs) name = refl
 
 inherited_at : (local : Group) (i : Option Group) (name : List ℕ) → member_at name (over_inherited local i) ≡ stands (member_at name local) (option_and_then (member_at name) i)
@@ -68,9 +68,9 @@ pub expanded_by_name : ExpandedByName
 expanded_by_name tree path e name (expands {members = ms} {inherited = i} a s) =
     let g = at_path tree path in
     let own = without_extension (properties_in g) in (
-      map_of.get (named ms) name,
+      map_of.get (children_by_name ms) name,
       option_and_then (member_at name) i,
-      subst (λ (x : Option Child). IsOwn tree (path ++ name ∷ []) x (map_of.get (named ms) name)) (sym (child_in g name)) (own_at tree path name (children_in g) a),
+      subst (λ (x : Option Child). IsOwn tree (path ++ name ∷ []) x (map_of.get (children_by_name ms) name)) (sym (child_in g name)) (own_at tree path name (children_in g) a),
       target_at tree name (target_path g) s,
-      inherited_at (group_with own (named ms)) i name ∙ ap (λ (x : Option Child). stands x (option_and_then (member_at name) i)) (ap (λ m. map_of.get m name) (named_entries (named ms))),
+      inherited_at (group_with own (children_by_name ms)) i name ∙ ap (λ (x : Option Child). stands x (option_and_then (member_at name) i)) (ap (λ m. map_of.get m name) (named_entries (children_by_name ms))),
     )

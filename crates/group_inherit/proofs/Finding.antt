@@ -9,8 +9,8 @@ use Rattle.ring.specs.Lists.{In, AreApart}
 use Rattle.ring.proofs.Ends.{in_left, in_cases}
 use Rattle.tk_io.specs.Order.{text_cmp}
 use Rattle.token_tree.specs.Tree.{Properties, Child, a_token, a_group, Group, group, Children, no_children, child}
-use Rattle.group_inherit.specs.Merging.{named, member_at}
-use Rattle.group_inherit.specs.Extension.{GroupPath, group_of, group_at, groups_from, groups_among, groups_in}
+use Rattle.group_inherit.specs.Merging.{children_by_name, member_at}
+use Rattle.group_inherit.specs.Extension.{GroupPath, as_group, group_at, groups_from, groups_among, groups_in}
 use Rattle.group_inherit.specs.inner.Numbering.{GroupAt, LacksName, AreNamed, AreNamedAmong, AreNamedIn}
 use Rattle.group_inherit.proofs.Naming.{same_name, get_here, get_there, get_later, get_none}
 
@@ -33,7 +33,7 @@ record FoundAmong (at : GroupPath) (cs : Children) (p : GroupPath) (h : Group) :
   inner : Group
   rest : GroupPath
   is : p ≡ at ++ name ∷ rest
-  member : map_of.get (named cs) name ≡ Some (a_group inner)
+  member : map_of.get (children_by_name cs) name ≡ Some (a_group inner)
   there : group_at inner rest ≡ Some h
 
 record FoundIn (at : GroupPath) (c : Child) (p : GroupPath) (h : Group) : Type 0 where
@@ -41,8 +41,8 @@ record FoundIn (at : GroupPath) (c : Child) (p : GroupPath) (h : Group) : Type 0
   same : c ≡ a_group inner
   found : Found at inner p h
 
-step_in : (name : List ℕ) (path : GroupPath) (ps : Properties) (cs : Children) (g h : Group) → map_of.get (named cs) name ≡ Some (a_group g) → group_at g path ≡ Some h → group_at (group ps cs) (name ∷ path) ≡ Some h
-step_in name path ps cs g h e f = ap (λ (o : Option Child). option_and_then (λ x. group_at x path) (option_and_then group_of o)) e ∙ f
+step_in : (name : List ℕ) (path : GroupPath) (ps : Properties) (cs : Children) (g h : Group) → map_of.get (children_by_name cs) name ≡ Some (a_group g) → group_at g path ≡ Some h → group_at (group ps cs) (name ∷ path) ≡ Some h
+step_in name path ps cs g h e f = ap (λ (o : Option Child). option_and_then (λ x. group_at x path) (option_and_then as_group o)) e ∙ f
 
 from_child : (at : GroupPath) (name : List ℕ) (c : Child) (cs : Children) (p : GroupPath) (h : Group) → FoundIn (at ++ name ∷ []) c p h → FoundAmong at (child name c cs) p h
 from_child at name c cs p h f = record {
@@ -85,30 +85,30 @@ mutual
 -- What is found is listed.
 
 -- the child of the name, and the group below it
-none_of_none : (q : List ℕ) (rest : GroupPath) (h : Group) → option_and_then (λ x. group_at x rest) (option_and_then group_of (map_of.get (named no_children) q)) ≡ Some h → ⊥
-none_of_none q rest h e = none-some h (sym (ap (λ (o : Option Child). option_and_then (λ x. group_at x rest) (option_and_then group_of o)) (get_none q)) ∙ e)
+none_of_none : (q : List ℕ) (rest : GroupPath) (h : Group) → option_and_then (λ x. group_at x rest) (option_and_then as_group (map_of.get (children_by_name no_children) q)) ≡ Some h → ⊥
+none_of_none q rest h e = none-some h (sym (ap (λ (o : Option Child). option_and_then (λ x. group_at x rest) (option_and_then as_group o)) (get_none q)) ∙ e)
 
 mutual
   pub listed_from : (at : GroupPath) (g : Group) (rest : GroupPath) (h : Group) → group_at g rest ≡ Some h → In {N = GroupAt} (at ++ rest, h) (groups_from at g)
   listed_from at (group ps cs) [] h e = inl (λ i. (append-nil at i, same_Some h (group ps cs) (sym e) i))
   listed_from at (group ps cs) (name ∷ rest) h e = inr (listed_among at cs name rest h e)
 
-  listed_among : (at : GroupPath) (cs : Children) (q : List ℕ) (rest : GroupPath) (h : Group) → option_and_then (λ x. group_at x rest) (option_and_then group_of (map_of.get (named cs) q)) ≡ Some h → In {N = GroupAt} (at ++ q ∷ rest, h) (groups_among at cs)
+  listed_among : (at : GroupPath) (cs : Children) (q : List ℕ) (rest : GroupPath) (h : Group) → option_and_then (λ x. group_at x rest) (option_and_then as_group (map_of.get (children_by_name cs) q)) ≡ Some h → In {N = GroupAt} (at ++ q ∷ rest, h) (groups_among at cs)
   listed_among at no_children q rest h e = absurd (none_of_none q rest h e)
   listed_among at (child name c cs) q rest h e = elim (cases_Bool (eq_by_cmp text_cmp q name)) [
     | inl t ↦
         let same : q ≡ name = same_name q name t in
-        let here : option_and_then (λ x. group_at x rest) (group_of c) ≡ Some h =
-        sym (ap (λ (o : Option Child). option_and_then (λ x. group_at x rest) (option_and_then group_of o)) (ap (λ (n : List ℕ). map_of.get (named (child name c cs)) n) same ∙ get_here name c cs)) ∙ e in
+        let here : option_and_then (λ x. group_at x rest) (as_group c) ≡ Some h =
+        sym (ap (λ (o : Option Child). option_and_then (λ x. group_at x rest) (option_and_then as_group o)) (ap (λ (n : List ℕ). map_of.get (children_by_name (child name c cs)) n) same ∙ get_here name c cs)) ∙ e in
         in_left (groups_in (at ++ name ∷ []) c) (groups_among at cs) (at ++ q ∷ rest, h)
         (subst (λ (p : GroupPath). In {N = GroupAt} (p, h) (groups_in (at ++ name ∷ []) c)) (one_name at name rest ∙ ap (λ (n : List ℕ). at ++ n ∷ rest) (sym same)) (listed_in (at ++ name ∷ []) c rest h here))
     | inr f ↦
-        let there : option_and_then (λ x. group_at x rest) (option_and_then group_of (map_of.get (named cs) q)) ≡ Some h =
-        sym (ap (λ (o : Option Child). option_and_then (λ x. group_at x rest) (option_and_then group_of o)) (get_there name c cs q f)) ∙ e in
+        let there : option_and_then (λ x. group_at x rest) (option_and_then as_group (map_of.get (children_by_name cs) q)) ≡ Some h =
+        sym (ap (λ (o : Option Child). option_and_then (λ x. group_at x rest) (option_and_then as_group o)) (get_there name c cs q f)) ∙ e in
         in_right (groups_in (at ++ name ∷ []) c) (groups_among at cs) (at ++ q ∷ rest, h) (listed_among at cs q rest h there)
   ]
 
-  listed_in : (at : GroupPath) (c : Child) (rest : GroupPath) (h : Group) → option_and_then (λ x. group_at x rest) (group_of c) ≡ Some h → In {N = GroupAt} (at ++ rest, h) (groups_in at c)
+  listed_in : (at : GroupPath) (c : Child) (rest : GroupPath) (h : Group) → option_and_then (λ x. group_at x rest) (as_group c) ≡ Some h → In {N = GroupAt} (at ++ rest, h) (groups_in at c)
   listed_in at (a_token d) rest h e = absurd (none-some h e)
   listed_in at (a_group g) rest h e = listed_from at g rest h e
 
@@ -209,4 +209,4 @@ further path rest h (Some x) f e = f x e
 
 pub goes_on : (g : Group) (path : GroupPath) (h : Group) (rest : GroupPath) → group_at g path ≡ Some h → group_at g (path ++ rest) ≡ group_at h rest
 goes_on g [] h rest e = ap (λ (x : Group). group_at x rest) (same_Some g h e)
-goes_on g (name ∷ path) h rest e = further path rest h (option_and_then group_of (member_at name g)) (λ x k. goes_on x path h rest k) e
+goes_on g (name ∷ path) h rest e = further path rest h (option_and_then as_group (member_at name g)) (λ x k. goes_on x path h rest k) e

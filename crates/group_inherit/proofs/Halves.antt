@@ -5,7 +5,7 @@ use Rattle.std.specs.FinMap as map
 use Rattle.std.specs.FinMap.Entries.{find, put, is_sorted, below_all, is_sorted-put, by_order}
 use Rattle.std.specs.List.{insert}
 use Rattle.std.specs.Ordering.{is_lt, is_eq, ordering_reverse}
-use Rattle.group_inherit.specs.inner.Halves.{Passed, Ahead, IsPlace}
+use Rattle.group_inherit.specs.inner.Halves.{IsBehindAll, IsBeforeAll, IsPlace}
 use Rattle.group_inherit.proofs.Puts.{first, second, less}
 
 module _ {K : Type 0} {R : K → K → Ordering} (o : IsTotalOrder R) where
@@ -27,19 +27,19 @@ same_item (x ∷ xs) (suc i) c d h = same_item xs i c d (omega (arith, h))
 module _ {K X : Type 0} {R : K → K → Ordering} (o : IsTotalOrder R) where
   -- What is found.
 
-  passed_find : (k : K) (i : ℕ) (es : List (K × X)) → Passed R k (take i es) → find R k es ≡ find R k (drop i es)
+  passed_find : (k : K) (i : ℕ) (es : List (K × X)) → IsBehindAll R k (take i es) → find R k es ≡ find R k (drop i es)
   passed_find k zero es h = refl
   passed_find k (suc i) [] h = refl
   passed_find k (suc i) (e ∷ es) h = ap (λ r. cond (is_eq r) (Some e.1) (find R k es)) h.0 ∙ passed_find k i es h.1
 
-  pub ahead_none : (k : K) (es : List (K × X)) → Ahead R k es → find R k es ≡ None
+  pub ahead_none : (k : K) (es : List (K × X)) → IsBeforeAll R k es → find R k es ≡ None
   ahead_none k [] h = refl
   ahead_none k (e ∷ es) h = ap (λ r. cond (is_eq r) (Some e.1) (find R k es)) h.0 ∙ ahead_none k es h.1
 
-  pub find_none : (k : K) (i : ℕ) (es : List (K × X)) → Passed R k (take i es) → Ahead R k (drop i es) → find R k es ≡ None
+  pub find_none : (k : K) (i : ℕ) (es : List (K × X)) → IsBehindAll R k (take i es) → IsBeforeAll R k (drop i es) → find R k es ≡ None
   find_none k i es h a = passed_find k i es h ∙ ahead_none k (drop i es) a
 
-  pub find_here : (k : K) (i : ℕ) (es : List (K × X)) (e : K × X) → Passed R k (take i es) → i < length es → e ≡ get_or es i e → R k e.0 ≡ Equal → find R k es ≡ Some e.1
+  pub find_here : (k : K) (i : ℕ) (es : List (K × X)) (e : K × X) → IsBehindAll R k (take i es) → i < length es → e ≡ get_or es i e → R k e.0 ≡ Equal → find R k es ≡ Some e.1
   find_here k zero [] e h l is t = absurd (omega arith)
   find_here k zero (x ∷ es) e h l is t =
       ap (λ (y : K × X). cond (is_eq (R k y.0)) (Some y.1) (find R k es)) (sym is) ∙ ap (λ r. cond (is_eq r) (Some e.1) (find R k es)) t
@@ -48,14 +48,14 @@ module _ {K X : Type 0} {R : K → K → Ordering} (o : IsTotalOrder R) where
 
   -- What is put.
 
-  pub put_new : (k : K) (v : X) (i : ℕ) (es : List (K × X)) → Passed R k (take i es) → Ahead R k (drop i es) → put R k v es ≡ insert es i (k, v)
+  pub put_new : (k : K) (v : X) (i : ℕ) (es : List (K × X)) → IsBehindAll R k (take i es) → IsBeforeAll R k (drop i es) → put R k v es ≡ insert es i (k, v)
   put_new k v zero [] h a = refl
   put_new k v zero (e ∷ es) h a = ap (λ r. by_order r ((k, v) ∷ e ∷ es) ((e.0, v) ∷ es) (e ∷ put R k v es)) a.0
   put_new k v (suc i) [] h a = refl
   put_new k v (suc i) (e ∷ es) h a =
       ap (λ r. by_order r ((k, v) ∷ e ∷ es) ((e.0, v) ∷ es) (e ∷ put R k v es)) h.0 ∙ ap (λ (l : List (K × X)). e ∷ l) (put_new k v i es h.1 a)
 
-  pub put_over : (k : K) (v : X) (i : ℕ) (es : List (K × X)) (e : K × X) → Passed R k (take i es) → i < length es → e ≡ get_or es i e → R k e.0 ≡ Equal → put R k v es ≡ set es i (e.0, v)
+  pub put_over : (k : K) (v : X) (i : ℕ) (es : List (K × X)) (e : K × X) → IsBehindAll R k (take i es) → i < length es → e ≡ get_or es i e → R k e.0 ≡ Equal → put R k v es ≡ set es i (e.0, v)
   put_over k v zero [] e h l is t = absurd (omega arith)
   put_over k v zero (x ∷ es) e h l is t =
       ap (λ (y : K × X). by_order (R k y.0) ((k, v) ∷ y ∷ es) ((y.0, v) ∷ es) (y ∷ put R k v es)) (sym is)
@@ -76,7 +76,7 @@ module _ {K X : Type 0} {R : K → K → Ordering} (o : IsTotalOrder R) where
   below_at x (y ∷ es) zero e h l is = ap (λ (z : K × X). R x z.0) is ∙ less (R x y.0) (first (is_lt (R x y.0)) (below_all R x es) h)
   below_at x (y ∷ es) (suc i) e h l is = below_at x es i e (second (is_lt (R x y.0)) (below_all R x es) h) (omega arith) is
 
-  pub passes : (k : K) (es : List (K × X)) (i : ℕ) (e : K × X) → T (is_sorted R es) → i < length es → e ≡ get_or es i e → R k e.0 ≡ Greater → Passed R k (take (suc i) es)
+  pub passes : (k : K) (es : List (K × X)) (i : ℕ) (e : K × X) → T (is_sorted R es) → i < length es → e ≡ get_or es i e → R k e.0 ≡ Greater → IsBehindAll R k (take (suc i) es)
   passes k [] i e s l is t = absurd (omega arith)
   passes k (x ∷ es) zero e s l is t = (ap (λ (y : K × X). R k y.0) (sym is) ∙ t, tt)
   passes k (x ∷ es) (suc i) e s l is t = (
@@ -84,24 +84,24 @@ module _ {K X : Type 0} {R : K → K → Ordering} (o : IsTotalOrder R) where
     passes k es i e (second (below_all R x.0 es) (is_sorted R es) s) (omega arith) is t,
   )
 
-  all_ahead : (k x : K) (es : List (K × X)) → R k x ≡ Less → T (below_all R x es) → Ahead R k es
+  all_ahead : (k x : K) (es : List (K × X)) → R k x ≡ Less → T (below_all R x es) → IsBeforeAll R k es
   all_ahead k x [] t h = tt
   all_ahead k x (e ∷ es) t h = (
     o.trans k x e.0 t (less (R x e.0) (first (is_lt (R x e.0)) (below_all R x es) h)),
     all_ahead k x es t (second (is_lt (R x e.0)) (below_all R x es) h),
   )
 
-  pub stops : (k : K) (es : List (K × X)) (i : ℕ) (e : K × X) → T (is_sorted R es) → i < length es → e ≡ get_or es i e → R k e.0 ≡ Less → Ahead R k (drop i es)
+  pub stops : (k : K) (es : List (K × X)) (i : ℕ) (e : K × X) → T (is_sorted R es) → i < length es → e ≡ get_or es i e → R k e.0 ≡ Less → IsBeforeAll R k (drop i es)
   stops k [] i e s l is t = absurd (omega arith)
   stops k (x ∷ es) zero e s l is t =
       let k_x : R k x.0 ≡ Less = ap (λ (y : K × X). R k y.0) (sym is) ∙ t in
       (k_x, all_ahead k x.0 es k_x (first (below_all R x.0 es) (is_sorted R es) s))
   stops k (x ∷ es) (suc i) e s l is t = stops k es i e (second (below_all R x.0 es) (is_sorted R es) s) (omega arith) is t
 
-  pub passes_one : (k : K) (es : List (K × X)) (i : ℕ) (e : K × X) → T (is_sorted R es) → i < length es → e ≡ get_or es i e → R k e.0 ≡ Greater → Passed R k (take (i + 1) es)
-  passes_one k es i e s l is t = subst (λ n. Passed R k (take n es)) (sym (add-one i)) (passes k es i e s l is t)
+  pub passes_one : (k : K) (es : List (K × X)) (i : ℕ) (e : K × X) → T (is_sorted R es) → i < length es → e ≡ get_or es i e → R k e.0 ≡ Greater → IsBehindAll R k (take (i + 1) es)
+  passes_one k es i e s l is t = subst (λ n. IsBehindAll R k (take n es)) (sym (add-one i)) (passes k es i e s l is t)
 
-  pub passed_before : (k : K) (es : List (K × X)) (i : ℕ) (e : K × X) → T (is_sorted R es) → i < length es → e ≡ get_or es i e → R k e.0 ≡ Equal → Passed R k (take i es)
+  pub passed_before : (k : K) (es : List (K × X)) (i : ℕ) (e : K × X) → T (is_sorted R es) → i < length es → e ≡ get_or es i e → R k e.0 ≡ Equal → IsBehindAll R k (take i es)
   passed_before k [] i e s l is t = absurd (omega arith)
   passed_before k (x ∷ es) zero e s l is t = tt
   passed_before k (x ∷ es) (suc i) e s l is t = (

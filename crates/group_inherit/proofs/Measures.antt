@@ -5,7 +5,7 @@ use Rattle.std.specs.FinMap.Entries.{is_sorted}
 use Rattle.tk_io.specs.Order.{text_cmp}
 use Rattle.token_tree.specs.Tree.{Properties, Child, Named, children_of, group_with}
 use Rattle.group_inherit.specs.Answer.{most_told}
-use Rattle.group_inherit.specs.inner.Bare.{AreBare, IsSize, IsChildSize, members_among, members_in, levels_among, levels_in}
+use Rattle.group_inherit.specs.inner.Bare.{AreBare, IsBareSize, IsChildSize, member_count_among, member_count_in, levels_among, levels_in}
 use Rattle.group_inherit.proofs.OrderedTrees.{entries_again}
 
 abbrev pub Entries : Type 0
@@ -13,7 +13,7 @@ Entries = List (List ℕ × Child)
 
 -- the size so far, and what is left of the members
 pub record Measuring (es left : Entries) (members levels : ℕ) : Type 0 where
-  pub many : min (members + members_among (children_of left)) most_told ≡ min (members_among (children_of es)) most_told
+  pub many : min (members + member_count_among (children_of left)) most_told ≡ min (member_count_among (children_of es)) most_told
   pub high : min (max levels (levels_among (children_of left))) most_told ≡ min (levels_among (children_of es)) most_told
   pub bare : AreBare (children_of left) → AreBare (children_of es)
   pub most : members ≤ most_told
@@ -33,7 +33,7 @@ pub member_more : (es left rest : Entries) (e : List ℕ × Child) (members leve
 member_more es left rest e members levels m h n k cut s is up w =
     let v : Measuring es (e ∷ rest) members levels = subst (λ (l : Entries). Measuring es l members levels) cut w in
     record {
-      many = count_more members (members_in e.1) (members_among (children_of rest)) n m s.many is ∙ v.many;
+      many = count_more members (member_count_in e.1) (member_count_among (children_of rest)) n m s.many is ∙ v.many;
       high = height_more levels (levels_in e.1) (levels_among (children_of rest)) k h s.high up ∙ v.high;
       bare = λ b. v.bare (s.bare, b);
       most = omega (arith, is);
@@ -41,7 +41,7 @@ member_more es left rest e members levels m h n k cut s is up w =
     }
 
 -- all members are measured
-pub all_measured : (ps : Properties) (m : Named) (left : Entries) (members levels : ℕ) → ps.extends ≡ None → left ≡ [] → Measuring (map_of.entries m) left members levels → IsSize (group_with ps m) members levels
+pub all_measured : (ps : Properties) (m : Named) (left : Entries) (members levels : ℕ) → ps.extends ≡ None → left ≡ [] → Measuring (map_of.entries m) left members levels → IsBareSize (group_with ps m) members levels
 all_measured ps m left members levels e gone w =
     let es = map_of.entries m in
     let v : Measuring es [] members levels = subst (λ (l : Entries). Measuring es l members levels) gone w in

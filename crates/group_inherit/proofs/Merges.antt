@@ -12,8 +12,8 @@ use Rattle.tk_io.proofs.TextMaps.{text_cmp-IsAntisymmetric}
 use Rattle.token_tree.specs.View.{child_view, member_view}
 use Rattle.token_tree.specs.declared.tree.Member.{Member}
 use Rattle.token_tree.specs.Tree.{Child, a_token, a_group, Children, no_children, child, Named, children_of}
-use Rattle.group_inherit.specs.inner.Halves.{Ahead}
-use Rattle.group_inherit.specs.Merging.{named, over_members, over_child, stands}
+use Rattle.group_inherit.specs.inner.Halves.{IsBeforeAll}
+use Rattle.group_inherit.specs.Merging.{children_by_name, over_members, over_child, stands}
 use Rattle.group_inherit.specs.Putting.{put_all}
 use Rattle.group_inherit.proofs.Halves.{turned, ahead_none, stops}
 use Rattle.group_inherit.proofs.Naming.{sorted_drop}
@@ -38,11 +38,11 @@ over_none (a_group g) = refl
 lacked : (e : Entry) (es : Entries) (q : List ℕ) → T (is_sorted text_cmp (e ∷ es)) → q ≡ e.0 → find text_cmp q es ≡ None
 lacked e es q s same = ap (λ k. find text_cmp k es) same ∙ none_below text_cmp e.0 es (first (below_all text_cmp e.0 es) (is_sorted text_cmp es) s)
 
-absent : (e : Entry) (es : Entries) (q : List ℕ) → Ahead text_cmp e.0 es → q ≡ e.0 → find text_cmp q es ≡ None
+absent : (e : Entry) (es : Entries) (q : List ℕ) → IsBeforeAll text_cmp e.0 es → q ≡ e.0 → find text_cmp q es ≡ None
 absent e es q h same = ap (λ k. find text_cmp k es) same ∙ ahead_none nat_list_cmp_total e.0 es h
 
 -- a member of the later group, whose name the earlier one does not have
-pub take_later : (a : Entry) (xs ys : Entries) (m new : Named) → T (is_sorted text_cmp (a ∷ xs)) → Ahead text_cmp a.0 ys → new ≡ map.insert m a.0 a.1 → (q : List ℕ) → left_or xs ys new q ≡ left_or (a ∷ xs) ys m q
+pub take_later : (a : Entry) (xs ys : Entries) (m new : Named) → T (is_sorted text_cmp (a ∷ xs)) → IsBeforeAll text_cmp a.0 ys → new ≡ map.insert m a.0 a.1 → (q : List ℕ) → left_or xs ys new q ≡ left_or (a ∷ xs) ys m q
 take_later a xs ys m new s h is q =
     ap (option_or (stands (find text_cmp q xs) (find text_cmp q ys))) (ap (λ n. map.get n q) is ∙ map.get-insert nat_list_cmp_total m a.0 a.1 q)
     ∙ elim (eq_by_cmp text_cmp q a.0) as (λ b. eq_by_cmp text_cmp q a.0 ≡ b → option_or (stands (find text_cmp q xs) (find text_cmp q ys)) (cond b (Some a.1) (map.get m q)) ≡ option_or (stands (cond b (Some a.1) (find text_cmp q xs)) (find text_cmp q ys)) (map.get m q)) [
@@ -54,7 +54,7 @@ take_later a xs ys m new s h is q =
     ] refl
 
 -- a member of the earlier group, whose name the later one does not have
-pub take_earlier : (b : Entry) (xs ys : Entries) (m new : Named) → T (is_sorted text_cmp (b ∷ ys)) → Ahead text_cmp b.0 xs → new ≡ map.insert m b.0 b.1 → (q : List ℕ) → left_or xs ys new q ≡ left_or xs (b ∷ ys) m q
+pub take_earlier : (b : Entry) (xs ys : Entries) (m new : Named) → T (is_sorted text_cmp (b ∷ ys)) → IsBeforeAll text_cmp b.0 xs → new ≡ map.insert m b.0 b.1 → (q : List ℕ) → left_or xs ys new q ≡ left_or xs (b ∷ ys) m q
 take_earlier b xs ys m new s h is q =
     ap (option_or (stands (find text_cmp q xs) (find text_cmp q ys))) (ap (λ n. map.get n q) is ∙ map.get-insert nat_list_cmp_total m b.0 b.1 q)
     ∙ elim (eq_by_cmp text_cmp q b.0) as (λ t. eq_by_cmp text_cmp q b.0 ≡ t → option_or (stands (find text_cmp q xs) (find text_cmp q ys)) (cond t (Some b.1) (map.get m q)) ≡ option_or (stands (find text_cmp q xs) (cond t (Some b.1) (find text_cmp q ys))) (map.get m q)) [
@@ -128,7 +128,7 @@ over_nothing later earlier e = ap (λ l. over_members (children_of l) earlier) (
 
 -- over no members a group keeps its own
 
-members_alone : (cs : Children) → over_members cs map.empty ≡ named cs
+members_alone : (cs : Children) → over_members cs map.empty ≡ children_by_name cs
 members_alone no_children = refl
 members_alone (child name c cs) =
     ap (λ x. map.insert (over_members cs map.empty) name (over_child c x)) (map.get-empty text_cmp name)
@@ -148,7 +148,7 @@ none_merged xs ys m e q =
 rest_sorted : (list : List Member) (i : ℕ) (x : Member) → T (is_sorted text_cmp (map_list member_view list)) → i < length list → x ≡ get_or list i x → T (is_sorted text_cmp (member_view x ∷ drop (i + 1) (map_list member_view list)))
 rest_sorted list i x s h e = subst (λ (l : Entries). T (is_sorted text_cmp l)) (first_left member_view list i x h e) (sorted_drop i (map_list member_view list) s)
 
-before_rest : (name : List ℕ) (list : List Member) (i : ℕ) (x : Member) → T (is_sorted text_cmp (map_list member_view list)) → i < length list → x ≡ get_or list i x → text_cmp name x.name ≡ Less → Ahead text_cmp name (drop i (map_list member_view list))
+before_rest : (name : List ℕ) (list : List Member) (i : ℕ) (x : Member) → T (is_sorted text_cmp (map_list member_view list)) → i < length list → x ≡ get_or list i x → text_cmp name x.name ≡ Less → IsBeforeAll text_cmp name (drop i (map_list member_view list))
 before_rest name list i x s h e less =
     stops nat_list_cmp_total name (map_list member_view list) i (member_view x) s (omega (arith, h, length-map list member_view))
     (sym (get_or-map member_view list i x (member_view x) h ∙ ap member_view (sym e))) less

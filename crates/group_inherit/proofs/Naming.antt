@@ -12,7 +12,7 @@ use Rattle.tk_io.specs.Order.{text_cmp}
 use Rattle.tk_io.proofs.TextMaps.{text_cmp-IsAntisymmetric}
 use Rattle.token_tree.proofs.Names.{same_text, text_same}
 use Rattle.token_tree.specs.Tree.{Child, Group, group, Children, no_children, child, children_of, child_among, child_at}
-use Rattle.group_inherit.specs.Merging.{named, member_at}
+use Rattle.group_inherit.specs.Merging.{children_by_name, member_at}
 use Rattle.group_inherit.specs.inner.Numbering.{LacksName}
 
 tied : (r : Ordering) → is_eq r ≡ true → r ≡ Equal
@@ -26,16 +26,16 @@ same_name x y e = text_cmp-IsAntisymmetric x y (tied (text_cmp x y) e)
 pub name_itself : (x : List ℕ) → eq_by_cmp text_cmp x x ≡ true
 name_itself x = ap is_eq (tied_itself nat_list_cmp_total x)
 
-pub get_child : (name : List ℕ) (c : Child) (cs : Children) (q : List ℕ) → map_of.get (named (child name c cs)) q ≡ cond (eq_by_cmp text_cmp q name) (Some c) (map_of.get (named cs) q)
-get_child name c cs q = map_of.get-insert nat_list_cmp_total (named cs) name c q
+pub get_child : (name : List ℕ) (c : Child) (cs : Children) (q : List ℕ) → map_of.get (children_by_name (child name c cs)) q ≡ cond (eq_by_cmp text_cmp q name) (Some c) (map_of.get (children_by_name cs) q)
+get_child name c cs q = map_of.get-insert nat_list_cmp_total (children_by_name cs) name c q
 
-pub get_here : (name : List ℕ) (c : Child) (cs : Children) → map_of.get (named (child name c cs)) name ≡ Some c
-get_here name c cs = get_child name c cs name ∙ ap (λ b. cond b (Some c) (map_of.get (named cs) name)) (name_itself name)
+pub get_here : (name : List ℕ) (c : Child) (cs : Children) → map_of.get (children_by_name (child name c cs)) name ≡ Some c
+get_here name c cs = get_child name c cs name ∙ ap (λ b. cond b (Some c) (map_of.get (children_by_name cs) name)) (name_itself name)
 
-pub get_there : (name : List ℕ) (c : Child) (cs : Children) (q : List ℕ) → eq_by_cmp text_cmp q name ≡ false → map_of.get (named (child name c cs)) q ≡ map_of.get (named cs) q
-get_there name c cs q e = get_child name c cs q ∙ ap (λ b. cond b (Some c) (map_of.get (named cs) q)) e
+pub get_there : (name : List ℕ) (c : Child) (cs : Children) (q : List ℕ) → eq_by_cmp text_cmp q name ≡ false → map_of.get (children_by_name (child name c cs)) q ≡ map_of.get (children_by_name cs) q
+get_there name c cs q e = get_child name c cs q ∙ ap (λ b. cond b (Some c) (map_of.get (children_by_name cs) q)) e
 
-pub get_none : (q : List ℕ) → map_of.get (named no_children) q ≡ None
+pub get_none : (q : List ℕ) → map_of.get (children_by_name no_children) q ≡ None
 get_none q = map_of.get-empty text_cmp q
 
 -- the first child of a name stands there
@@ -49,7 +49,7 @@ same_name_test q k = elim (cases_Bool (bytes_eq k q)) [
   ]
 ]
 
-first_among : (name : List ℕ) (cs : Children) → map_of.get (named cs) name ≡ child_among name cs
+first_among : (name : List ℕ) (cs : Children) → map_of.get (children_by_name cs) name ≡ child_among name cs
 first_among name no_children = get_none name
 first_among name (child k c cs) =
     get_child k c cs name ∙ ap₂ (λ b o. cond b (Some c) o) (same_name_test name k) (first_among name cs)
@@ -58,7 +58,7 @@ pub first_of_name : (name : List ℕ) (g : Group) → member_at name g ≡ child
 first_of_name name (group ps cs) = first_among name cs
 
 -- a name that is not there
-pub lacked : (name : List ℕ) (cs : Children) → LacksName name cs → map_of.get (named cs) name ≡ None
+pub lacked : (name : List ℕ) (cs : Children) → LacksName name cs → map_of.get (children_by_name cs) name ≡ None
 lacked name no_children l = get_none name
 lacked name (child other c cs) l = elim (cases_Bool (eq_by_cmp text_cmp name other)) [
   | inl e ↦ absurd (l.0 (same_name name other e))
@@ -66,9 +66,9 @@ lacked name (child other c cs) l = elim (cases_Bool (eq_by_cmp text_cmp name oth
 ]
 
 -- a child that is found among the others is found after one more, whose name they lack
-pub get_later : (name : List ℕ) (c : Child) (cs : Children) (q : List ℕ) (d : Child) → LacksName name cs → map_of.get (named cs) q ≡ Some d → map_of.get (named (child name c cs)) q ≡ Some d
+pub get_later : (name : List ℕ) (c : Child) (cs : Children) (q : List ℕ) (d : Child) → LacksName name cs → map_of.get (children_by_name cs) q ≡ Some d → map_of.get (children_by_name (child name c cs)) q ≡ Some d
 get_later name c cs q d l e = elim (cases_Bool (eq_by_cmp text_cmp q name)) [
-  | inl t ↦ absurd (none-some d (sym (lacked name cs l) ∙ (ap (λ (x : List ℕ). map_of.get (named cs) x) (sym (same_name q name t)) ∙ e)))
+  | inl t ↦ absurd (none-some d (sym (lacked name cs l) ∙ (ap (λ (x : List ℕ). map_of.get (children_by_name cs) x) (sym (same_name q name t)) ∙ e)))
   | inr f ↦ get_there name c cs q f ∙ e
 ]
 

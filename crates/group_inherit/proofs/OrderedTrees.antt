@@ -13,34 +13,34 @@ use Rattle.token_tree.specs.Shape.{properties_of, def_of, is_token, is_child, pu
 use Rattle.token_tree.specs.Tree.{Properties, Child, a_token, a_group, Group, group, Children, no_children, child, Named, children_of, group_with}
 use Rattle.group_inherit.specs.Expansion.{properties_in, without_extension, over_inherited, Expands, expands, AreExpanded, no_member, own_token, child_group, IsInherited, no_target, its_target}
 use Rattle.group_inherit.specs.Extension.{GroupPath, children_in, at_path, target_path}
-use Rattle.group_inherit.specs.Merging.{over_properties, named, over, over_members, over_child, empty_group, merged_over, merged}
-use Rattle.group_inherit.specs.Ordered.{entries_in, IsOrdered, AreOrdered, IsOrderedChild}
+use Rattle.group_inherit.specs.Merging.{over_properties, children_by_name, over, over_members, over_child, empty_group, merged_over, merged}
+use Rattle.group_inherit.specs.Ordered.{child_entries, IsOrdered, AreOrdered, IsOrderedChild}
 use Rattle.group_inherit.specs.inner.Numbering.{LacksName, AreNamed, AreNamedAmong, AreNamedIn}
 use Rattle.group_inherit.proofs.Naming.{sorted_lacks, sorted_rest, get_here, get_later}
 use Rattle.group_inherit.proofs.Overs.{named_entries}
 
 -- Children and their entries.
 
-pub again : (cs : Children) → children_of (entries_in cs) ≡ cs
+pub again : (cs : Children) → children_of (child_entries cs) ≡ cs
 again no_children = refl
 again (child name c cs) = ap (child name c) (again cs)
 
-pub entries_again : (es : List (List ℕ × Child)) → entries_in (children_of es) ≡ es
+pub entries_again : (es : List (List ℕ × Child)) → child_entries (children_of es) ≡ es
 entries_again [] = refl
 entries_again (e ∷ es) = ap (λ l. e ∷ l) (entries_again es)
 
 -- No two children have one name.
 
-pub ordered_lacks : (name : List ℕ) (c : Child) (cs : Children) → T (is_sorted text_cmp ((name, c) ∷ entries_in cs)) → LacksName name cs
-ordered_lacks name c cs s = subst (λ (ds : Children). LacksName name ds) (again cs) (sorted_lacks (name, c) (entries_in cs) s)
+pub ordered_lacks : (name : List ℕ) (c : Child) (cs : Children) → T (is_sorted text_cmp ((name, c) ∷ child_entries cs)) → LacksName name cs
+ordered_lacks name c cs s = subst (λ (ds : Children). LacksName name ds) (again cs) (sorted_lacks (name, c) (child_entries cs) s)
 
 mutual
   pub ordered_named : (g : Group) → IsOrdered g → AreNamed g
   ordered_named (group ps cs) o = ordered_named_among cs o.0 o.1
 
-  ordered_named_among : (cs : Children) → T (is_sorted text_cmp (entries_in cs)) → AreOrdered cs → AreNamedAmong cs
+  ordered_named_among : (cs : Children) → T (is_sorted text_cmp (child_entries cs)) → AreOrdered cs → AreNamedAmong cs
   ordered_named_among no_children s o = tt
-  ordered_named_among (child name c cs) s o = (ordered_lacks name c cs s, ordered_named_in c o.0, ordered_named_among cs (sorted_rest (name, c) (entries_in cs) s) o.1)
+  ordered_named_among (child name c cs) s o = (ordered_lacks name c cs s, ordered_named_in c o.0, ordered_named_among cs (sorted_rest (name, c) (child_entries cs) s) o.1)
 
   ordered_named_in : (c : Child) → IsOrderedChild c → AreNamedIn c
   ordered_named_in (a_token d) o = tt
@@ -60,26 +60,26 @@ more_ordered m k c h o n d e = elim (cases_Bool (eq_by_cmp text_cmp n k)) [
   | inr f ↦ h n d (sym (map.get-insert nat_list_cmp_total m k c n ∙ ap (λ b. cond b (Some c) (map.get m n)) f) ∙ e)
 ]
 
-are_ordered : (cs : Children) → T (is_sorted text_cmp (entries_in cs)) → AllOrdered (named cs) → AreOrdered cs
+are_ordered : (cs : Children) → T (is_sorted text_cmp (child_entries cs)) → AllOrdered (children_by_name cs) → AreOrdered cs
 are_ordered no_children s h = tt
 are_ordered (child name c cs) s h =
-    (h name c (get_here name c cs), are_ordered cs (sorted_rest (name, c) (entries_in cs) s) (λ n d e. h n d (get_later name c cs n d (ordered_lacks name c cs s) e)))
+    (h name c (get_here name c cs), are_ordered cs (sorted_rest (name, c) (child_entries cs) s) (λ n d e. h n d (get_later name c cs n d (ordered_lacks name c cs s) e)))
 
-named_ordered : (cs : Children) → AreOrdered cs → AllOrdered (named cs)
+named_ordered : (cs : Children) → AreOrdered cs → AllOrdered (children_by_name cs)
 named_ordered no_children o = none_ordered
-named_ordered (child name c cs) o = more_ordered (named cs) name c (named_ordered cs o.1) o.0
+named_ordered (child name c cs) o = more_ordered (children_by_name cs) name c (named_ordered cs o.1) o.0
 
 pub group_ordered : (ps : Properties) (m : Named) → AllOrdered m → IsOrdered (group_with ps m)
 group_ordered ps m h =
     let es = map.entries m in
-    let s : T (is_sorted text_cmp (entries_in (children_of es))) = subst (λ (l : List (List ℕ × Child)). T (is_sorted text_cmp l)) (sym (entries_again es)) (map.entries_sorted m) in
+    let s : T (is_sorted text_cmp (child_entries (children_of es))) = subst (λ (l : List (List ℕ × Child)). T (is_sorted text_cmp l)) (sym (entries_again es)) (map.entries_sorted m) in
     (s, are_ordered (children_of es) s (λ n c e. h n c (ap (λ (k : Named). map.get k n) (sym (named_entries m)) ∙ e)))
 
 -- Merged trees.
 
 mutual
   pub over_ordered : (g h : Group) → IsOrdered g → IsOrdered h → IsOrdered (over g h)
-  over_ordered (group ps cs) (group qs ds) o p = group_ordered (over_properties ps qs) (over_members cs (named ds)) (members_ordered cs (named ds) o.1 (named_ordered ds p.1))
+  over_ordered (group ps cs) (group qs ds) o p = group_ordered (over_properties ps qs) (over_members cs (children_by_name ds)) (members_ordered cs (children_by_name ds) o.1 (named_ordered ds p.1))
 
   members_ordered : (cs : Children) (es : Named) → AreOrdered cs → AllOrdered es → AllOrdered (over_members cs es)
   members_ordered no_children es o h = h
@@ -105,14 +105,14 @@ mutual
   pub expanded_ordered : (tree : Group) (path : GroupPath) {e : Group} → Expands tree path e → IsOrdered e
   expanded_ordered tree path (expands {members = ms} a t) =
       let g = at_path tree path in
-      inherited_ordered tree (target_path g) (group_with (without_extension (properties_in g)) (named ms)) t
-      (group_ordered (without_extension (properties_in g)) (named ms) (all_expanded tree path (children_in g) a))
+      inherited_ordered tree (target_path g) (group_with (without_extension (properties_in g)) (children_by_name ms)) t
+      (group_ordered (without_extension (properties_in g)) (children_by_name ms) (all_expanded tree path (children_in g) a))
 
-  all_expanded : (tree : Group) (path : GroupPath) (cs : Children) {ms : Children} → AreExpanded tree path cs ms → AllOrdered (named ms)
+  all_expanded : (tree : Group) (path : GroupPath) (cs : Children) {ms : Children} → AreExpanded tree path cs ms → AllOrdered (children_by_name ms)
   all_expanded tree path no_children no_member = none_ordered
-  all_expanded tree path (child name (a_token d) cs) (own_token {members = ms} a) = more_ordered (named ms) name (a_token d) (all_expanded tree path cs a) tt
+  all_expanded tree path (child name (a_token d) cs) (own_token {members = ms} a) = more_ordered (children_by_name ms) name (a_token d) (all_expanded tree path cs a) tt
   all_expanded tree path (child name (a_group g) cs) (child_group {e = e} {members = ms} x a) =
-      more_ordered (named ms) name (a_group e) (all_expanded tree path cs a) (expanded_ordered tree (path ++ name ∷ []) x)
+      more_ordered (children_by_name ms) name (a_group e) (all_expanded tree path cs a) (expanded_ordered tree (path ++ name ∷ []) x)
 
   inherited_ordered : (tree : Group) (o : Option GroupPath) (local : Group) {i : Option Group} → IsInherited tree o i → IsOrdered local → IsOrdered (over_inherited local i)
   inherited_ordered tree None local no_target o = o

@@ -8,7 +8,7 @@ use Rattle.tk_io.specs.Order.{text_cmp, names_cmp}
 use Rattle.token_tree.specs.Tree.{Extension, Child, a_token, a_group, Group, group, Children, no_children, child}
 use Rattle.group_inherit.specs.Extension.{GroupPath, group_at, groups_from, groups_among, groups_in, extension_of, Lost, lost_unless, lost_at, lost_among, has_group, lost_targets}
 use Rattle.group_inherit.specs.Flattening.{Nearest, nearest, tokens_in, tokens_among, tokens_at}
-use Rattle.group_inherit.specs.Ordered.{entries_in, IsOrdered, AreOrdered, IsOrderedChild}
+use Rattle.group_inherit.specs.Ordered.{child_entries, IsOrdered, AreOrdered, IsOrderedChild}
 use Rattle.group_inherit.specs.inner.Numbering.{GroupAt}
 use Rattle.group_inherit.proofs.Finding.{one_name}
 use Rattle.group_inherit.proofs.Puts.{first, second, less}
@@ -113,24 +113,24 @@ mutual
   tokens_under_at at near (a_token d) = (([], sym (append-nil at)), tt)
   tokens_under_at at near (a_group g) = tokens_under at near g
 
-tokens_behind : (at : GroupPath) (near : Nearest) (name : List ℕ) (cs : Children) → T (below_all text_cmp name (entries_in cs)) → AreBehind at name (tokens_among at near cs)
+tokens_behind : (at : GroupPath) (near : Nearest) (name : List ℕ) (cs : Children) → T (below_all text_cmp name (child_entries cs)) → AreBehind at name (tokens_among at near cs)
 tokens_behind at near name no_children h = tt
 tokens_behind at near name (child next c cs) h =
     behind_join at name (tokens_at (at ++ next ∷ []) near c) (tokens_among at near cs)
-    (behind_from at name next (tokens_at (at ++ next ∷ []) near c) (less (text_cmp name next) (first (is_lt (text_cmp name next)) (below_all text_cmp name (entries_in cs)) h)) (tokens_under_at (at ++ next ∷ []) near c))
-    (tokens_behind at near name cs (second (is_lt (text_cmp name next)) (below_all text_cmp name (entries_in cs)) h))
+    (behind_from at name next (tokens_at (at ++ next ∷ []) near c) (less (text_cmp name next) (first (is_lt (text_cmp name next)) (below_all text_cmp name (child_entries cs)) h)) (tokens_under_at (at ++ next ∷ []) near c))
+    (tokens_behind at near name cs (second (is_lt (text_cmp name next)) (below_all text_cmp name (child_entries cs)) h))
 
 mutual
   pub tokens_sorted : (at : GroupPath) (above : Nearest) (g : Group) → IsOrdered g → T (is_sorted names_cmp (tokens_in at above g))
   tokens_sorted at above (group ps cs) o = tokens_sorted_among at (nearest ps above) cs o.0 o.1
 
-  tokens_sorted_among : (at : GroupPath) (near : Nearest) (cs : Children) → T (is_sorted text_cmp (entries_in cs)) → AreOrdered cs → T (is_sorted names_cmp (tokens_among at near cs))
+  tokens_sorted_among : (at : GroupPath) (near : Nearest) (cs : Children) → T (is_sorted text_cmp (child_entries cs)) → AreOrdered cs → T (is_sorted names_cmp (tokens_among at near cs))
   tokens_sorted_among at near no_children s o = tt
   tokens_sorted_among at near (child name c cs) s o =
       sorted_join at name (tokens_at (at ++ name ∷ []) near c) (tokens_among at near cs) (tokens_under_at (at ++ name ∷ []) near c)
-      (tokens_behind at near name cs (first (below_all text_cmp name (entries_in cs)) (is_sorted text_cmp (entries_in cs)) s))
+      (tokens_behind at near name cs (first (below_all text_cmp name (child_entries cs)) (is_sorted text_cmp (child_entries cs)) s))
       (tokens_sorted_at (at ++ name ∷ []) near c o.0)
-      (tokens_sorted_among at near cs (second (below_all text_cmp name (entries_in cs)) (is_sorted text_cmp (entries_in cs)) s) o.1)
+      (tokens_sorted_among at near cs (second (below_all text_cmp name (child_entries cs)) (is_sorted text_cmp (child_entries cs)) s) o.1)
 
   tokens_sorted_at : (at : GroupPath) (near : Nearest) (c : Child) → IsOrderedChild c → T (is_sorted names_cmp (tokens_at at near c))
   tokens_sorted_at at near (a_token d) o = tt
@@ -156,25 +156,25 @@ groups_below at no_children = tt
 groups_below at (child name c cs) =
     below_join at (groups_in (at ++ name ∷ []) c) (groups_among at cs) (below_from at name (groups_in (at ++ name ∷ []) c) (groups_under_in (at ++ name ∷ []) c)) (groups_below at cs)
 
-groups_behind : (at : GroupPath) (name : List ℕ) (cs : Children) → T (below_all text_cmp name (entries_in cs)) → AreBehind at name (groups_among at cs)
+groups_behind : (at : GroupPath) (name : List ℕ) (cs : Children) → T (below_all text_cmp name (child_entries cs)) → AreBehind at name (groups_among at cs)
 groups_behind at name no_children h = tt
 groups_behind at name (child next c cs) h =
     behind_join at name (groups_in (at ++ next ∷ []) c) (groups_among at cs)
-    (behind_from at name next (groups_in (at ++ next ∷ []) c) (less (text_cmp name next) (first (is_lt (text_cmp name next)) (below_all text_cmp name (entries_in cs)) h)) (groups_under_in (at ++ next ∷ []) c))
-    (groups_behind at name cs (second (is_lt (text_cmp name next)) (below_all text_cmp name (entries_in cs)) h))
+    (behind_from at name next (groups_in (at ++ next ∷ []) c) (less (text_cmp name next) (first (is_lt (text_cmp name next)) (below_all text_cmp name (child_entries cs)) h)) (groups_under_in (at ++ next ∷ []) c))
+    (groups_behind at name cs (second (is_lt (text_cmp name next)) (below_all text_cmp name (child_entries cs)) h))
 
 mutual
   pub groups_sorted : (at : GroupPath) (g : Group) → IsOrdered g → T (is_sorted names_cmp (groups_from at g))
   groups_sorted at (group ps cs) o =
       both (below_all names_cmp at (groups_among at cs)) (is_sorted names_cmp (groups_among at cs)) (before_below at (groups_among at cs) (groups_below at cs)) (groups_sorted_among at cs o.0 o.1)
 
-  groups_sorted_among : (at : GroupPath) (cs : Children) → T (is_sorted text_cmp (entries_in cs)) → AreOrdered cs → T (is_sorted names_cmp (groups_among at cs))
+  groups_sorted_among : (at : GroupPath) (cs : Children) → T (is_sorted text_cmp (child_entries cs)) → AreOrdered cs → T (is_sorted names_cmp (groups_among at cs))
   groups_sorted_among at no_children s o = tt
   groups_sorted_among at (child name c cs) s o =
       sorted_join at name (groups_in (at ++ name ∷ []) c) (groups_among at cs) (groups_under_in (at ++ name ∷ []) c)
-      (groups_behind at name cs (first (below_all text_cmp name (entries_in cs)) (is_sorted text_cmp (entries_in cs)) s))
+      (groups_behind at name cs (first (below_all text_cmp name (child_entries cs)) (is_sorted text_cmp (child_entries cs)) s))
       (groups_sorted_in (at ++ name ∷ []) c o.0)
-      (groups_sorted_among at cs (second (below_all text_cmp name (entries_in cs)) (is_sorted text_cmp (entries_in cs)) s) o.1)
+      (groups_sorted_among at cs (second (below_all text_cmp name (child_entries cs)) (is_sorted text_cmp (child_entries cs)) s) o.1)
 
   groups_sorted_in : (at : GroupPath) (c : Child) → IsOrderedChild c → T (is_sorted names_cmp (groups_in at c))
   groups_sorted_in at (a_token d) o = tt

@@ -15,7 +15,7 @@ use Rattle.group_inherit.specs.declared.fault.TreeFault.TheVariants.{ExtendsTarg
 use Rattle.group_inherit.specs.declared.targets.Row.{Row}
 use Rattle.group_inherit.specs.inner.Faults.{IsLostTarget}
 use Rattle.group_inherit.specs.Extension.{GroupPath, Lost, extension_of, names_of_groups, group_names, lost_unless, lost_at}
-use Rattle.group_inherit.specs.inner.Numbering.{GroupAt, path_in, Places, ArePlaces, AreKnown, EachKnown, IsRow, EachRow, numbers_of, has_number, lost_of, lost_nodes}
+use Rattle.group_inherit.specs.inner.Numbering.{GroupAt, numbered_path, Places, ArePlaces, AreNumbered, EachNumbered, IsRow, EachRow, numbers_of, has_number, lost_of, lost_nodes}
 use Rattle.group_inherit.proofs.Numbers.{Entries}
 
 tied : (r : Ordering) → is_eq r ≡ true → r ≡ Equal
@@ -35,7 +35,7 @@ no_places nodes m e = record {
   missing = λ path v f h k. absurd (omega (arith, h));
 }
 
-module _ (nodes : List GroupAt) (n : ℕ) (old new : Places) (p : GroupPath) (is : path_in nodes n ≡ p)
+module _ (nodes : List GroupAt) (n : ℕ) (old new : Places) (p : GroupPath) (is : numbered_path nodes n ≡ p)
     (at : (q : GroupPath) → map_of.get new q ≡ cond (is_at (names_cmp p) q) (Some n) (map_of.get old q)) where
   at_it : (q : GroupPath) → is_at (names_cmp p) q ≡ true → map_of.get new q ≡ Some n
   at_it q t = at q ∙ ap (λ b. cond b (Some n) (map_of.get old q)) t
@@ -48,7 +48,7 @@ module _ (nodes : List GroupAt) (n : ℕ) (old new : Places) (p : GroupPath) (is
     found = λ q v e. elim (cases_Bool (is_at (names_cmp p) q)) [
       | inl t ↦
           (let s : n ≡ v = same_Some n v (sym (at_it q t) ∙ e) in
-          (omega (arith, s), ap (path_in nodes) (sym s) ∙ (is ∙ same_path_at p q t)))
+          (omega (arith, s), ap (numbered_path nodes) (sym s) ∙ (is ∙ same_path_at p q t)))
       | inr t ↦
           (let f = o.found q v (sym (at_other q t) ∙ e) in
           (omega (arith, f.0), f.1))
@@ -56,7 +56,7 @@ module _ (nodes : List GroupAt) (n : ℕ) (old new : Places) (p : GroupPath) (is
     missing = λ q v e h k. elim (cases_Bool (is_at (names_cmp p) q)) [
       | inl t ↦ none-some n (sym e ∙ at_it q t)
       | inr t ↦ elim (cases_eq v n) [
-        | inl s ↦ false≢true (sym t ∙ (ap (λ (x : GroupPath). is_at (names_cmp p) x) (sym k ∙ (ap (path_in nodes) s ∙ is)) ∙ path_itself p))
+        | inl s ↦ false≢true (sym t ∙ (ap (λ (x : GroupPath). is_at (names_cmp p) x) (sym k ∙ (ap (numbered_path nodes) s ∙ is)) ∙ path_itself p))
         | inr s ↦ o.missing q v (sym (at_other q t) ∙ e) (omega (arith, h, s)) k
       ]
     ];
@@ -66,7 +66,7 @@ module _ (nodes : List GroupAt) (n : ℕ) (old new : Places) (p : GroupPath) (is
 
 pub record Kids (places : Places) (path : GroupPath) (all : List (Option ℕ)) (row : List ℕ) (left : Entries) : Type 0 where
   pub numbers : map (λ (v : ℕ). Some v) row ++ map (λ (n : List ℕ). map_of.get places (path ++ n ∷ [])) (names_of_groups (children_of left)) ≡ all
-  pub known : AreKnown places path (children_of left)
+  pub known : AreNumbered places path (children_of left)
 
 module _ (places : Places) (path : GroupPath) (all : List (Option ℕ)) where
   pub kid_token : (row : List ℕ) (name : List ℕ) (c : Child) (left : Entries) (d : Definition) → c ≡ a_token d → Kids places path all row ((name, c) ∷ left) → Kids places path all row left
@@ -130,7 +130,7 @@ row_lost places n x e f = ap (lost_at (has_number places) n.0) e ∙ ap (λ (o :
 pub record Rowing (places : Places) (nodes : List GroupAt) (rows : List Row) (left : List GroupAt) : Type 0 where
   pub rows_are : (rest : List Row) → EachRow places left rest → EachRow places nodes (rows ++ rest)
   pub sound : lost_nodes places left ≡ lost_nodes places nodes
-  pub known : EachKnown places left
+  pub known : EachNumbered places left
 
 pub one_row_more : (places : Places) (nodes : List GroupAt) (rows more : List Row) (n : GroupAt) (left : List GroupAt) (row : Row) → Rowing places nodes rows (n ∷ left) → IsRow places n row → lost_of places n ≡ [] → more ≡ rows ++ row ∷ [] → Rowing places nodes more left
 one_row_more places nodes rows more n left row r is none made = record {

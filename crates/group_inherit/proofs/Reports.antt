@@ -12,7 +12,7 @@ use Rattle.ring.proofs.Renamings.{in_map, in_names}
 use Rattle.token_tree.specs.Tree.{Extension, Group}
 use Rattle.group_inherit.specs.Merging.{either}
 use Rattle.group_inherit.specs.Extension.{GroupPath, at_path, extension_of, group_names, needs_of, needs, target_path, same_path, where_target, extension_to, head_or, extension_along, extension_around, ring_extension}
-use Rattle.group_inherit.specs.inner.Numbering.{GroupAt, group_in, path_in, AreNeeds, extension_after, extension_in}
+use Rattle.group_inherit.specs.inner.Numbering.{GroupAt, numbered_group, numbered_path, AreNeeds, extension_after, extension_in}
 
 same_itself : (p : GroupPath) → same_path p p ≡ true
 same_itself p = (lists_equiv nat_list_eq_equiv).refl p
@@ -95,8 +95,8 @@ pub extension_of_ring : (nodes : List GroupAt) (rows : List (Vec ℕ Global)) �
     → (ring : List ℕ) → All (λ w. w < length nodes) ring → IsRing (needs_in rows) 0 ring
     → (e : Extension) × (extension_in nodes ring ≡ Some e)
 extension_of_ring nodes rows are =
-    extension_there (path_in nodes) (group_in nodes) (needs_in rows) (λ v. v < length nodes)
-    (λ v w h i. subst (In (path_in nodes w)) (are v h) (in_map (path_in nodes) (needs_in rows v) w i)) 0
+    extension_there (numbered_path nodes) (numbered_group nodes) (needs_in rows) (λ v. v < length nodes)
+    (λ v w h i. subst (In (numbered_path nodes w)) (are v h) (in_map (numbered_path nodes) (needs_in rows v) w i)) 0
 
 -- .. where they are paths
 pub extension_by_paths : (tree : Group) (ring : List GroupPath) → IsRing (needs tree) [] ring
@@ -109,19 +109,19 @@ extension_by_paths tree ring =
     any (p ∷ ps) = All-cons (λ path. Unit {0}) p ps tt (any ps)
 
 -- by paths it is the same
-module _ (tree : Group) (nodes : List GroupAt) (at_tree : (v : ℕ) → v < length nodes → at_path tree (path_in nodes v) ≡ group_in nodes v) where
-  head_named : (first : ℕ) (vs : List ℕ) → path_in nodes (head_or first vs) ≡ head_or (path_in nodes first) (map (path_in nodes) vs)
+module _ (tree : Group) (nodes : List GroupAt) (at_tree : (v : ℕ) → v < length nodes → at_path tree (numbered_path nodes v) ≡ numbered_group nodes v) where
+  head_named : (first : ℕ) (vs : List ℕ) → numbered_path nodes (head_or first vs) ≡ head_or (numbered_path nodes first) (map (numbered_path nodes) vs)
   head_named first [] = refl
   head_named first (v ∷ vs) = refl
 
-  along_named : (first : ℕ) (vs : List ℕ) → All (λ w. w < length nodes) vs → extension_after nodes first vs ≡ extension_along (λ path. path) (at_path tree) (path_in nodes first) (map (path_in nodes) vs)
+  along_named : (first : ℕ) (vs : List ℕ) → All (λ w. w < length nodes) vs → extension_after nodes first vs ≡ extension_along (λ path. path) (at_path tree) (numbered_path nodes first) (map (numbered_path nodes) vs)
   along_named first [] all = refl
   along_named first (v ∷ vs) all =
       ap (λ (o : Option Extension). either o (extension_after nodes first vs))
-      (ap (λ (p : GroupPath). extension_to p (group_in nodes v)) (head_named first vs)
-      ∙ ap (extension_to (head_or (path_in nodes first) (map (path_in nodes) vs))) (sym (at_tree v (All-head (λ x. x < length nodes) v vs all))))
-      ∙ ap (either (extension_to (head_or (path_in nodes first) (map (path_in nodes) vs)) (at_path tree (path_in nodes v)))) (along_named first vs (All-tail (λ x. x < length nodes) v vs all))
+      (ap (λ (p : GroupPath). extension_to p (numbered_group nodes v)) (head_named first vs)
+      ∙ ap (extension_to (head_or (numbered_path nodes first) (map (numbered_path nodes) vs))) (sym (at_tree v (All-head (λ x. x < length nodes) v vs all))))
+      ∙ ap (either (extension_to (head_or (numbered_path nodes first) (map (numbered_path nodes) vs)) (at_path tree (numbered_path nodes v)))) (along_named first vs (All-tail (λ x. x < length nodes) v vs all))
 
-  pub reported_at : (ring : List ℕ) → All (λ w. w < length nodes) ring → extension_in nodes ring ≡ ring_extension tree (map (path_in nodes) ring)
+  pub reported_at : (ring : List ℕ) → All (λ w. w < length nodes) ring → extension_in nodes ring ≡ ring_extension tree (map (numbered_path nodes) ring)
   reported_at [] all = refl
   reported_at (v ∷ vs) all = along_named v (v ∷ vs) all

@@ -15,22 +15,22 @@ use Rattle.group_inherit.specs.declared.targets.Row.{Row}
 use Rattle.group_inherit.specs.Expansion.{Expands}
 use Rattle.group_inherit.specs.Extension.{GroupPath, group_names, child_paths, target_path}
 use Rattle.group_inherit.specs.Merging.{empty_group}
-use Rattle.group_inherit.specs.inner.Numbering.{GroupAt, group_in, nowhere, path_in, IsNumbering, AreRows, IsRowOf, numbers_of, needs_by}
+use Rattle.group_inherit.specs.inner.Numbering.{GroupAt, numbered_group, nowhere, numbered_path, IsNumbering, AreRows, IsRowOf, numbers_of, needs_by}
 use Rattle.group_inherit.specs.inner.Outcomes.{HoldsExpansion}
 use Rattle.group_inherit.specs.declared.numbered.Node.{Node}
-use Rattle.group_inherit.specs.inner.View.{node_view, nodes_view}
+use Rattle.group_inherit.specs.inner.View.{group_node_view, nodes_view}
 use Rattle.group_inherit.proofs.Trees.{root_path, needs_by_row}
-use Rattle.group_inherit.specs.inner.Tables.{value, HaveExpansions, HasTarget}
+use Rattle.group_inherit.specs.inner.Tables.{tabled_group, HaveExpansions, HasTarget}
 
-pub value_read : (table : List Group) (w : ℕ) (g : Group) → w < length table → g ≡ get_or table w g → value table w ≡ group_view g
+pub value_read : (table : List Group) (w : ℕ) (g : Group) → w < length table → g ≡ get_or table w g → tabled_group table w ≡ group_view g
 value_read table w g h e = get_or-map group_view table w g empty_group h ∙ ap group_view (sym e)
 
-value_set_same : (table : List Group) (v : ℕ) (g : Group) → v < length table → value (set table v g) v ≡ group_view g
+value_set_same : (table : List Group) (v : ℕ) (g : Group) → v < length table → tabled_group (set table v g) v ≡ group_view g
 value_set_same [] v g h = absurd (omega arith)
 value_set_same (x ∷ xs) zero g h = refl
 value_set_same (x ∷ xs) (suc v) g h = value_set_same xs v g (omega arith)
 
-value_set_other : (table : List Group) (v u : ℕ) (g : Group) → (u ≡ v → ⊥) → value (set table v g) u ≡ value table u
+value_set_other : (table : List Group) (v u : ℕ) (g : Group) → (u ≡ v → ⊥) → tabled_group (set table v g) u ≡ tabled_group table u
 value_set_other [] v u g n = refl
 value_set_other (x ∷ xs) zero zero g n = absurd (n refl)
 value_set_other (x ∷ xs) zero (suc u) g n = refl
@@ -39,12 +39,12 @@ value_set_other (x ∷ xs) (suc v) (suc u) g n = value_set_other xs v u g (λ e.
 
 -- The expansions of all that a group needs, from those of the groups before it in the order.
 
-have_each : (tree : GroupData) (table : List Group) (path : ℕ → GroupPath) (ws : List ℕ) → ((w : ℕ) → In w ws → Expands tree (path w) (value table w))
+have_each : (tree : GroupData) (table : List Group) (path : ℕ → GroupPath) (ws : List ℕ) → ((w : ℕ) → In w ws → Expands tree (path w) (tabled_group table w))
     → HaveExpansions tree table (map path ws) ws
 have_each tree table path [] known = tt
 have_each tree table path (w ∷ ws) known = (known w (inl refl), have_each tree table path ws (λ x i. known x (inr i)))
 
-have_target : (tree : GroupData) (table : List Group) (path : ℕ → GroupPath) (o : Option ℕ) → ((w : ℕ) → In w (option_to_list o) → Expands tree (path w) (value table w))
+have_target : (tree : GroupData) (table : List Group) (path : ℕ → GroupPath) (o : Option ℕ) → ((w : ℕ) → In w (option_to_list o) → Expands tree (path w) (tabled_group table w))
     → HasTarget tree table (option_map path o) o
 have_target tree table path None known = tt
 have_target tree table path (Some w) known = known w (inl refl)
@@ -55,24 +55,24 @@ module _ (nodes : List GroupAt) (rows : List Row) (table : List Group) (order : 
   before : (w : ℕ) → In w (numbers_of row) → HoldsExpansion nodes table w
   before w i = known w (follows_at (needs_by rows) [] order k follows h w (subst (λ (x : ℕ). In w (needs_by rows x)) e (subst (In w) (sym own) i)))
 
-  pub children_known : HaveExpansions (group_in nodes 0) table (child_paths (path_in nodes v) (group_in nodes v)) row.children.items
+  pub children_known : HaveExpansions (numbered_group nodes 0) table (child_paths (numbered_path nodes v) (numbered_group nodes v)) row.children.items
   children_known =
-      subst (λ (ps : List GroupPath). HaveExpansions (group_in nodes 0) table ps row.children.items) is.children
-      (have_each (group_in nodes 0) table (path_in nodes) row.children.items (λ w i. before w (in_left row.children.items (option_to_list row.target) w i)))
+      subst (λ (ps : List GroupPath). HaveExpansions (numbered_group nodes 0) table ps row.children.items) is.children
+      (have_each (numbered_group nodes 0) table (numbered_path nodes) row.children.items (λ w i. before w (in_left row.children.items (option_to_list row.target) w i)))
 
-  pub target_known : HasTarget (group_in nodes 0) table (target_path (group_in nodes v)) row.target
+  pub target_known : HasTarget (numbered_group nodes 0) table (target_path (numbered_group nodes v)) row.target
   target_known =
-      subst (λ (o : Option GroupPath). HasTarget (group_in nodes 0) table o row.target) is.target
-      (have_target (group_in nodes 0) table (path_in nodes) row.target (λ w i. before w (in_right row.children.items (option_to_list row.target) w i)))
+      subst (λ (o : Option GroupPath). HasTarget (numbered_group nodes 0) table o row.target) is.target
+      (have_target (numbered_group nodes 0) table (numbered_path nodes) row.target (λ w i. before w (in_right row.children.items (option_to_list row.target) w i)))
 
 pub expansion_more : (nodes : List GroupAt) (table : List Group) (order : List ℕ) (k v : ℕ) (g : Group) → k < length order → v ≡ get_or order k 0 → v < length table
-    → ((w : ℕ) → In w (take k order) → HoldsExpansion nodes table w) → Expands (group_in nodes 0) (path_in nodes v) (group_view g)
+    → ((w : ℕ) → In w (take k order) → HoldsExpansion nodes table w) → Expands (numbered_group nodes 0) (numbered_path nodes v) (group_view g)
     → (u : ℕ) → In u (take (k + 1) order) → HoldsExpansion nodes (set table v g) u
 expansion_more nodes table order k v g h e within known is u i =
     elim (cases_eq u v) [
       | inl p ↦ subst (HoldsExpansion nodes (set table v g)) (sym p)
-          (subst (Expands (group_in nodes 0) (path_in nodes v)) (sym (value_set_same table v g within)) is)
-      | inr q ↦ subst (Expands (group_in nodes 0) (path_in nodes u)) (sym (value_set_other table v u g q)) (known u (before q))
+          (subst (Expands (numbered_group nodes 0) (numbered_path nodes v)) (sym (value_set_same table v g within)) is)
+      | inr q ↦ subst (Expands (numbered_group nodes 0) (numbered_path nodes u)) (sym (value_set_other table v u g q)) (known u (before q))
     ]
   where
     before : (u ≡ v → ⊥) → In u (take k order)
@@ -105,21 +105,21 @@ known_row nodes rows v row each h e =
     let there : slice_get rows v ≡ Some row = slice_get_read rows (length rows) v row refl h e in
     (each v row there, needs_by_row rows v row there)
 
-children_many : (nodes : List GroupAt) (v : ℕ) (row : Row) (g : GroupData) → IsRowOf nodes v row → group_in nodes v ≡ g → length row.children.items ≡ length (group_names g)
+children_many : (nodes : List GroupAt) (v : ℕ) (row : Row) (g : GroupData) → IsRowOf nodes v row → numbered_group nodes v ≡ g → length row.children.items ≡ length (group_names g)
 children_many nodes v row g is itself =
-    sym (length-map row.children.items (path_in nodes))
+    sym (length-map row.children.items (numbered_path nodes))
     ∙ (ap length is.children
-    ∙ (length-map (group_names (group_in nodes v)) (λ (name : List ℕ). path_in nodes v ++ name ∷ []) ∙ ap (λ (h : GroupData). length (group_names h)) itself))
+    ∙ (length-map (group_names (numbered_group nodes v)) (λ (name : List ℕ). numbered_path nodes v ++ name ∷ []) ∙ ap (λ (h : GroupData). length (group_names h)) itself))
 
-group_read : (nodes : List Node) (v : ℕ) (n : Node) → v < length nodes → group_in (nodes_view nodes) v ≡ group_view (get_or nodes v n).group.now
-group_read nodes v n h = ap (λ (m : GroupAt). m.1) (get_or-map node_view nodes v n nowhere h)
+group_read : (nodes : List Node) (v : ℕ) (n : Node) → v < length nodes → numbered_group (nodes_view nodes) v ≡ group_view (get_or nodes v n).group.now
+group_read nodes v n h = ap (λ (m : GroupAt). m.1) (get_or-map group_node_view nodes v n nowhere h)
 
 -- What stands in the row of a group of an order. The groups' tables have so many entries.
 pub record RowAt (nodes : List Node) (rows : List Row) (v : ℕ) (row : Row) (n : Node) (many : ℕ) : Type 0 where
   pub here : v < length nodes
   pub is_row : IsRowOf (nodes_view nodes) v row
   pub own : needs_by rows v ≡ numbers_of row
-  pub itself : group_in (nodes_view nodes) v ≡ group_view (get_or nodes v n).group.now
+  pub itself : numbered_group (nodes_view nodes) v ≡ group_view (get_or nodes v n).group.now
   pub children : All (λ w. w < many) row.children.items
   pub target : IfSome row.target (λ w. w < many)
   pub names : length row.children.items ≡ length (group_names (group_view (get_or nodes v n).group.now))
@@ -130,7 +130,7 @@ row_at nodes rows order k row n many each long within h e len =
     let v = get_or order k 0 in
     let here : v < length nodes = All-get_or (λ x. x < length nodes) order k 0 h within in
     let known = known_row (nodes_view nodes) rows v row each (omega (arith, here, long)) e in
-    let all : All (λ w. w < many) (numbers_of row) = subst (λ (m : ℕ). All (λ w. w < m) (numbers_of row)) (length-map nodes node_view ∙ sym len) known.0.within in
+    let all : All (λ w. w < many) (numbers_of row) = subst (λ (m : ℕ). All (λ w. w < m) (numbers_of row)) (length-map nodes group_node_view ∙ sym len) known.0.within in
     let itself = group_read nodes v n here in
     record {
       here = here;
@@ -156,7 +156,7 @@ target_in_slice tree table slice g h row same itself known =
     (subst (λ (k : GroupData). HasTarget tree table (target_path k) row.target) itself known)
 
 -- the expansion of the root
-pub root_expands : (tree : GroupData) (nodes : List GroupAt) (table : List Group) → IsNumbering nodes → group_in nodes 0 ≡ tree → HoldsExpansion nodes table 0 → Expands tree [] (value table 0)
+pub root_expands : (tree : GroupData) (nodes : List GroupAt) (table : List Group) → IsNumbering nodes → numbered_group nodes 0 ≡ tree → HoldsExpansion nodes table 0 → Expands tree [] (tabled_group table 0)
 root_expands tree nodes table n itself known =
-    subst (λ (t : GroupData). Expands t [] (value table 0)) itself
-    (subst (λ (p : GroupPath). Expands (group_in nodes 0) p (value table 0)) (root_path (group_in nodes 0) nodes n.all n.named) known)
+    subst (λ (t : GroupData). Expands t [] (tabled_group table 0)) itself
+    (subst (λ (p : GroupPath). Expands (numbered_group nodes 0) p (tabled_group table 0)) (root_path (numbered_group nodes 0) nodes n.all n.named) known)

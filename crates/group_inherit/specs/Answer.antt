@@ -2,6 +2,7 @@
 use Rattle.std.specs.Prelude.{◌≡◌, ◌<◌, ◌≤◌, ℕ, List, [], Some, min, slice_get}
 use Rattle.std.specs.FinMap as finite
 use Rattle.ring.specs.Routes.{IsRing, HasNoRing}
+use Rattle.ring.specs.Values.{most_total}
 use Rattle.tk_io.specs.Order.{names_cmp}
 use Rattle.token_tree.specs.Tree.{Extension, Group}
 use Rattle.group_inherit.specs.Flattening.{Flattened, flat_of}
@@ -18,9 +19,9 @@ most_members = 16384
 abbrev pub most_levels : ℕ
 most_levels = 64
 
--- the greatest number of members that is told
+-- the greatest number of members that is told: what larger totals are shown as
 abbrev pub most_told : ℕ
-most_told = 1000000
+most_told = most_total
 
 -- the first of these groups is at the path, and names its target at the span
 abbrev pub IsFirstLost : List Lost → GroupPath → Span → Type 0

@@ -1,7 +1,7 @@
 -- The expansion of groups that extend others (Format Module 2025.10, `$extends`).
 use Rattle.std.specs.Prelude.{ℕ, List, [], ◌∷◌, ◌++◌, Option, None, Some}
 use Rattle.token_tree.specs.Tree.{Properties, a_token, a_group, Group, group, Children, no_children, child, group_with}
-use Rattle.group_inherit.specs.Merging.{named, over}
+use Rattle.group_inherit.specs.Merging.{children_by_name, over}
 use Rattle.group_inherit.specs.Extension.{GroupPath, children_in, at_path, target_path}
 use Rattle.token_tree.specs.Tree.{Definition}
 
@@ -18,7 +18,7 @@ over_inherited local (Some inherited) = over local inherited
 
 -- a group without `$extends` that has these members, over what it inherits
 abbrev pub expanded : Group → Children → Option Group → Group
-expanded g members inherited = over_inherited (group_with (without_extension (properties_in g)) (named members)) inherited
+expanded g members inherited = over_inherited (group_with (without_extension (properties_in g)) (children_by_name members)) inherited
 
 mutual
   -- The expansion of the group at a path of a tree: its members, with each child group expanded, over the expansion of its

@@ -11,14 +11,14 @@ abbrev pub GroupPath : Type 0
 GroupPath = List (List ℕ)
 
 -- the group of a child that is one
-abbrev pub group_of : Child → Option Group
-group_of (a_token d) = None
-group_of (a_group g) = Some g
+abbrev pub as_group : Child → Option Group
+as_group (a_token d) = None
+as_group (a_group g) = Some g
 
 -- the group at a path below a group
 abbrev pub group_at : Group → GroupPath → Option Group
 group_at g [] = Some g
-group_at g (name ∷ path) = option_and_then (λ h. group_at h path) (option_and_then group_of (member_at name g))
+group_at g (name ∷ path) = option_and_then (λ h. group_at h path) (option_and_then as_group (member_at name g))
 
 -- the same, or the empty group where there is none
 abbrev pub at_path : Group → GroupPath → Group

@@ -6,7 +6,7 @@ use Rattle.tk_io.specs.Order.{text_cmp, names_cmp}
 use Rattle.name_path.specs.declared.kind.Kind.{Kind}
 use Rattle.token_tree.specs.declared.mark.Mark.{Mark}
 use Rattle.token_tree.specs.Tree.{Definition, Properties, Child, a_token, a_group, Group, group, Children, no_children, child}
-use Rattle.group_inherit.specs.Merging.{either, named}
+use Rattle.group_inherit.specs.Merging.{either, children_by_name}
 use Rattle.group_inherit.specs.Putting.{put_all}
 
 -- A token of the flat tree: its definition, and the `$type` and the `$deprecated` of the nearest group upwards that has one.
@@ -59,7 +59,7 @@ abbrev pub token_below : List (List ℕ) → Nearest → Child → Option Flatte
 token_below [] near (a_token d) = Some (flattened near d)
 token_below [] near (a_group g) = None
 token_below (name ∷ path) near (a_token d) = None
-token_below (name ∷ path) near (a_group (group ps cs)) = option_and_then (λ c. token_below path (nearest ps near) c) (map.get (named cs) name)
+token_below (name ∷ path) near (a_group (group ps cs)) = option_and_then (λ c. token_below path (nearest ps near) c) (map.get (children_by_name cs) name)
 
 -- What stands at a path of the flat tree: the token to which its names lead, with what the nearest groups on the way say.
 abbrev pub flattened_at : List (List ℕ) → Group → Option Flattened

@@ -17,14 +17,14 @@ over_properties later earlier = record {
 }
 
 -- children as a finite map from their names
-abbrev pub named : Children → Named
-named no_children = map.empty
-named (child name c cs) = map.insert (named cs) name c
+abbrev pub children_by_name : Children → Named
+children_by_name no_children = map.empty
+children_by_name (child name c cs) = map.insert (children_by_name cs) name c
 
 abbrev mutual
   -- the properties and the members of both groups, where the later ones stand over the earlier ones
   pub over : Group → Group → Group
-  over (group ps cs) (group qs ds) = group_with (over_properties ps qs) (over_members cs (named ds))
+  over (group ps cs) (group qs ds) = group_with (over_properties ps qs) (over_members cs (children_by_name ds))
 
   -- the members of both: each later one stands over what has its name
   pub over_members : Children → Named → Named
@@ -54,7 +54,7 @@ merged sources = merged_over empty_group sources
 
 -- the member of a name
 abbrev pub member_at : List ℕ → Group → Option Child
-member_at name (group ps cs) = map.get (named cs) name
+member_at name (group ps cs) = map.get (children_by_name cs) name
 
 -- what stands where the later group has this member of a name, and the earlier group that one
 abbrev pub stands : Option Child → Option Child → Option Child

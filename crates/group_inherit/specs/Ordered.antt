@@ -4,14 +4,14 @@ use Rattle.std.specs.FinMap.{is_sorted}
 use Rattle.tk_io.specs.Order.{text_cmp}
 use Rattle.token_tree.specs.Tree.{Child, a_token, a_group, Group, group, Children, no_children, child}
 
-abbrev pub entries_in : Children → List (List ℕ × Child)
-entries_in no_children = []
-entries_in (child name c cs) = (name, c) ∷ entries_in cs
+abbrev pub child_entries : Children → List (List ℕ × Child)
+child_entries no_children = []
+child_entries (child name c cs) = (name, c) ∷ child_entries cs
 
 abbrev mutual
   -- the children's names ascend, and so do those below
   pub IsOrdered : Group → Type 0
-  IsOrdered (group ps cs) = T (is_sorted text_cmp (entries_in cs)) × AreOrdered cs
+  IsOrdered (group ps cs) = T (is_sorted text_cmp (child_entries cs)) × AreOrdered cs
 
   pub AreOrdered : Children → Type 0
   AreOrdered no_children = Unit {0}

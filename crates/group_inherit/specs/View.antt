@@ -10,8 +10,8 @@ use Rattle.group_inherit.specs.Flattening.{Flattened}
 use Rattle.group_inherit.specs.Merging.{over}
 use Rattle.group_inherit.specs.declared.entry.Entry.TheInside.{Inside}
 
-abbrev pub Tokens : Type 0
-Tokens = map.FinMap names_cmp Flattened
+abbrev pub FlatTokens : Type 0
+FlatTokens = map.FinMap names_cmp Flattened
 
 -- an entry of a flat tree
 abbrev pub entry_view : Inside → Flattened
@@ -22,7 +22,7 @@ abbrev pub token_view : Bor (List (List ℕ)) × Bor Flattened → List (List �
 token_view e = (e.0.now, e.1.now)
 
 -- the token stands at the path, and at each other path what stood there
-abbrev pub StandsAt : Tokens → Tokens → List (List ℕ) → Flattened → Type 0
+abbrev pub StandsAt : FlatTokens → FlatTokens → List (List ℕ) → Flattened → Type 0
 StandsAt old new path t = (q : List (List ℕ)) → map.get new q ≡ cond (is_at (names_cmp path) q) (Some t) (map.get old q)
 
 -- a group is the later one over the earlier one

@@ -3,7 +3,7 @@
 ghost use Rattle.std.specs.Prelude.{◌≡◌, ◌+◌, ◌≤◌, min, max, IfErr, OnOk, IfSome};
 ghost use Rattle.token_tree.specs.View.{child_view, group_view};
 ghost use Rattle.group_inherit.specs.Answer.{IsSound, IsTreeBreak, most_told};
-ghost use Rattle.group_inherit.specs.inner.Bare.{IsSize, IsChildSize};
+ghost use Rattle.group_inherit.specs.inner.Bare.{IsBareSize, IsChildSize};
 
 use crate::fault::TreeFault;
 use crate::sizes::{HIGHEST, LIMIT, MOST_MEMBERS};
@@ -34,7 +34,7 @@ fn with_member(size: Size, member: Size) -> Size
 /// The size of a group in which no group extends another; none where one does.
 #[cycle(size)]
 pub(crate) fn bare_size(group: &Group<'_>) -> Option<Size>
-    ensures { IfSome result (λ s. IsSize (group_view group.now) s.members s.levels) }
+    ensures { IfSome result (λ s. IsBareSize (group_view group.now) s.members s.levels) }
 {
     if group.extends.is_some() {
         return None;
@@ -73,7 +73,7 @@ fn child_size(child: &Child<'_>) -> Option<Size>
 
 /// That a tree of this size is not too large.
 pub(crate) fn check_size<'s>(tree: &Group<'s>, size: Size) -> Result<(), TreeFault<'s>>
-    requires { IsSize (group_view tree.now) size.members size.levels }
+    requires { IsBareSize (group_view tree.now) size.members size.levels }
     ensures sound { OnOk result (IsSound (group_view tree.now)) }
     ensures broken { IfErr result (IsTreeBreak (group_view tree.now)) }
 {

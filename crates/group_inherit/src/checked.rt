@@ -10,7 +10,7 @@ ghost use Rattle.group_inherit.specs.Extension.{lost_targets};
 ghost use Rattle.group_inherit.specs.inner.Outcomes.{IsReady};
 ghost use Rattle.group_inherit.specs.inner.View.{nodes_view};
 ghost use Rattle.group_inherit.specs.inner.Numbering.{IsNumbering, AreNeeds, AreRows};
-ghost use Rattle.group_inherit.specs.inner.Numbering.{group_in, needs_by};
+ghost use Rattle.group_inherit.specs.inner.Numbering.{numbered_group, needs_by};
 
 use crate::fault::TreeFault;
 use crate::numbered::{Node, numbered_groups};
@@ -35,8 +35,8 @@ fn checked_rows<'s>(alloc: Global, nodes: &[Node<'_, 's>]) -> Result<Vec<Row>, T
     requires { IsNumbering (nodes_view nodes.now) }
     ensures long { IfOk result (λ rows. length rows.items ≡ length nodes.now) }
     ensures rows { IfOk result (λ rows. AreRows (nodes_view nodes.now) rows.items) }
-    ensures targets { OnOk result (lost_targets (group_in (nodes_view nodes.now) 0) ≡ []) }
-    ensures broken { IfErr result (IsTreeBreak (group_in (nodes_view nodes.now) 0)) }
+    ensures targets { OnOk result (lost_targets (numbered_group (nodes_view nodes.now) 0) ≡ []) }
+    ensures broken { IfErr result (IsTreeBreak (numbered_group (nodes_view nodes.now) 0)) }
 {
     let numbers = places(alloc, nodes)?;
     let table = rows(alloc, nodes, &numbers)?;
@@ -51,15 +51,15 @@ fn counted_order<'s>(
     needs: &[Vec<usize>],
 ) -> Result<Vec<usize>, TreeFault<'s>>
     requires numbering { IsNumbering (nodes_view nodes.now) }
-    requires targets { lost_targets (group_in (nodes_view nodes.now) 0) ≡ [] }
+    requires targets { lost_targets (numbered_group (nodes_view nodes.now) 0) ≡ [] }
     requires graph { IsGraph needs.now }
     requires long { length needs.now ≡ length nodes.now }
     requires needs { AreNeeds (nodes_view nodes.now) needs.now }
-    ensures rings { OnOk result (IsAcyclic (group_in (nodes_view nodes.now) 0)) }
-    ensures counted { OnOk result (IsCounted (group_in (nodes_view nodes.now) 0)) }
+    ensures rings { OnOk result (IsAcyclic (numbered_group (nodes_view nodes.now) 0)) }
+    ensures counted { OnOk result (IsCounted (numbered_group (nodes_view nodes.now) 0)) }
     ensures within { IfOk result (λ order. All (λ v. v < length needs.now) order.items) }
     ensures order { IfOk result (λ order. IsOrder (needs_in needs.now) 0 order.items) }
-    ensures broken { IfErr result (IsTreeBreak (group_in (nodes_view nodes.now) 0)) }
+    ensures broken { IfErr result (IsTreeBreak (numbered_group (nodes_view nodes.now) 0)) }
 {
     let order = finish_order(alloc, nodes, needs)?;
     check_count(alloc, nodes, needs, order.as_slice())?;
@@ -73,14 +73,14 @@ fn order_of<'s>(
     rows: &[Row],
 ) -> Result<Vec<usize>, TreeFault<'s>>
     requires numbering { IsNumbering (nodes_view nodes.now) }
-    requires targets { lost_targets (group_in (nodes_view nodes.now) 0) ≡ [] }
+    requires targets { lost_targets (numbered_group (nodes_view nodes.now) 0) ≡ [] }
     requires long { length rows.now ≡ length nodes.now }
     requires rows { AreRows (nodes_view nodes.now) rows.now }
-    ensures sound { OnOk result (IsSound (group_in (nodes_view nodes.now) 0)) }
+    ensures sound { OnOk result (IsSound (numbered_group (nodes_view nodes.now) 0)) }
     ensures within { IfOk result (λ order. All (λ v. v < length nodes.now) order.items) }
     ensures follows { IfOk result (λ order. Follows (needs_by rows.now) [] order.items) }
     ensures root { IfOk result (λ order. In 0 order.items) }
-    ensures broken { IfErr result (IsTreeBreak (group_in (nodes_view nodes.now) 0)) }
+    ensures broken { IfErr result (IsTreeBreak (numbered_group (nodes_view nodes.now) 0)) }
 {
     let lists = listed(alloc, rows)?;
     let order = counted_order(alloc, nodes, lists.as_slice())?;

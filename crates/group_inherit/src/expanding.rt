@@ -2,7 +2,7 @@
 
 ghost use Rattle.std.specs.Prelude.{◌≡◌, ◌<◌, [], length, All, IfOk, IfSome};
 ghost use Rattle.ring.specs.Order.{Follows};
-ghost use Rattle.group_inherit.specs.inner.Outcomes.{AreExpansions, AreMembers, HaveNumbers};
+ghost use Rattle.group_inherit.specs.inner.Outcomes.{AreExpansions, AreExpandedMembers, HaveNumbers};
 ghost use Rattle.group_inherit.specs.inner.Outcomes.{IsExpansion};
 ghost use Rattle.group_inherit.specs.inner.Numbering.{AreRows, IsNumbering, needs_by};
 ghost use Rattle.group_inherit.specs.inner.View.{nodes_view};
@@ -94,7 +94,7 @@ fn expand_members<'s>(
 ) -> Result<Members<'s>, NoMemory>
     requires within { All (λ w. w < length table.now) children.now }
     requires many { HaveNumbers members.now children.now }
-    ensures { IfOk result (AreMembers members.now table.now children.now) }
+    ensures { IfOk result (AreExpandedMembers members.now table.now children.now) }
 {
     // A group without child groups shares its members.
     if children.is_empty() {

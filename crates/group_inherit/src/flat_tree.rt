@@ -8,7 +8,7 @@ ghost use Rattle.std.specs.Option.{option_copied, option_map};
 ghost use Rattle.tk_io.specs.Order.{names_cmp};
 ghost use Rattle.group_inherit.specs.View.{token_view, StandsAt};
 ghost use Rattle.group_inherit.specs.inner.Halves.{IsPlace, IsGap};
-ghost use Rattle.group_inherit.specs.inner.Outcomes.{IsPut};
+ghost use Rattle.group_inherit.specs.inner.Outcomes.{IsPutInto};
 
 use crate::entry::Entry;
 use name_path::Path;
@@ -81,7 +81,7 @@ fn put_token<'s>(
     entry: Entry<'s>,
 ) -> Result<(), NoMemory>
     requires { T (is_sorted names_cmp tokens.old.items) }
-    ensures ok { OnOk result (IsPut path.entry entry.entry tokens.old.items tokens.new.items) }
+    ensures ok { OnOk result (IsPutInto path.entry entry.entry tokens.old.items tokens.new.items) }
     ensures err { OnErr result (tokens.new.items ≡ tokens.old.items) }
 {
     match place_from_end(tokens.as_slice(), &path) {

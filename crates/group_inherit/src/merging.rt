@@ -2,7 +2,7 @@
 
 ghost use Rattle.std.specs.Prelude.{IfOk, OnOk};
 ghost use Rattle.group_inherit.specs.View.{IsOver};
-ghost use Rattle.group_inherit.specs.inner.Outcomes.{AreAdded, AreOver, IsAdded, IsChildOver};
+ghost use Rattle.group_inherit.specs.inner.Outcomes.{AreMembersAdded, AreOver, IsMemberAdded, IsChildOver};
 
 use crate::copying::{copy_mark, copy_target};
 use std::alloc::Global;
@@ -92,7 +92,7 @@ fn merged<'s>(
 
 // Adds the members of the list from the i-th on.
 fn put_from<'s>(members: &mut Members<'s>, list: &[Member<'s>], i: usize) -> Result<(), NoMemory>
-    ensures { OnOk result (AreAdded list.now i members.old members.new) }
+    ensures { OnOk result (AreMembersAdded list.now i members.old members.new) }
 {
     for k in i..list.len() {
         put_copy(members, &list[k])?;
@@ -102,7 +102,7 @@ fn put_from<'s>(members: &mut Members<'s>, list: &[Member<'s>], i: usize) -> Res
 
 // Adds the member, whose child is shared.
 fn put_copy<'s>(members: &mut Members<'s>, member: &Member<'s>) -> Result<(), NoMemory>
-    ensures { OnOk result (IsAdded member.now members.old members.new) }
+    ensures { OnOk result (IsMemberAdded member.now members.old members.new) }
 {
     let child = member.child.copy()?;
     members.put(&member.name, child)?;

@@ -12,7 +12,7 @@ ghost use Rattle.group_inherit.specs.inner.Faults.{IsReportOf};
 ghost use Rattle.group_inherit.specs.inner.Outcomes.{extension_view};
 ghost use Rattle.group_inherit.specs.inner.View.{nodes_view};
 ghost use Rattle.group_inherit.specs.inner.Numbering.{AreNeeds, IsNumbering};
-ghost use Rattle.group_inherit.specs.inner.Numbering.{extension_in, group_in, path_in};
+ghost use Rattle.group_inherit.specs.inner.Numbering.{extension_in, numbered_group, numbered_path};
 
 use crate::fault::{TreeFault, span_of};
 use crate::numbered::Node;
@@ -69,7 +69,7 @@ fn ring_paths<'s>(
     ring: &[usize],
 ) -> Result<Paths<'s>, NoMemory>
     requires { All (λ v. v < length nodes.now) ring.now }
-    ensures { IfOk result (λ paths. paths ≡ map (path_in (nodes_view nodes.now)) ring.now) }
+    ensures { IfOk result (λ paths. paths ≡ map (numbered_path (nodes_view nodes.now)) ring.now) }
 {
     let mut paths = Paths::new(alloc);
     for v in ring {
@@ -103,14 +103,14 @@ pub(crate) fn finish_order<'s>(
     needs: &[Vec<usize>],
 ) -> Result<Vec<usize>, TreeFault<'s>>
     requires numbering { IsNumbering (nodes_view nodes.now) }
-    requires targets { lost_targets (group_in (nodes_view nodes.now) 0) ≡ [] }
+    requires targets { lost_targets (numbered_group (nodes_view nodes.now) 0) ≡ [] }
     requires graph { IsGraph needs.now }
     requires long { length needs.now ≡ length nodes.now }
     requires needs { AreNeeds (nodes_view nodes.now) needs.now }
-    ensures no_ring { OnOk result (IsAcyclic (group_in (nodes_view nodes.now) 0)) }
+    ensures no_ring { OnOk result (IsAcyclic (numbered_group (nodes_view nodes.now) 0)) }
     ensures order { IfOk result (λ order. IsOrder (needs_in needs.now) 0 order.items) }
     ensures within { IfOk result (λ order. All (λ v. v < length needs.now) order.items) }
-    ensures broken { IfErr result (IsTreeBreak (group_in (nodes_view nodes.now) 0)) }
+    ensures broken { IfErr result (IsTreeBreak (numbered_group (nodes_view nodes.now) 0)) }
 {
     match ring_or_order(alloc, needs, 0)? {
         Found::Order(order) => Ok(order),

@@ -9,7 +9,7 @@ ghost use Rattle.group_inherit.specs.Answer.{IsAcyclic, IsCounted, IsLow, IsTree
 ghost use Rattle.group_inherit.specs.Extension.{children_in, group_names, tokens_height};
 ghost use Rattle.group_inherit.specs.Extension.{lost_targets};
 ghost use Rattle.group_inherit.specs.inner.Numbering.{AreNeeds, AreRows, IsNumbering};
-ghost use Rattle.group_inherit.specs.inner.Numbering.{group_in, needs_by, numbers_of};
+ghost use Rattle.group_inherit.specs.inner.Numbering.{numbered_group, needs_by, numbers_of};
 ghost use Rattle.group_inherit.specs.inner.Outcomes.{AreHeights, HaveNumbers};
 ghost use Rattle.group_inherit.specs.inner.Outcomes.{capped_height, own_counts};
 ghost use Rattle.group_inherit.specs.inner.View.{nodes_view};
@@ -47,16 +47,16 @@ pub(crate) fn check_count<'s>(
     order: &[usize],
 ) -> Result<(), TreeFault<'s>>
     requires numbering { IsNumbering (nodes_view nodes.now) }
-    requires targets { lost_targets (group_in (nodes_view nodes.now) 0) ≡ [] }
-    requires rings { IsAcyclic (group_in (nodes_view nodes.now) 0) }
+    requires targets { lost_targets (numbered_group (nodes_view nodes.now) 0) ≡ [] }
+    requires rings { IsAcyclic (numbered_group (nodes_view nodes.now) 0) }
     requires graph { IsGraph needs.now }
     requires long { length needs.now ≡ length nodes.now }
     requires needs { AreNeeds (nodes_view nodes.now) needs.now }
     requires within { All (λ v. v < length needs.now) order.now }
     requires order { Follows (needs_in needs.now) [] order.now }
     requires root { In 0 order.now }
-    ensures ok { OnOk result (IsCounted (group_in (nodes_view nodes.now) 0)) }
-    ensures broken { IfErr result (IsTreeBreak (group_in (nodes_view nodes.now) 0)) }
+    ensures ok { OnOk result (IsCounted (numbered_group (nodes_view nodes.now) 0)) }
+    ensures broken { IfErr result (IsTreeBreak (numbered_group (nodes_view nodes.now) 0)) }
 {
     let own = own_counts(alloc, nodes)?;
     let counts = capped_totals(alloc, needs, order, own.as_slice())?;
@@ -125,16 +125,16 @@ pub(crate) fn check_height<'s>(
     order: &[usize],
 ) -> Result<(), TreeFault<'s>>
     requires numbering { IsNumbering (nodes_view nodes.now) }
-    requires targets { lost_targets (group_in (nodes_view nodes.now) 0) ≡ [] }
-    requires rings { IsAcyclic (group_in (nodes_view nodes.now) 0) }
-    requires counted { IsCounted (group_in (nodes_view nodes.now) 0) }
+    requires targets { lost_targets (numbered_group (nodes_view nodes.now) 0) ≡ [] }
+    requires rings { IsAcyclic (numbered_group (nodes_view nodes.now) 0) }
+    requires counted { IsCounted (numbered_group (nodes_view nodes.now) 0) }
     requires rows { AreRows (nodes_view nodes.now) rows.now }
     requires long { length rows.now ≡ length nodes.now }
     requires within { All (λ v. v < length nodes.now) order.now }
     requires order { Follows (needs_by rows.now) [] order.now }
     requires root { In 0 order.now }
-    ensures ok { OnOk result (IsLow (group_in (nodes_view nodes.now) 0)) }
-    ensures broken { IfErr result (IsTreeBreak (group_in (nodes_view nodes.now) 0)) }
+    ensures ok { OnOk result (IsLow (numbered_group (nodes_view nodes.now) 0)) }
+    ensures broken { IfErr result (IsTreeBreak (numbered_group (nodes_view nodes.now) 0)) }
 {
     let heights = capped_heights(alloc, nodes, rows, order)?;
     let height = heights[0];

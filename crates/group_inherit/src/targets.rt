@@ -6,8 +6,8 @@ ghost use Rattle.token_tree.specs.View.{group_view};
 ghost use Rattle.group_inherit.specs.inner.Faults.{IsLostTarget};
 ghost use Rattle.group_inherit.specs.Extension.{children_in};
 ghost use Rattle.group_inherit.specs.inner.Outcomes.{AreChildNumbers};
-ghost use Rattle.group_inherit.specs.inner.View.{node_view, nodes_view};
-ghost use Rattle.group_inherit.specs.inner.Numbering.{ArePlaces, AreKnown, EachKnown};
+ghost use Rattle.group_inherit.specs.inner.View.{group_node_view, nodes_view};
+ghost use Rattle.group_inherit.specs.inner.Numbering.{ArePlaces, AreNumbered, EachNumbered};
 ghost use Rattle.group_inherit.specs.inner.Numbering.{IsRow, EachRow, AreListed, numbers_of};
 ghost use Rattle.group_inherit.specs.inner.Numbering.{lost_of, lost_nodes};
 
@@ -64,8 +64,8 @@ fn child_numbers<'s>(
     node: &Node<'_, 's>,
     places: &PathMap<'s, usize>,
 ) -> Result<Vec<usize>, NoMemory>
-    requires { AreKnown places.now node.now.path (children_in (group_view node.now.group.now)) }
-    ensures { IfOk result (λ row. AreChildNumbers places.now (node_view node.now) row.items) }
+    requires { AreNumbered places.now node.now.path (children_in (group_view node.now.group.now)) }
+    ensures { IfOk result (λ row. AreChildNumbers places.now (group_node_view node.now) row.items) }
 {
     let mut row = Vec::new(alloc);
     for member in node.group.members.as_slice() {
@@ -83,10 +83,10 @@ fn row_of<'s>(
     node: &Node<'_, 's>,
     places: &PathMap<'s, usize>,
 ) -> Result<Row, TreeFault<'s>>
-    requires { AreKnown places.now node.now.path (children_in (group_view node.now.group.now)) }
-    ensures ok { IfOk result (IsRow places.now (node_view node.now)) }
-    ensures sound { OnOk result (lost_of places.now (node_view node.now) ≡ []) }
-    ensures lost { IfErr result (IsLostTarget (lost_of places.now (node_view node.now))) }
+    requires { AreNumbered places.now node.now.path (children_in (group_view node.now.group.now)) }
+    ensures ok { IfOk result (IsRow places.now (group_node_view node.now)) }
+    ensures sound { OnOk result (lost_of places.now (group_node_view node.now) ≡ []) }
+    ensures lost { IfErr result (IsLostTarget (lost_of places.now (group_node_view node.now))) }
 {
     let children = child_numbers(alloc, node, places)?;
     let Some(extends) = &node.group.extends else {
@@ -110,7 +110,7 @@ pub(crate) fn rows<'s>(
     nodes: &[Node<'_, 's>],
     places: &PathMap<'s, usize>,
 ) -> Result<Vec<Row>, TreeFault<'s>>
-    requires { EachKnown places.now (nodes_view nodes.now) }
+    requires { EachNumbered places.now (nodes_view nodes.now) }
     ensures ok { IfOk result (λ rows. EachRow places.now (nodes_view nodes.now) rows.items) }
     ensures sound { OnOk result (lost_nodes places.now (nodes_view nodes.now) ≡ []) }
     ensures lost { IfErr result (IsLostTarget (lost_nodes places.now (nodes_view nodes.now))) }

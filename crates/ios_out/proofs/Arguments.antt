@@ -8,12 +8,12 @@ use Rattle.transforms.specs.Runs.{PassesNumbers}
 use Rattle.transforms.proofs.RunsAreFirst.{all-append}
 use Rattle.transforms.proofs.Spelled.{both as together}
 use Rattle.ios_out.specs.Constant.{Argument, labelled, bare}
-use Rattle.ios_out.specs.Reading.{is_word, no_comma, no_bracket, IsArgument, with_label, without, AreArguments, last, more}
+use Rattle.ios_out.specs.Reading.{is_swift_word, no_comma, no_bracket, IsArgument, with_label, without, AreArguments, last, more}
 use Rattle.ios_out.specs.Spelling.{quantity_text, argument_text, arguments_text}
 use Rattle.ios_out.proofs.Numbers.{IsFineQuantity, quantity_read, quantity_passes}
 
 abbrev pub IsFineArgument : Argument → Type 0
-IsFineArgument (labelled label q) = (is_word label ≡ true) × IsFineQuantity q
+IsFineArgument (labelled label q) = (is_swift_word label ≡ true) × IsFineQuantity q
 IsFineArgument (bare q) = IsFineQuantity q
 
 -- a test that the bytes of arguments pass
@@ -27,7 +27,7 @@ pub record PassesMore (p : ℕ → Bool) : Type 0 where
 letter_or_digit : (c : ℕ) → is_ascii_alphabetic c ≡ true → is_ascii_alphanumeric c ≡ true
 letter_or_digit c h = grind (arith, nat_tests)
 
-pub word_letters : (w : List ℕ) → is_word w ≡ true → list_all is_ascii_alphanumeric w ≡ true
+pub word_letters : (w : List ℕ) → is_swift_word w ≡ true → list_all is_ascii_alphanumeric w ≡ true
 word_letters [] h = cc
 word_letters (c ∷ w) h =
     let l = both (is_ascii_alphabetic c) (list_all is_ascii_alphanumeric w) h in together (is_ascii_alphanumeric c) (list_all is_ascii_alphanumeric w) (letter_or_digit c l.0) l.1

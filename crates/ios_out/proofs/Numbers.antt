@@ -11,7 +11,7 @@ use Rattle.transforms.specs.Runs.{starts_number, PassesNumbers}
 use Rattle.transforms.proofs.RunsAreFirst.{all-append, numbers_pass, numbers_start}
 use Rattle.transforms.proofs.Spelled.{both as together}
 use Rattle.ios_out.specs.Constant.{Quantity, amount, over_255}
-use Rattle.ios_out.specs.Reading.{alone, number_in, byte_in, quantity_of, quantity_in}
+use Rattle.ios_out.specs.Reading.{alone, number_alone, byte_in, quantity_of, quantity_in}
 use Rattle.ios_out.specs.Spelling.{quantity_text}
 
 -- the bytes of numbers
@@ -29,9 +29,9 @@ point_starts d t h = rw (append_assoc (spelling d) (if d.s == 0 then 46 ∷ 48 �
     (numbers_start d ((if d.s == 0 then 46 ∷ 48 ∷ [] else []) ++ t) h)
 
 -- numbers to the end
-pub number_read : (d : Decimal) → IsDec d → number_in (point_spelling d) ≡ Some d
+pub number_read : (d : Decimal) → IsDec d → number_alone (point_spelling d) ≡ Some d
 number_read d h =
-    let P : List ℕ → Type 0 = λ t. number_in t ≡ Some d in
+    let P : List ℕ → Type 0 = λ t. number_alone t ≡ Some d in
     subst P (append-nil (point_spelling d)) (rw (point_starts d [] h) (ap (λ r. alone r.0 r.1) (point_again d [] h refl)))
 
 amount_read : (d : Decimal) → IsDec d → quantity_in (point_spelling d) ≡ Some (amount d)

@@ -14,7 +14,7 @@ use Rattle.transforms.specs.Runs.{first_run, behind_run}
 use Rattle.transforms.proofs.Endings.{kept_name}
 use Rattle.transforms.proofs.RunsAreFirst.{first_run-append, behind_run-append, runs_once}
 use Rattle.ios_out.specs.Constant.{Quantity, Argument, labelled, bare, Content, number, string, made, Values}
-use Rattle.ios_out.specs.Reading.{number_in, quantity_in, is_word, no_comma, no_bracket, no_newline, IsArgument, with_label, without, AreArguments, last, more, SaysContent, of_number, of_string, of_arguments, is_blank, Block, ended, blank_byte, comment, constant, head, foot, Reads}
+use Rattle.ios_out.specs.Reading.{number_alone, quantity_in, is_swift_word, no_comma, no_bracket, no_newline, IsArgument, with_label, without, AreArguments, last, more, SaysContent, of_number, of_string, of_arguments, is_blank, Block, ended, blank_byte, comment, constant, head, foot, Reads}
 use Rattle.ios_out.proofs.Arguments.{word_letters}
 
 -- arguments
@@ -24,7 +24,7 @@ no_quantity c t h =
     let b : (c == 45) ≡ false = grind (arith, nat_tests) in
     rw (a, b) refl
 
-no_label : (label u : List ℕ) (q : Quantity) → is_word label ≡ true → quantity_in (label ++ (codes ": " ++ u)) ≡ Some q → ⊥
+no_label : (label u : List ℕ) (q : Quantity) → is_swift_word label ≡ true → quantity_in (label ++ (codes ": " ++ u)) ≡ Some q → ⊥
 no_label [] u q w h = cc
 no_label (c ∷ l) u q w h =
     let no : quantity_in (c ∷ (l ++ (codes ": " ++ u))) ≡ None = no_quantity c (l ++ (codes ": " ++ u)) ((both (is_ascii_alphabetic c) (list_all is_ascii_alphanumeric l) w).0) in
@@ -57,13 +57,13 @@ arguments_once (more t first r a args e h x xs) (more s other q b bs f k y ys) s
     ap (λ z. z ∷ args) (argument_once x y firsts) ∙ ap (λ z. b ∷ z) (arguments_once xs ys rests)
 
 -- what stands after a name
-no_quote : (ds : List ℕ) (d : Decimal) (r v : List ℕ) → number_in ds ≡ Some d → ds ++ (10 ∷ r) ≡ 34 ∷ v → ⊥
+no_quote : (ds : List ℕ) (d : Decimal) (r v : List ℕ) → number_alone ds ≡ Some d → ds ++ (10 ∷ r) ≡ 34 ∷ v → ⊥
 no_quote [] d r v h e = cc
 no_quote (c ∷ ds) d r v h e =
     let first : c ≡ 34 = cc in
-    let no : None ≡ Some d = subst (λ z. number_in (z ∷ ds) ≡ Some d) first h in cc
+    let no : None ≡ Some d = subst (λ z. number_alone (z ∷ ds) ≡ Some d) first h in cc
 
-typed_once : (n m x y : List ℕ) → is_word n ≡ true → is_word m ≡ true → codes ": " ++ (n ++ (codes " = " ++ x)) ≡ codes ": " ++ (m ++ (codes " = " ++ y)) → (n ≡ m) × (x ≡ y)
+typed_once : (n m x y : List ℕ) → is_swift_word n ≡ true → is_swift_word m ≡ true → codes ": " ++ (n ++ (codes " = " ++ x)) ≡ codes ": " ++ (m ++ (codes " = " ++ y)) → (n ≡ m) × (x ≡ y)
 typed_once n m x y h k e =
     let inner : n ++ (32 ∷ 61 ∷ 32 ∷ x) ≡ m ++ (32 ∷ 61 ∷ 32 ∷ y) = cc in
     let (names, behind) = runs_once is_ascii_alphanumeric n m 32 (61 ∷ 32 ∷ x) (61 ∷ 32 ∷ y) (word_letters n h) (word_letters m k) refl inner in
@@ -91,7 +91,7 @@ says_once : {t s : List ℕ} {c d : Content} {r q : List ℕ} → SaysContent t 
 says_once (of_number t n ds r d e w l h) (of_number s m es q f g x k i) same =
     let (types, behind) = typed_once n m (ds ++ (10 ∷ r)) (es ++ (10 ∷ q)) w x (sym e ∙ same ∙ g) in
     let (digits, rests) = runs_once no_newline ds es 10 r q l k refl behind in
-    let some : Some d ≡ Some f = sym h ∙ ap number_in digits ∙ i in
+    let some : Some d ≡ Some f = sym h ∙ ap number_alone digits ∙ i in
     let numbers : d ≡ f = cc in
     record { contents = ap (λ z. number z d) types ∙ ap (number m) numbers; rests = rests }
 says_once (of_number t n ds r d e w l h) (of_string s m v text q g x i) same =

@@ -14,16 +14,16 @@ use Rattle.transforms.proofs.Endings.{kept_name}
 use Rattle.transforms.proofs.QuotedReadsBack.{string_again}
 use Rattle.transforms.proofs.Spelled.{both as together}
 use Rattle.ios_out.specs.Constant.{Argument, Content, number, string, made, Values}
-use Rattle.ios_out.specs.Reading.{is_word, no_newline, SaysContent, of_number, of_string, of_arguments, Block, ended, blank_byte, comment, constant}
+use Rattle.ios_out.specs.Reading.{is_swift_word, no_newline, SaysContent, of_number, of_string, of_arguments, Block, ended, blank_byte, comment, constant}
 use Rattle.ios_out.specs.Spelling.{arguments_text, content_text, line_text, omitted_text, body_text}
 use Rattle.ios_out.proofs.Numbers.{number_passes, number_read}
 use Rattle.ios_out.proofs.Arguments.{IsFineArgument, in_brackets, arguments_read}
 
 -- contents that can be spelled
 pub data IsFine : Content → Type 0 where
-  fine_number : (type_name : List ℕ) (d : Decimal) → is_word type_name ≡ true → IsDec d → IsFine (number type_name d)
-  fine_string : (type_name text : List ℕ) → is_word type_name ≡ true → IsFine (string type_name text)
-  fine_made : (maker : List ℕ) (a : Argument) (args : List Argument) → is_word maker ≡ true → AllByRecursion IsFineArgument (a ∷ args) → IsFine (made maker (a ∷ args))
+  fine_number : (type_name : List ℕ) (d : Decimal) → is_swift_word type_name ≡ true → IsDec d → IsFine (number type_name d)
+  fine_string : (type_name text : List ℕ) → is_swift_word type_name ≡ true → IsFine (string type_name text)
+  fine_made : (maker : List ℕ) (a : Argument) (args : List Argument) → is_swift_word maker ≡ true → AllByRecursion IsFineArgument (a ∷ args) → IsFine (made maker (a ∷ args))
 
 -- a name and a content that are read as they are spelled
 pub record IsSpellable (v : List ℕ × Content) : Type 0 where
@@ -34,19 +34,19 @@ newline_passes : PassesNumbers no_newline
 newline_passes = record { digit = λ c h. grind (arith, nat_tests); minus = refl; point = refl }
 
 -- contents before a line's end and what follows
-number_says : (n : List ℕ) (d : Decimal) (t : List ℕ) → is_word n ≡ true → IsDec d → SaysContent (content_text (number n d) ++ (10 ∷ t)) (number n d) t
+number_says : (n : List ℕ) (d : Decimal) (t : List ℕ) → is_swift_word n ≡ true → IsDec d → SaysContent (content_text (number n d) ++ (10 ∷ t)) (number n d) t
 number_says n d t w h =
     of_number (content_text (number n d) ++ (10 ∷ t)) n (point_spelling d) t d (ap (λ x. codes ": " ++ x) (append_assoc n (codes " = " ++ point_spelling d) (10 ∷ t)))
     w (number_passes no_newline newline_passes d h) (number_read d h)
 
-string_says : (n s t : List ℕ) → is_word n ≡ true → SaysContent (content_text (string n s) ++ (10 ∷ t)) (string n s) t
+string_says : (n s t : List ℕ) → is_swift_word n ≡ true → SaysContent (content_text (string n s) ++ (10 ∷ t)) (string n s) t
 string_says n s t w =
     let inside = flat_map escaped_character s in
     of_string (content_text (string n s) ++ (10 ∷ t)) n (inside ++ (34 ∷ 10 ∷ t)) s t
     (ap (λ x. codes ": " ++ x) (append_assoc n (codes " = \"" ++ (inside ++ codes "\"")) (10 ∷ t) ∙ ap (λ x. n ++ (codes " = \"" ++ x)) (append_assoc inside (34 ∷ []) (10 ∷ t))))
     w (string_again s (10 ∷ t))
 
-made_says : (m : List ℕ) (a : Argument) (args : List Argument) (t : List ℕ) → is_word m ≡ true → AllByRecursion IsFineArgument (a ∷ args)
+made_says : (m : List ℕ) (a : Argument) (args : List Argument) (t : List ℕ) → is_swift_word m ≡ true → AllByRecursion IsFineArgument (a ∷ args)
     → SaysContent (content_text (made m (a ∷ args)) ++ (10 ∷ t)) (made m (a ∷ args)) t
 made_says m a args t w h =
     let inside = arguments_text (a ∷ args) in

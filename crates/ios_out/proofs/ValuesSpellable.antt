@@ -34,7 +34,7 @@ use Rattle.composite_rules.specs.declared.typed.Typed.TheVariants as typed
 use Rattle.composite_rules.specs.declared.typography.Typography.{Typography}
 use Rattle.ios_out.specs.Constant.{Quantity, amount, over_255, labelled, bare, Content, string}
 use Rattle.ios_out.specs.PlatformValue.{length_type, time_type, number_type, text_type, color_maker, curve_maker, red_label, color_of, component_color, digits_color, color_content, is_rem, size_content, seconds_in, curve_content, family_content, simple_content, one_value, unless_omitted, swift_values}
-use Rattle.ios_out.specs.Reading.{is_word}
+use Rattle.ios_out.specs.Reading.{is_swift_word}
 use Rattle.ios_out.proofs.Numbers.{IsFineQuantity}
 use Rattle.ios_out.proofs.SpelledIsRead.{IsFine, fine_number, fine_string, fine_made, IsSpellable}
 
@@ -70,13 +70,13 @@ fine_if : (b : Bool) (o : Option Content) → AreFine o → AreFine (if b then o
 fine_if true o h = h
 fine_if false o h = tt
 
-fine_color : (label : List ℕ) (red green blue : Quantity) (alpha : Decimal) → is_word label ≡ true → IsFineQuantity red → IsFineQuantity green → IsFineQuantity blue → IsDec alpha
+fine_color : (label : List ℕ) (red green blue : Quantity) (alpha : Decimal) → is_swift_word label ≡ true → IsFineQuantity red → IsFineQuantity green → IsFineQuantity blue → IsDec alpha
     → IsFine (color_of label red green blue alpha)
 fine_color label red green blue alpha w r g b h =
     fine_made color_maker (labelled label red) (labelled (codes "green") green ∷ labelled (codes "blue") blue ∷ labelled (codes "alpha") (amount alpha) ∷ []) refl
     ((w, r), ((refl, g), ((refl, b), ((refl, h), tt))))
 
-fine_components : (label : List ℕ) (alpha : Decimal) (r g b : Range) (x y z : Option Decimal) → is_word label ≡ true → IsExact alpha → IfSome x (IsInRange r) → IfSome y (IsInRange g) → IfSome z (IsInRange b)
+fine_components : (label : List ℕ) (alpha : Decimal) (r g b : Range) (x y z : Option Decimal) → is_swift_word label ≡ true → IsExact alpha → IfSome x (IsInRange r) → IfSome y (IsInRange g) → IfSome z (IsInRange b)
     → AreFine (option_and_then (λ red. option_and_then (λ green. option_map (λ blue. color_of label (amount red) (amount green) (amount blue) alpha) z) y) x)
 fine_components label alpha r g b None y z w h i j k = tt
 fine_components label alpha r g b (Some red) None z w h i j k = tt
@@ -84,7 +84,7 @@ fine_components label alpha r g b (Some red) (Some green) None w h i j k = tt
 fine_components label alpha r g b (Some red) (Some green) (Some blue) w h i j k =
     fine_color label (amount red) (amount green) (amount blue) alpha w (exact_dec red i.exact) (exact_dec green j.exact) (exact_dec blue k.exact) (exact_dec alpha h)
 
-labels_are_words : (s : Space) → IfSome (red_label s) (λ label. is_word label ≡ true)
+labels_are_words : (s : Space) → IfSome (red_label s) (λ label. is_swift_word label ≡ true)
 labels_are_words Srgb = refl
 labels_are_words SrgbLinear = tt
 labels_are_words DisplayP3 = refl
@@ -100,7 +100,7 @@ labels_are_words Lch = tt
 labels_are_words Oklab = tt
 labels_are_words Oklch = tt
 
-fine_labelled : (label : Option (List ℕ)) (c : Color) → IsColor c → IfSome label (λ l. is_word l ≡ true) → AreFine (option_and_then (λ l. component_color l c) label)
+fine_labelled : (label : Option (List ℕ)) (c : Color) → IsColor c → IfSome label (λ l. is_swift_word l ≡ true) → AreFine (option_and_then (λ l. component_color l c) label)
 fine_labelled None c h w = tt
 fine_labelled (Some l) c h w =
     let ranges = ranges_of c.space in

@@ -17,8 +17,8 @@ abbrev pub alone : Decimal → List ℕ → Option Decimal
 alone d [] = Some d
 alone d (c ∷ t) = None
 
-abbrev pub number_in : List ℕ → Option Decimal
-number_in t = if starts_number t then alone (number_at t).0 (number_at t).1 else None
+abbrev pub number_alone : List ℕ → Option Decimal
+number_alone t = if starts_number t then alone (number_at t).0 (number_at t).1 else None
 
 -- a byte over 255 is a whole number from 0 to 255 and `/255.0`
 abbrev pub byte_in : Decimal → Option Quantity
@@ -33,9 +33,9 @@ abbrev pub quantity_in : List ℕ → Option Quantity
 quantity_in t = if starts_number t then quantity_of (number_at t).0 (number_at t).1 else None
 
 -- a letter, and letters and digits
-abbrev pub is_word : List ℕ → Bool
-is_word [] = false
-is_word (c ∷ w) = is_ascii_alphabetic c && list_all is_ascii_alphanumeric w
+abbrev pub is_swift_word : List ℕ → Bool
+is_swift_word [] = false
+is_swift_word (c ∷ w) = is_ascii_alphabetic c && list_all is_ascii_alphanumeric w
 
 abbrev pub no_comma : ℕ → Bool
 no_comma c = not (c == comma_sign)
@@ -48,7 +48,7 @@ no_newline c = not (c == newline)
 
 -- the text is this argument
 pub data IsArgument : List ℕ → Argument → Type 0 where
-  with_label : (t label u : List ℕ) (q : Quantity) → t ≡ label ++ (codes ": " ++ u) → is_word label ≡ true
+  with_label : (t label u : List ℕ) (q : Quantity) → t ≡ label ++ (codes ": " ++ u) → is_swift_word label ≡ true
       → quantity_in u ≡ Some q → IsArgument t (labelled label q)
   without : (t : List ℕ) (q : Quantity) → quantity_in t ≡ Some q → IsArgument t (bare q)
 
@@ -63,14 +63,14 @@ pub data AreArguments : List ℕ → List Argument → Type 0 where
 pub data SaysContent : List ℕ → Content → List ℕ → Type 0 where
   of_number : (t type_name digits rest : List ℕ) (d : Decimal)
       → t ≡ codes ": " ++ (type_name ++ (codes " = " ++ (digits ++ (codes "\n" ++ rest))))
-      → is_word type_name ≡ true → list_all no_newline digits ≡ true → number_in digits ≡ Some d
+      → is_swift_word type_name ≡ true → list_all no_newline digits ≡ true → number_alone digits ≡ Some d
       → SaysContent t (number type_name d) rest
   of_string : (t type_name u text rest : List ℕ) → t ≡ codes ": " ++ (type_name ++ (codes " = \"" ++ u))
-      → is_word type_name ≡ true → string_from false u ≡ Some (text, codes "\n" ++ rest)
+      → is_swift_word type_name ≡ true → string_from false u ≡ Some (text, codes "\n" ++ rest)
       → SaysContent t (string type_name text) rest
   of_arguments : (t maker inside rest : List ℕ) (args : List Argument)
       → t ≡ codes " = " ++ (maker ++ (codes "(" ++ (inside ++ (codes ")\n" ++ rest))))
-      → is_word maker ≡ true → list_all no_bracket inside ≡ true → AreArguments inside args
+      → is_swift_word maker ≡ true → list_all no_bracket inside ≡ true → AreArguments inside args
       → SaysContent t (made maker args) rest
 
 abbrev pub is_blank : ℕ → Bool

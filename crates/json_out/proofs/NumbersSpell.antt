@@ -12,7 +12,7 @@ use Rattle.dec_fix.specs.Reading.{size_of, places_of, text_decimal}
 use Rattle.dec_fix.specs.Spelling.{Sign, unsigned, plus, minus, Exponent, none, power, NumberParts, minus_text, fraction_text, sign_text, exponent_text, text_of, IsDigits, IsInt, IsExponent, IsNumber, number_of_parts, Spells}
 use Rattle.dec_fix.proofs.Grammar.{split, split_text, number_by_split}
 use Rattle.dec_fix.proofs.SameNumber.{decimal_of-same}
-use Rattle.json_out.specs.Reading.{or_zero, number_in}
+use Rattle.json_out.specs.Reading.{or_zero, number_of_text}
 
 -- bytes
 is_byte : (c d : ℕ) → within d d c ≡ true → c ≡ d
@@ -164,7 +164,7 @@ parts_of (by_name (both x (both y (both z w)))) =
       whole = sign.whole ∙ ap (λ t. minus_text sign.negative ++ t) (int.whole ∙ ap (λ t. int.ds ++ t) (fraction.whole ∙ ap (λ t. fraction_text fraction.ds ++ t) last));
     }
 
-pub numbers_read : (text : List ℕ) → Derives rules (named number) text → Spells text (number_in text)
+pub numbers_read : (text : List ℕ) → Derives rules (named number) text → Spells text (number_of_text text)
 numbers_read text read =
     let has = parts_of read in
     let s = split has.parts in

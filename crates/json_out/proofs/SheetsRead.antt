@@ -12,8 +12,8 @@ use Rattle.name_path.specs.Reference.{path_text}
 use Rattle.name_path.proofs.Spellings.{token_plain}
 use Rattle.name_path.proofs.Joins.{pieces_of}
 use Rattle.transforms.specs.Sheet.{sheet_text}
-use Rattle.json_out.specs.PlatformValue.{Member, object}
-use Rattle.json_out.specs.Reading.{number_in, IsMember, Reads}
+use Rattle.json_out.specs.PlatformValue.{Member, object_json}
+use Rattle.json_out.specs.Reading.{number_of_text, IsMember, Reads}
 use Rattle.json_out.specs.Sheets.{json_frame, Cell, IsJsonCell, cell_text, cell_member, sheet_bytes, sheet_members, Denotes}
 use Rattle.json_out.proofs.TokensRead.{fragment_read}
 
@@ -24,26 +24,26 @@ line_end = more (right (left (one_byte refl))) no_more
 abbrev inside : List (List ℕ) → List ℕ
 inside ts = 10 ∷ (separated (44 ∷ 10 ∷ []) ts ++ (10 ∷ []))
 
-inside_listed : (ts : List (List ℕ)) (ms : List Member) → Pointwise (MemberText number_in) ts ms → Listed (MemberText number_in) (inside ts) ms
-inside_listed ts ms e = objects_spaced number_in (10 ∷ []) (10 ∷ []) (10 ∷ []) ts ms line_end line_end line_end e
+inside_listed : (ts : List (List ℕ)) (ms : List Member) → Pointwise (MemberText number_of_text) ts ms → Listed (MemberText number_of_text) (inside ts) ms
+inside_listed ts ms e = objects_spaced number_of_text (10 ∷ []) (10 ∷ []) (10 ∷ []) ts ms line_end line_end line_end e
 
-object_read : (text inner : List ℕ) (ms : List Member) → text ≡ 123 ∷ (inner ++ (125 ∷ 10 ∷ [])) → Listed (MemberText number_in) inner ms → Reads text ms
+object_read : (text inner : List ℕ) (ms : List Member) → text ≡ 123 ∷ (inner ++ (125 ∷ 10 ∷ [])) → Listed (MemberText number_of_text) inner ms → Reads text ms
 object_read text inner ms e l = record {
   before = text;
   after = 10 ∷ [];
   lead = no_more;
-  says = subst (λ z. Says number_in z (object ms) (10 ∷ [])) (sym e) (object_before number_in inner ms l (10 ∷ []));
+  says = subst (λ z. Says number_of_text z (object_json ms) (10 ∷ [])) (sym e) (object_before number_of_text inner ms l (10 ∷ []));
   trail = line_end;
 }
 
-pub texts_read : (ts : List (List ℕ)) (ms : List Member) → Pointwise (MemberText number_in) ts ms → Reads (sheet_text json_frame ts) ms
+pub texts_read : (ts : List (List ℕ)) (ms : List Member) → Pointwise (MemberText number_of_text) ts ms → Reads (sheet_text json_frame ts) ms
 texts_read ts ms no_texts = object_read (sheet_text json_frame []) (10 ∷ []) [] refl (only_blanks line_end)
 texts_read ts ms (one_more {t = t} {v = m} {ts = others} {vs = ns} p r) =
     object_read (sheet_text json_frame (t ∷ others)) (inside (t ∷ others)) (m ∷ ns)
     (ap (λ z. 123 ∷ 10 ∷ z) (sym (append_assoc (separated (44 ∷ 10 ∷ []) (t ∷ others)) (10 ∷ []) (125 ∷ 10 ∷ []))))
     (inside_listed (t ∷ others) (m ∷ ns) (one_more p r))
 
-each_text : (texts : List (List ℕ × Member)) → AllByRecursion (λ t. IsMember t.0 t.1) texts → Pointwise (MemberText number_in) (map (λ t. t.0) texts) (map (λ t. t.1) texts)
+each_text : (texts : List (List ℕ × Member)) → AllByRecursion (λ t. IsMember t.0 t.1) texts → Pointwise (MemberText number_of_text) (map (λ t. t.0) texts) (map (λ t. t.1) texts)
 each_text [] h = no_texts
 each_text (t ∷ texts) h = one_more h.0 (each_text texts h.1)
 
@@ -56,11 +56,11 @@ entries_back (m ∷ ms) = ap (λ z. m ∷ z) (entries_back ms)
 
 pub read_once : (bytes : List ℕ) (ms ns : List Member) → Reads bytes ms → Reads bytes ns → ms ≡ ns
 read_once bytes ms ns r s =
-    let e : object ms ≡ object ns = says_one number_in bytes (object ms) (object ns) r s in
+    let e : object_json ms ≡ object_json ns = says_one number_of_text bytes (object_json ms) (object_json ns) r s in
     let f : plain_members_of ms ≡ plain_members_of ns = cc in
     sym (entries_back ms) ∙ ap plain_entries_in f ∙ entries_back ns
 
-each_cell : (cells : List Cell) → AllByRecursion IsJsonCell cells → Pointwise (MemberText number_in) (map cell_text cells) (map cell_member cells)
+each_cell : (cells : List Cell) → AllByRecursion IsJsonCell cells → Pointwise (MemberText number_of_text) (map cell_text cells) (map cell_member cells)
 each_cell [] h = no_texts
 each_cell (c ∷ cells) h = one_more (fragment_read c.path c.typed c.extras h.0.typed h.0.bytes c.extensions h.0.extensions) (each_cell cells h.1)
 

@@ -49,10 +49,10 @@ use Rattle.composite_rules.specs.declared.transition.Transition.{Transition}
 use Rattle.composite_rules.specs.declared.typed.Typed.{Typed}
 use Rattle.composite_rules.specs.declared.typed.Typed.TheVariants as typed
 use Rattle.composite_rules.specs.declared.typography.Typography.{Typography}
-use Rattle.json_out.specs.PlatformValue.{Json, Member, object, component_json, hex_members, size_json, time_json, curve_json, color_json, families_json, stroke_json, border_json, transition_json, shadow_json, stop_json, typography_json, simple_json, typed_json}
+use Rattle.json_out.specs.PlatformValue.{Json, Member, object_json, component_json, hex_members, size_json, time_json, curve_json, color_json, families_json, stroke_json, border_json, transition_json, shadow_json, stop_json, typography_json, simple_json, typed_json}
 use Rattle.json_out.specs.Properties.{ExtrasData, HaveValue, mark_json, given, token_members, token_member}
-use Rattle.json_out.specs.Reading.{number_in, IsMember}
-use Rattle.json_out.specs.Sheets.{AreBytes, families_in, simple_families, reason_of, text_or_none}
+use Rattle.json_out.specs.Reading.{number_of_text, IsMember}
+use Rattle.json_out.specs.Sheets.{AreBytes, typed_families, simple_families, reason_of, text_or_none}
 use Rattle.json_out.specs.Spelling.{value_text, given_text, extras_text, token_text, fragment_text}
 use Rattle.json_out.proofs.ValuesRead.{CanRead, ItemsCanRead, MembersCanRead, one_blank, member_says, value_says, text_says}
 
@@ -228,7 +228,7 @@ typography_can t h b = (
   ),
 )
 
-pub typed_can : (v : Typed) → IsTyped v → list_all are_bytes (families_in v) ≡ true → CanRead (typed_json v)
+pub typed_can : (v : Typed) → IsTyped v → list_all are_bytes (typed_families v) ≡ true → CanRead (typed_json v)
 typed_can (typed.Simple s) h b = simple_can s h b
 typed_can (typed.StrokeStyle s) h b = stroke_can s h
 typed_can (typed.Border x) h b = border_can x h
@@ -239,14 +239,14 @@ typed_can (typed.Typography t) h b = typography_can t h b
 
 -- what stands beside the value
 given_says : (name : List ℕ) (text : Option (List ℕ)) (v : Option Json) (rest : List ℕ) (ms : List Member) → are_bytes name ≡ true → HaveValue text v
-    → SaysMoreMembers number_in rest (plain_members_of ms) [] → SaysMoreMembers number_in (given_text name text ++ rest) (plain_members_of (given name v ++ ms)) []
+    → SaysMoreMembers number_of_text rest (plain_members_of ms) [] → SaysMoreMembers number_of_text (given_text name text ++ rest) (plain_members_of (given name v ++ ms)) []
 given_says name None None rest ms b h m = m
 given_says name None (Some v) rest ms b h m = absurd h
 given_says name (Some text) None rest ms b h m = absurd h
 given_says name (Some text) (Some v) rest ms b h m =
-    subst (λ z. SaysMoreMembers number_in (44 ∷ 32 ∷ z) (plain_members_of (given name (Some v) ++ ms)) []) (sym (append_assoc (string_text name) (58 ∷ 32 ∷ text) rest))
+    subst (λ z. SaysMoreMembers number_of_text (44 ∷ 32 ∷ z) (plain_members_of (given name (Some v) ++ ms)) []) (sym (append_assoc (string_text name) (58 ∷ 32 ∷ text) rest))
     (says_more_members (both (one_byte refl) (one_blank no_more))
-    (says_member (string_at name (58 ∷ 32 ∷ (text ++ rest)) b) no_more (both (one_byte refl) (one_blank (frame h.lead rest))) (says_frame number_in h.says rest))
+    (says_member (string_at name (58 ∷ 32 ∷ (text ++ rest)) b) no_more (both (one_byte refl) (one_blank (frame h.lead rest))) (says_frame number_of_text h.says rest))
     (frame h.trail rest) m)
 
 described : (s : Option (List ℕ)) → are_bytes (text_or_none s) ≡ true → HaveValue (option_map string_text s) (option_map plain_string s)
@@ -259,21 +259,21 @@ marked Yes h = text_says (plain_boolean true) tt
 marked (Because s) h = text_says (plain_string s) h
 
 extras_say : (e : ExtrasData) (w : Option Json) → are_bytes (text_or_none e.description) ≡ true → are_bytes (reason_of e.mark) ≡ true → HaveValue e.extensions w
-    → SaysMoreMembers number_in (extras_text e ++ codes "}") (plain_members_of (given (codes "$description") (option_map plain_string e.description) ++ (given (codes "$extensions") w ++ given (codes "$deprecated") (mark_json e.mark)))) []
+    → SaysMoreMembers number_of_text (extras_text e ++ codes "}") (plain_members_of (given (codes "$description") (option_map plain_string e.description) ++ (given (codes "$extensions") w ++ given (codes "$deprecated") (mark_json e.mark)))) []
 extras_say e w d m x =
     let D = given_text (codes "$description") (option_map string_text e.description) in
     let E = given_text (codes "$extensions") e.extensions in
     let M = given_text (codes "$deprecated") (option_map value_text (mark_json e.mark)) in
     let ms = given (codes "$deprecated") (mark_json e.mark) in
     let last = given_says (codes "$deprecated") (option_map value_text (mark_json e.mark)) (mark_json e.mark) (codes "}") [] refl (marked e.mark m) (says_no_more_member (one_byte refl)) in
-    let mine : SaysMoreMembers number_in (M ++ codes "}") (plain_members_of ms) [] = subst (λ z. SaysMoreMembers number_in (M ++ codes "}") (plain_members_of z) []) (append-nil ms) last in
-    subst (λ z. SaysMoreMembers number_in z (plain_members_of (given (codes "$description") (option_map plain_string e.description) ++ (given (codes "$extensions") w ++ ms))) [])
+    let mine : SaysMoreMembers number_of_text (M ++ codes "}") (plain_members_of ms) [] = subst (λ z. SaysMoreMembers number_of_text (M ++ codes "}") (plain_members_of z) []) (append-nil ms) last in
+    subst (λ z. SaysMoreMembers number_of_text z (plain_members_of (given (codes "$description") (option_map plain_string e.description) ++ (given (codes "$extensions") w ++ ms))) [])
     (sym (append_assoc D (E ++ M) (codes "}") ∙ ap (λ z. D ++ z) (append_assoc E M (codes "}"))))
     (given_says (codes "$description") (option_map string_text e.description) (option_map plain_string e.description) _ _ refl (described e.description d)
     (given_says (codes "$extensions") e.extensions w _ _ refl x mine))
 
 token_says : (v : Typed) (e : ExtrasData) (w : Option Json) → CanRead (typed_json v) → are_bytes (text_or_none e.description) ≡ true → are_bytes (reason_of e.mark) ≡ true
-    → HaveValue e.extensions w → Says number_in (token_text v e) (object (token_members v e w)) []
+    → HaveValue e.extensions w → Says number_of_text (token_text v e) (object_json (token_members v e w)) []
 token_says v e w h d m x =
     let name = kind_name (kind_of v) in
     let behind = codes ", \"$value\": " ++ (value_text (typed_json v) ++ (extras_text e ++ codes "}")) in

@@ -13,7 +13,7 @@ use Rattle.json_span.specs.Says.{Says, says_null, says_true, says_false, says_nu
 use Rattle.json_span.specs.Spelling.{string_text, are_bytes}
 use Rattle.json_span.proofs.Spelled.{string_at}
 use Rattle.json_out.specs.PlatformValue.{Json}
-use Rattle.json_out.specs.Reading.{number_in, or_zero, IsJson}
+use Rattle.json_out.specs.Reading.{number_of_text, or_zero, IsJson}
 use Rattle.json_out.specs.Spelling.{value_text, more_items_text, more_members_text}
 use Rattle.json_out.proofs.NumbersRead.{spelling_reads}
 
@@ -43,7 +43,7 @@ from_accepted : (o : Option Decimal) (d : Decimal) → option_and_then accepted 
 from_accepted None d e = cc
 from_accepted (Some c) d e = from_test (nat_lt (unsigned_abs c.c) (10 ^ 30) && nat_le c.s 30) c d e
 
-pub number_again : (d : Decimal) → IsExact d → number_in (spelling d) ≡ d
+pub number_again : (d : Decimal) → IsExact d → number_of_text (spelling d) ≡ d
 number_again d h = from_accepted (text_decimal (spelling d)) d (written_read d h)
 
 -- a blank before blanks
@@ -54,36 +54,36 @@ one_blank b = more (left (one_byte refl)) b
 pub regrouped : (a b c t : List ℕ) → (a ++ (58 ∷ 32 ∷ (b ++ c))) ++ t ≡ a ++ (58 ∷ 32 ∷ (b ++ (c ++ t)))
 regrouped a b c t = append_assoc a (58 ∷ 32 ∷ (b ++ c)) t ∙ ap (λ z. a ++ (58 ∷ 32 ∷ z)) (append_assoc b c t)
 
-pub member_says : (s : List ℕ) (v : Json) (u : List ℕ) → are_bytes s ≡ true → Says number_in (value_text v ++ u) v u → SaysMember number_in (string_text s ++ (58 ∷ 32 ∷ (value_text v ++ u))) s v u
+pub member_says : (s : List ℕ) (v : Json) (u : List ℕ) → are_bytes s ≡ true → Says number_of_text (value_text v ++ u) v u → SaysMember number_of_text (string_text s ++ (58 ∷ 32 ∷ (value_text v ++ u))) s v u
 member_says s v u h x = says_member (string_at s (58 ∷ 32 ∷ (value_text v ++ u)) h) no_more (both (one_byte refl) (one_blank no_more)) x
 
 mutual
-  pub value_says : (v : Json) (t : List ℕ) → CanRead v → Says number_in (value_text v ++ t) v t
+  pub value_says : (v : Json) (t : List ℕ) → CanRead v → Says number_of_text (value_text v ++ t) v t
   value_says plain_null t h = says_null (both (one_byte refl) (both (one_byte refl) (both (one_byte refl) (one_byte refl))))
   value_says (plain_boolean true) t h = says_true (both (one_byte refl) (both (one_byte refl) (both (one_byte refl) (one_byte refl))))
   value_says (plain_boolean false) t h = says_false (both (one_byte refl) (both (one_byte refl) (both (one_byte refl) (both (one_byte refl) (one_byte refl)))))
-  value_says (plain_number d) t h = subst (λ k. Says number_in (spelling d ++ t) (plain_number k) t) (number_again d h) (says_number (spelling d) (spelling_reads d t h) refl)
+  value_says (plain_number d) t h = subst (λ k. Says number_of_text (spelling d ++ t) (plain_number k) t) (number_again d h) (says_number (spelling d) (spelling_reads d t h) refl)
   value_says (plain_string s) t h = says_string (string_at s t h)
   value_says (plain_array no_plains) t h = says_list (both (one_byte refl) no_more) (says_no_item (one_byte refl))
   value_says (plain_array (plains v vs)) t h =
-      subst (λ z. Says number_in (91 ∷ z) (plain_array (plains v vs)) t) (sym (append_assoc (value_text v) (more_items_text vs) t))
+      subst (λ z. Says number_of_text (91 ∷ z) (plain_array (plains v vs)) t) (sym (append_assoc (value_text v) (more_items_text vs) t))
       (says_list (both (one_byte refl) no_more) (says_items (value_says v (more_items_text vs ++ t) h.0) no_more (more_items_say vs t h.1)))
   value_says (plain_object no_plain_members) t h = says_object (both (one_byte refl) no_more) (says_no_member (one_byte refl))
   value_says (plain_object (plain_members s v ms)) t (hs, (hv, hms)) =
-      subst (λ z. Says number_in (123 ∷ z) (plain_object (plain_members s v ms)) t) (sym (regrouped (string_text s) (value_text v) (more_members_text ms) t))
+      subst (λ z. Says number_of_text (123 ∷ z) (plain_object (plain_members s v ms)) t) (sym (regrouped (string_text s) (value_text v) (more_members_text ms) t))
       (says_object (both (one_byte refl) no_more)
       (says_members (member_says s v (more_members_text ms ++ t) hs (value_says v (more_members_text ms ++ t) hv)) no_more (more_members_say ms t hms)))
 
-  more_items_say : (vs : Plains Decimal) (t : List ℕ) → ItemsCanRead vs → SaysMoreItems number_in (more_items_text vs ++ t) vs t
+  more_items_say : (vs : Plains Decimal) (t : List ℕ) → ItemsCanRead vs → SaysMoreItems number_of_text (more_items_text vs ++ t) vs t
   more_items_say no_plains t h = says_no_more_item (one_byte refl)
   more_items_say (plains v vs) t h =
-      subst (λ z. SaysMoreItems number_in (44 ∷ 32 ∷ z) (plains v vs) t) (sym (append_assoc (value_text v) (more_items_text vs) t))
+      subst (λ z. SaysMoreItems number_of_text (44 ∷ 32 ∷ z) (plains v vs) t) (sym (append_assoc (value_text v) (more_items_text vs) t))
       (says_more_items (both (one_byte refl) (one_blank no_more)) (value_says v (more_items_text vs ++ t) h.0) no_more (more_items_say vs t h.1))
 
-  more_members_say : (ms : PlainMembers Decimal) (t : List ℕ) → MembersCanRead ms → SaysMoreMembers number_in (more_members_text ms ++ t) ms t
+  more_members_say : (ms : PlainMembers Decimal) (t : List ℕ) → MembersCanRead ms → SaysMoreMembers number_of_text (more_members_text ms ++ t) ms t
   more_members_say no_plain_members t h = says_no_more_member (one_byte refl)
   more_members_say (plain_members s v ms) t (hs, (hv, hms)) =
-      subst (λ z. SaysMoreMembers number_in (44 ∷ 32 ∷ z) (plain_members s v ms) t) (sym (regrouped (string_text s) (value_text v) (more_members_text ms) t))
+      subst (λ z. SaysMoreMembers number_of_text (44 ∷ 32 ∷ z) (plain_members s v ms) t) (sym (regrouped (string_text s) (value_text v) (more_members_text ms) t))
       (says_more_members (both (one_byte refl) (one_blank no_more)) (member_says s v (more_members_text ms ++ t) hs (value_says v (more_members_text ms ++ t) hv)) no_more (more_members_say ms t hms))
 
 pub text_says : (v : Json) → CanRead v → IsJson (value_text v) v
@@ -91,6 +91,6 @@ text_says v h = record {
   before = value_text v;
   after = [];
   lead = no_more;
-  says = subst (λ z. Says number_in z v []) (append-nil (value_text v)) (value_says v [] h);
+  says = subst (λ z. Says number_of_text z v []) (append-nil (value_text v)) (value_says v [] h);
   trail = no_more;
 }

@@ -15,14 +15,14 @@ use Rattle.transforms.specs.Sheet.{sheet_text}
 use Rattle.composite_rules.specs.Sound.{kind_of, IsTyped}
 use Rattle.composite_rules.specs.declared.typed.Typed.{Typed}
 use Rattle.json_out.specs.PlatformValue.{Member, typed_json}
-use Rattle.json_out.specs.Reading.{number_in, IsMember, Reads}
+use Rattle.json_out.specs.Reading.{number_of_text, IsMember, Reads}
 use Rattle.json_out.specs.Properties.{ExtrasData, HaveValue}
 use Rattle.json_out.specs.Spelling.{fragment_text}
 use Rattle.json_out.specs.Sheets.{json_frame, AreBytes, IsReadAsMember, Cell, IsSheet, sheet_bytes, sheet_members, Denotes}
 
 -- the number of a JSON number's text (RFC 8259 section 6) is the one that the text spells
 abbrev pub NumbersAreSpelled : Type 0
-NumbersAreSpelled = (text : List ℕ) → Derives rules (named number) text → Spells text (number_in text)
+NumbersAreSpelled = (text : List ℕ) → Derives rules (named number) text → Spells text (number_of_text text)
 
 -- between its braces a sheet is an object of what its texts are, one after another
 abbrev pub TextsRead : Type 0
@@ -41,7 +41,7 @@ FragmentsRead = (path : List (List ℕ)) (v : Typed) (e : ExtrasData) → IsType
 -- the slice of a part of a source has the value that the part has there
 abbrev pub SlicesStay : Type 0
 SlicesStay = (source : List ℕ) (root n : Placed) → Shows source root → IsPart n root
-    → HaveValue (Some (slice_range source (start_of n) (end_of n))) (Some (plain_of number_in n))
+    → HaveValue (Some (slice_range source (start_of n) (end_of n))) (Some (plain_of number_of_text n))
 
 -- tokens at two paths have members of two names
 abbrev pub PathsApart : Type 0

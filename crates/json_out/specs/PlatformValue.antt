@@ -30,25 +30,25 @@ Json = PlainValue Decimal
 abbrev pub Member : Type 0
 Member = PlainEntry Decimal
 
-abbrev pub member : List ℕ → Json → Member
-member name value = record { name = name; value = value }
+abbrev pub member_json : List ℕ → Json → Member
+member_json name value = record { name = name; value = value }
 
-abbrev pub object : List Member → Json
-object members = plain_object (plain_members_of members)
+abbrev pub object_json : List Member → Json
+object_json members = plain_object (plain_members_of members)
 
-abbrev pub array : List Json → Json
-array items = plain_array (plains_of items)
+abbrev pub array_json : List Json → Json
+array_json items = plain_array (plains_of items)
 
 abbrev pub size_json : Size → Json
 size_json s =
-    object (member (codes "value") (plain_number s.value) ∷ member (codes "unit") (plain_string (size_unit_name s.unit)) ∷ [])
+    object_json (member_json (codes "value") (plain_number s.value) ∷ member_json (codes "unit") (plain_string (size_unit_name s.unit)) ∷ [])
 
 abbrev pub time_json : Time → Json
 time_json t =
-    object (member (codes "value") (plain_number t.value) ∷ member (codes "unit") (plain_string (time_unit_name t.unit)) ∷ [])
+    object_json (member_json (codes "value") (plain_number t.value) ∷ member_json (codes "unit") (plain_string (time_unit_name t.unit)) ∷ [])
 
 abbrev pub curve_json : Curve → Json
-curve_json c = array (plain_number c.x1 ∷ plain_number c.y1 ∷ plain_number c.x2 ∷ plain_number c.y2 ∷ [])
+curve_json c = array_json (plain_number c.x1 ∷ plain_number c.y1 ∷ plain_number c.x2 ∷ plain_number c.y2 ∷ [])
 
 abbrev pub component_json : Option Decimal → Json
 component_json None = plain_string (codes "none")
@@ -57,65 +57,65 @@ component_json (Some d) = plain_number d
 -- six digits after `#`, where they are given
 abbrev pub hex_members : Option (List ℕ) → List Member
 hex_members None = []
-hex_members (Some digits) = member (codes "hex") (plain_string (number_sign ∷ digits)) ∷ []
+hex_members (Some digits) = member_json (codes "hex") (plain_string (number_sign ∷ digits)) ∷ []
 
 abbrev pub color_json : Color → Json
-color_json c = object (
-    member (codes "colorSpace") (plain_string (space_name c.space))
-    ∷ member (codes "components") (array (component_json c.first ∷ component_json c.second ∷ component_json c.third ∷ []))
-    ∷ member (codes "alpha") (plain_number c.alpha)
+color_json c = object_json (
+    member_json (codes "colorSpace") (plain_string (space_name c.space))
+    ∷ member_json (codes "components") (array_json (component_json c.first ∷ component_json c.second ∷ component_json c.third ∷ []))
+    ∷ member_json (codes "alpha") (plain_number c.alpha)
     ∷ hex_members c.hex
     )
 
 abbrev pub families_json : List (List ℕ) → Json
-families_json families = array (map plain_string families)
+families_json families = array_json (map plain_string families)
 
 abbrev pub stroke_json : Stroke → Json
 stroke_json (stroke.Word w) = plain_string (stroke_word_name w)
-stroke_json (stroke.Dashes lengths cap) = object (
-    member (codes "dashArray") (array (map size_json lengths))
-    ∷ member (codes "lineCap") (plain_string (cap_name cap))
+stroke_json (stroke.Dashes lengths cap) = object_json (
+    member_json (codes "dashArray") (array_json (map size_json lengths))
+    ∷ member_json (codes "lineCap") (plain_string (cap_name cap))
     ∷ []
     )
 
 abbrev pub border_json : Border → Json
-border_json b = object (
-    member (codes "color") (color_json b.color)
-    ∷ member (codes "width") (size_json b.width)
-    ∷ member (codes "style") (stroke_json b.style)
+border_json b = object_json (
+    member_json (codes "color") (color_json b.color)
+    ∷ member_json (codes "width") (size_json b.width)
+    ∷ member_json (codes "style") (stroke_json b.style)
     ∷ []
     )
 
 abbrev pub transition_json : Transition → Json
-transition_json t = object (
-    member (codes "duration") (time_json t.duration)
-    ∷ member (codes "delay") (time_json t.delay)
-    ∷ member (codes "timingFunction") (curve_json t.timing)
+transition_json t = object_json (
+    member_json (codes "duration") (time_json t.duration)
+    ∷ member_json (codes "delay") (time_json t.delay)
+    ∷ member_json (codes "timingFunction") (curve_json t.timing)
     ∷ []
     )
 
 abbrev pub shadow_json : ShadowItem → Json
-shadow_json item = object (
-    member (codes "color") (color_json item.color)
-    ∷ member (codes "offsetX") (size_json item.offset_x)
-    ∷ member (codes "offsetY") (size_json item.offset_y)
-    ∷ member (codes "blur") (size_json item.blur)
-    ∷ member (codes "spread") (size_json item.spread)
-    ∷ member (codes "inset") (plain_boolean item.inset)
+shadow_json item = object_json (
+    member_json (codes "color") (color_json item.color)
+    ∷ member_json (codes "offsetX") (size_json item.offset_x)
+    ∷ member_json (codes "offsetY") (size_json item.offset_y)
+    ∷ member_json (codes "blur") (size_json item.blur)
+    ∷ member_json (codes "spread") (size_json item.spread)
+    ∷ member_json (codes "inset") (plain_boolean item.inset)
     ∷ []
     )
 
 abbrev pub stop_json : ColorStop → Json
 stop_json stop =
-    object (member (codes "color") (color_json stop.color) ∷ member (codes "position") (plain_number stop.position) ∷ [])
+    object_json (member_json (codes "color") (color_json stop.color) ∷ member_json (codes "position") (plain_number stop.position) ∷ [])
 
 abbrev pub typography_json : Typography → Json
-typography_json t = object (
-    member (codes "fontFamily") (families_json t.family)
-    ∷ member (codes "fontSize") (size_json t.size)
-    ∷ member (codes "fontWeight") (plain_number t.weight)
-    ∷ member (codes "letterSpacing") (size_json t.spacing)
-    ∷ member (codes "lineHeight") (plain_number t.line_height)
+typography_json t = object_json (
+    member_json (codes "fontFamily") (families_json t.family)
+    ∷ member_json (codes "fontSize") (size_json t.size)
+    ∷ member_json (codes "fontWeight") (plain_number t.weight)
+    ∷ member_json (codes "letterSpacing") (size_json t.spacing)
+    ∷ member_json (codes "lineHeight") (plain_number t.line_height)
     ∷ []
     )
 
@@ -133,6 +133,6 @@ typed_json (typed.Simple s) = simple_json s
 typed_json (typed.StrokeStyle s) = stroke_json s
 typed_json (typed.Border b) = border_json b
 typed_json (typed.Transition t) = transition_json t
-typed_json (typed.Shadow items) = array (map shadow_json items)
-typed_json (typed.Gradient stops) = array (map stop_json stops)
+typed_json (typed.Shadow items) = array_json (map shadow_json items)
+typed_json (typed.Gradient stops) = array_json (map stop_json stops)
 typed_json (typed.Typography t) = typography_json t

@@ -8,7 +8,7 @@ use Rattle.token_tree.specs.declared.mark.Mark.TheVariants.{No, Yes, Because}
 use Rattle.composite_rules.specs.Sound.{kind_of}
 use Rattle.composite_rules.specs.declared.typed.Typed.{Typed}
 use Rattle.json_out.specs.declared.extras.Extras.{Extras}
-use Rattle.json_out.specs.PlatformValue.{Json, Member, member, object, typed_json}
+use Rattle.json_out.specs.PlatformValue.{Json, Member, member_json, object_json, typed_json}
 use Rattle.json_out.specs.Reading.{IsJson}
 
 -- the description, the slice of the source that is the object of the extensions, and the mark that holds for the token
@@ -37,16 +37,16 @@ mark_json (Because reason) = Some (plain_string reason)
 -- a member, where there is a value for it
 abbrev pub given : List ℕ → Option Json → List Member
 given name None = []
-given name (Some v) = member name v ∷ []
+given name (Some v) = member_json name v ∷ []
 
 -- the members of a token whose extensions have this value
 abbrev pub token_members : Typed → ExtrasData → Option Json → List Member
 token_members v e extensions =
-    member (codes "$type") (plain_string (kind_name (kind_of v)))
-    ∷ member (codes "$value") (typed_json v)
+    member_json (codes "$type") (plain_string (kind_name (kind_of v)))
+    ∷ member_json (codes "$value") (typed_json v)
     ∷ (given (codes "$description") (option_map plain_string e.description)
     ++ (given (codes "$extensions") extensions ++ given (codes "$deprecated") (mark_json e.mark)))
 
 -- the member of the token at the path: its name is the path's names, joined by `.`
 abbrev pub token_member : List (List ℕ) → Typed → ExtrasData → Option Json → Member
-token_member path v e extensions = member (path_text path) (object (token_members v e extensions))
+token_member path v e extensions = member_json (path_text path) (object_json (token_members v e extensions))

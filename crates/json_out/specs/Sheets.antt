@@ -29,14 +29,14 @@ simple_families (simple.Duration t) = []
 simple_families (simple.CubicBezier c) = []
 simple_families (simple.Number d) = []
 
-abbrev pub families_in : Typed → List (List ℕ)
-families_in (typed.Simple s) = simple_families s
-families_in (typed.StrokeStyle s) = []
-families_in (typed.Border b) = []
-families_in (typed.Transition t) = []
-families_in (typed.Shadow items) = []
-families_in (typed.Gradient stops) = []
-families_in (typed.Typography t) = t.family
+abbrev pub typed_families : Typed → List (List ℕ)
+typed_families (typed.Simple s) = simple_families s
+typed_families (typed.StrokeStyle s) = []
+typed_families (typed.Border b) = []
+typed_families (typed.Transition t) = []
+typed_families (typed.Shadow items) = []
+typed_families (typed.Gradient stops) = []
+typed_families (typed.Typography t) = t.family
 
 -- the reason of a mark
 abbrev pub reason_of : Mark → List ℕ
@@ -51,7 +51,7 @@ text_or_none (Some text) = text
 -- all texts are of bytes, as texts in memory are
 pub record AreBytes (path : List (List ℕ)) (v : Typed) (e : ExtrasData) : Type 0 where
   pub names : list_all are_bytes path ≡ true
-  pub families : list_all are_bytes (families_in v) ≡ true
+  pub families : list_all are_bytes (typed_families v) ≡ true
   pub description : are_bytes (text_or_none e.description) ≡ true
   pub reason : are_bytes (reason_of e.mark) ≡ true
 

@@ -4,7 +4,7 @@ ghost use Rattle.std.specs.Prelude.{◌≡◌, true, List, ℕ, [], ◌∷◌, �
 ghost use Rattle.std.specs.List.{flat_map};
 ghost use Rattle.json_span.specs.Plain.{plain_boolean, plain_number, plain_string};
 ghost use Rattle.json_span.specs.Spelling.{are_plain, string_text};
-ghost use Rattle.json_out.specs.PlatformValue.{Json, array};
+ghost use Rattle.json_out.specs.PlatformValue.{Json, array_json};
 ghost use Rattle.json_out.specs.Spelling.{value_text};
 
 use dec_fix::Dec;
@@ -85,7 +85,7 @@ fn spell_others<T: Spell>(out: &mut Bytes, items: &[T]) -> Result<(), NoMemory>
 
 /// The array of the items.
 pub(crate) fn spell_list<T: Spell>(out: &mut Bytes, items: &[T]) -> Result<(), NoMemory>
-    ensures { OnOk result (out.new ≡ out.old ++ value_text (array (map T.json items.now))) }
+    ensures { OnOk result (out.new ≡ out.old ++ value_text (array_json (map T.json items.now))) }
 {
     let Some((first, others)) = items.split_first() else {
         return out.append(b"[]");
@@ -103,7 +103,7 @@ pub(crate) fn list_behind<T: Spell>(
     items: &[T],
 ) -> Result<(), NoMemory>
     ensures { OnOk result (out.new
-        ≡ out.old ++ (before.now ++ value_text (array (map T.json items.now)))) }
+        ≡ out.old ++ (before.now ++ value_text (array_json (map T.json items.now)))) }
 {
     out.append(before)?;
     spell_list(out, items)?;

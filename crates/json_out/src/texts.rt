@@ -4,7 +4,7 @@ ghost use Rattle.std.specs.Prelude.{◌≡◌, true, option_map};
 ghost use Rattle.std.specs.List.{list_all};
 ghost use Rattle.json_span.specs.Spelling.{are_bytes};
 ghost use Rattle.json_out.specs.Properties.{extras_view};
-ghost use Rattle.json_out.specs.Sheets.{AreBytes, families_in, simple_families, reason_of};
+ghost use Rattle.json_out.specs.Sheets.{AreBytes, typed_families, simple_families, reason_of};
 ghost use Rattle.json_out.specs.Sheets.{text_or_none};
 
 use crate::extras::Extras;
@@ -41,7 +41,7 @@ fn simple_is_bytes(simple: &Simple<'_>)
 }
 
 fn families_are_bytes(typed: &Typed<'_>)
-    ensures { list_all are_bytes (families_in typed.now) ≡ true }
+    ensures { list_all are_bytes (typed_families typed.now) ≡ true }
 {
     match typed {
         Typed::Simple(simple) => simple_is_bytes(simple),

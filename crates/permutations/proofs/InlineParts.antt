@@ -6,7 +6,7 @@ use Rattle.std.specs.Str.{bytes_eq}
 use Rattle.ring.specs.Lists.{In}
 use Rattle.json_span.specs.Parts.{IsPart, itself, inside, IsInside, inside_array, inside_object, IsInElements, in_element, in_later_element, IsInMembers, in_member, in_later_member}
 use Rattle.json_span.specs.Tree.{Tree, a_null, a_boolean, a_number, a_string, an_array, an_object, Placed, placed, Elements, no_elements, an_element, Members, no_members, a_member, Entry, tree_of, object_in, elements_in, entries_in, value_of_name}
-use Rattle.resolver_doc.specs.Document.{SourceData, file_source, set_source, inline_source, SetData, ItemData, set_item, elements_at, section, set_entries, modifier_entries, order_items, set_number, modifier_number, name_in, member_entries, text_at, member_text, set_or_file, source_by, source_of, sources_of, sources_in, set_of, context_of, modifier_of, named_modifier, named_item, own_name, own_item, item_by, item_of, resolver_of}
+use Rattle.resolver_doc.specs.Document.{SourceData, file_source, set_source, inline_source, SetData, ItemData, set_item, elements_at, section, set_entries, modifier_entries, order_items, set_number, modifier_number, name_in, member_entries, text_at, member_text, set_or_file, source_by, source_of, sources_of, sources_in, set_of, context_of, modifier_of, named_modifier, named_item, own_name, own_item, item_by, order_item, resolver_of}
 use Rattle.resolver_doc.specs.Form.{is_reserved, unreserved, context_entries, entries_at}
 use Rattle.permutations.specs.Laws.{InlinesArePart}
 use Rattle.permutations.specs.Permutation.{TokenSource, inline, replaced, sources_written, set_within, set_sources, sources_from, Pick, context_pick, picks, choices, Permutation, permutation}
@@ -180,7 +180,7 @@ module _ (root : Placed) where
   named_part sets modifiers a b text None = modifier_named sets modifiers b (modifier_number modifiers text)
   named_part sets modifiers a b text (Some v) = set_part (sources_in sets (member_entries sets v)) (sources_in_part sets (member_entries sets v) (members_part sets v a))
 
-  item_part : (n : Placed) → IsPart n root → ItemPart (item_of (set_entries root) (modifier_entries root) n)
+  item_part : (n : Placed) → IsPart n root → ItemPart (order_item (set_entries root) (modifier_entries root) n)
   item_part n p = at (value_of_name (codes "$ref") (entries_at n))
     where
       at : (o : Option Placed) → ItemPart (item_by (set_entries root) (modifier_entries root) (entries_at n) o)
@@ -197,7 +197,7 @@ module _ (root : Placed) where
 
   items_part : (item : ItemData) → In item (resolver_of root).order → ItemPart item
   items_part item i =
-      let c = in_map (item_of (set_entries root) (modifier_entries root)) (order_items root) item i in
+      let c = in_map (order_item (set_entries root) (modifier_entries root)) (order_items root) item i in
       subst (λ (x : ItemData). ItemPart x) (sym c.is) (item_part c.from (order_part c.from c.there))
 
   -- of what sets come to

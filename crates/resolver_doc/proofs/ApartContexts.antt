@@ -6,7 +6,7 @@ use Rattle.ring.specs.Lists.{In, AreApart}
 use Rattle.std.specs.Str.{bytes_eq}
 use Rattle.json_span.specs.Tree.{a_null, a_boolean, a_number, a_string, an_array, an_object, Placed, placed, Elements, no_elements, an_element, Members, no_members, a_member, Entry, tree_of, object_in, elements_in, entries_in, value_of_name}
 use Rattle.json_span.specs.Flaw.{Flaw, equal_names, or_else, is_seen, most_open, flaw_in, flaw_in_elements, flaw_in_members}
-use Rattle.resolver_doc.specs.Document.{set_item, HasContextsApart, elements_at, set_entries, modifier_entries, order_items, set_number, modifier_number, name_in, member_entries, text_at, member_text, sources_in, context_of, modifier_of, named_modifier, named_item, own_name, item_by, item_of}
+use Rattle.resolver_doc.specs.Document.{set_item, HasContextsApart, elements_at, set_entries, modifier_entries, order_items, set_number, modifier_number, name_in, member_entries, text_at, member_text, sources_in, context_of, modifier_of, named_modifier, named_item, own_name, item_by, order_item}
 use Rattle.resolver_doc.specs.Form.{is_reserved, unreserved, entries_at}
 use Rattle.resolver_doc.specs.Laws.{ContextsAreApart}
 
@@ -155,7 +155,7 @@ module _ (sets : List Entry) where
   number_apart name (e ∷ es) (suc v) f = number_apart name es v f.1
 
   module _ (modifiers : List Entry) (are : ValuesFlawless modifiers) where
-    item_apart : (n : Placed) → Flawless n → HasContextsApart (item_of sets modifiers n)
+    item_apart : (n : Placed) → Flawless n → HasContextsApart (order_item sets modifiers n)
     item_apart n f = at (value_of_name (codes "$ref") (entries_at n))
       where
         named : (text : List ℕ) (o : Option ℕ) → HasContextsApart (named_modifier sets modifiers o)
@@ -174,7 +174,7 @@ module _ (sets : List Entry) where
         at None = own (bytes_eq (unwrap_or (member_text (codes "type") (entries_at n)) []) (codes "set"))
         at (Some string) = item_named (text_at string) (set_number sets (text_at string))
 
-    items_apart : (ns : List Placed) → AllFlawless ns → AllByRecursion HasContextsApart (map (item_of sets modifiers) ns)
+    items_apart : (ns : List Placed) → AllFlawless ns → AllByRecursion HasContextsApart (map (order_item sets modifiers) ns)
     items_apart [] f = tt
     items_apart (n ∷ ns) f = (item_apart n f.0, items_apart ns f.1)
 

@@ -6,7 +6,7 @@ use Rattle.json_span.specs.Tree.{Placed, Entry, tree_of, string_in, array_in, ob
 use Rattle.resolver_doc.specs.declared.rule.PlanRule.TheVariants.{Shape, Contexts}
 use Rattle.resolver_doc.specs.declared.rule.Break.{Break}
 use Rattle.resolver_doc.specs.Break.{at_value}
-use Rattle.resolver_doc.specs.Document.{set_item, modifier_item, has_choice, have_choices, resolver_of, elements_at, set_entries, modifier_entries, order_items, pointer, set_number, modifier_number, name_in, member_entries, text_at, member_text, sources_in, context_of, modifier_of, named_modifier, named_item, own_name, own_item, item_by, item_of}
+use Rattle.resolver_doc.specs.Document.{set_item, modifier_item, has_choice, have_choices, resolver_of, elements_at, set_entries, modifier_entries, order_items, pointer, set_number, modifier_number, name_in, member_entries, text_at, member_text, sources_in, context_of, modifier_of, named_modifier, named_item, own_name, own_item, item_by, order_item}
 use Rattle.resolver_doc.proofs.RightSets.{Stands, found_from}
 use Rattle.resolver_doc.specs.Form.{unreserved, formed, list_with, object_with, needed_member, optional_member, text_form, is_reserved, reference_form, counts_some, contexts_form, contexts_members, context_form, context_entries, default_form, modifier_members, modifier_form, typed_form, item_type, item_members, item_form, each_value, set_form, set_members, version_form, document_members, entries_at, form_breaks}
 
@@ -105,7 +105,7 @@ module _ (sets : List Entry) where
         at (Some v) e = number_chosen v (found_from (λ x. bytes_eq (pointer (codes "modifiers") x) text) 0 modifiers v e)
     named_chosen text (Some v) = refl
 
-    item_chosen : (n : Placed) → item_form n ≡ [] → has_choice (item_of sets modifiers n) ≡ true
+    item_chosen : (n : Placed) → item_form n ≡ [] → has_choice (order_item sets modifiers n) ≡ true
     item_chosen n e = at (value_of_name (codes "$ref") (entries_at n)) (inside n (item_members n) e)
       where
         at : (o : Option Placed) → (if is_some o then reference_form (entries_at n) else needed_member (item_type n (entries_at n)) n (value_of_name (codes "type") (entries_at n))) ≡ []
@@ -113,10 +113,10 @@ module _ (sets : List Entry) where
         at None h = own_chosen n (entries_at n) h
         at (Some string) h = named_chosen (text_at string) (set_number sets (text_at string))
 
-    items_chosen : (ns : List Placed) → flat_map item_form ns ≡ [] → have_choices (map (item_of sets modifiers) ns) ≡ true
+    items_chosen : (ns : List Placed) → flat_map item_form ns ≡ [] → have_choices (map (order_item sets modifiers) ns) ≡ true
     items_chosen [] e = refl
     items_chosen (n ∷ ns) e =
-        ap (λ b. b && have_choices (map (item_of sets modifiers) ns)) (item_chosen n (left (item_form n) (flat_map item_form ns) e))
+        ap (λ b. b && have_choices (map (order_item sets modifiers) ns)) (item_chosen n (left (item_form n) (flat_map item_form ns) e))
         ∙ items_chosen ns (right (item_form n) (flat_map item_form ns) e)
 
 -- the modifiers of the document, and its items

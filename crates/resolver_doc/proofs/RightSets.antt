@@ -5,7 +5,7 @@ use Rattle.std.proofs.lemmas.Slice.Eq.{bytes_eq-Decides}
 use Rattle.std.specs.List.{position_from}
 use Rattle.std.specs.Str.{bytes_eq}
 use Rattle.json_span.specs.Tree.{Placed, Entry, value_of_name}
-use Rattle.resolver_doc.specs.Document.{SetData, set_item, resolver_of, elements_at, text_at, pointer, set_entries, modifier_entries, order_items, set_number, modifier_number, name_in, member_entries, set_or_file, source_by, source_of, sources_of, sources_in, set_of, context_of, member_text, modifier_of, named_modifier, named_item, own_name, item_by, item_of}
+use Rattle.resolver_doc.specs.Document.{SetData, set_item, resolver_of, elements_at, text_at, pointer, set_entries, modifier_entries, order_items, set_number, modifier_number, name_in, member_entries, set_or_file, source_by, source_of, sources_of, sources_in, set_of, context_of, member_text, modifier_of, named_modifier, named_item, own_name, item_by, order_item}
 use Rattle.resolver_doc.specs.Form.{unreserved, context_entries, entries_at}
 use Rattle.resolver_doc.specs.Rings.{is_set_named, is_right, are_right, are_sets_right, is_item_right, are_items_right}
 
@@ -90,7 +90,7 @@ module _ (sets : List Entry) where
   modifier_right : (name : List ℕ) (es : List Entry) → is_item_right listed (modifier_of sets name es) ≡ true
   modifier_right name es = contexts_right (unreserved (context_entries es))
 
-  item_right : (modifiers : List Entry) (n : Placed) → is_item_right listed (item_of sets modifiers n) ≡ true
+  item_right : (modifiers : List Entry) (n : Placed) → is_item_right listed (order_item sets modifiers n) ≡ true
   item_right modifiers n = at (value_of_name (codes "$ref") (entries_at n))
     where
       modifier_named : (o : Option ℕ) → is_item_right listed (named_modifier sets modifiers o) ≡ true
@@ -109,9 +109,9 @@ module _ (sets : List Entry) where
       at None = own (bytes_eq (unwrap_or (member_text (codes "type") (entries_at n)) []) (codes "set"))
       at (Some string) = named (text_at string) (set_number sets (text_at string))
 
-  items_right : (modifiers : List Entry) (ns : List Placed) → are_items_right listed (map (item_of sets modifiers) ns) ≡ true
+  items_right : (modifiers : List Entry) (ns : List Placed) → are_items_right listed (map (order_item sets modifiers) ns) ≡ true
   items_right modifiers [] = refl
-  items_right modifiers (n ∷ ns) = ap (λ b. b && are_items_right listed (map (item_of sets modifiers) ns)) (item_right modifiers n) ∙ items_right modifiers ns
+  items_right modifiers (n ∷ ns) = ap (λ b. b && are_items_right listed (map (order_item sets modifiers) ns)) (item_right modifiers n) ∙ items_right modifiers ns
 
   pub listed_right : are_sets_right (map (set_of sets) sets) (map (set_of sets) sets) ≡ true
   listed_right = sets_right sets

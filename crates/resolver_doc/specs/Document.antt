@@ -133,14 +133,14 @@ abbrev pub item_by : List Entry → List Entry → List Entry → Option Placed 
 item_by sets modifiers es None = own_item sets es
 item_by sets modifiers es (Some string) = named_item sets modifiers (text_at string) (set_number sets (text_at string))
 
-abbrev pub item_of : List Entry → List Entry → Placed → ItemData
-item_of sets modifiers n = item_by sets modifiers (entries_at n) (value_of_name (codes "$ref") (entries_at n))
+abbrev pub order_item : List Entry → List Entry → Placed → ItemData
+order_item sets modifiers n = item_by sets modifiers (entries_at n) (value_of_name (codes "$ref") (entries_at n))
 
 -- what the document says
 abbrev pub resolver_of : Placed → ResolverData
 resolver_of root = record {
   sets = map (set_of (set_entries root)) (set_entries root);
-  order = map (item_of (set_entries root) (modifier_entries root)) (order_items root);
+  order = map (order_item (set_entries root) (modifier_entries root)) (order_items root);
 }
 
 -- each modifier of the order has a context to choose

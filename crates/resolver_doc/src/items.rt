@@ -6,7 +6,7 @@ ghost use Rattle.json_span.specs.View.{ref_view, field_view};
 ghost use Rattle.resolver_doc.specs.Break.{with_breaks};
 ghost use Rattle.resolver_doc.specs.Document.{set_item, context_of, set_of, sources_in};
 ghost use Rattle.resolver_doc.specs.Document.{member_entries, name_in, member_text, modifier_of};
-ghost use Rattle.resolver_doc.specs.Document.{own_item, item_of, named_item, text_at, set_number};
+ghost use Rattle.resolver_doc.specs.Document.{own_item, order_item, named_item, text_at, set_number};
 ghost use Rattle.resolver_doc.specs.Document.{order_items};
 ghost use Rattle.resolver_doc.specs.Form.{unreserved, context_entries, entries_at};
 ghost use Rattle.resolver_doc.specs.Naming.{sources_breaks, set_breaks, modifier_breaks};
@@ -222,7 +222,7 @@ fn item<'a, 's>(
     first: &mut Option<Break>,
 ) -> Result<Item<'a, 's>, NoMemory>
     ensures item { IfOk result (λ item. item_view item
-        ≡ item_of (known_sets known.now) (known_modifiers known.now) (ref_view node.entry)) }
+        ≡ order_item (known_sets known.now) (known_modifiers known.now) (ref_view node.entry)) }
     ensures breaks { OnOk result (first.new ≡ with_breaks first.old
         (item_breaks (known_sets known.now) (known_modifiers known.now) (ref_view node.entry))) }
 {
@@ -240,7 +240,7 @@ pub(crate) fn order<'a, 's>(
     first: &mut Option<Break>,
 ) -> Result<Order<'a, 's>, NoMemory>
     ensures order { IfOk result (λ order. order_view order
-        ≡ map (item_of (known_sets known.now) (known_modifiers known.now))
+        ≡ map (order_item (known_sets known.now) (known_modifiers known.now))
         (order_items (ref_view root.entry))) }
     ensures breaks { OnOk result (first.new ≡ with_breaks first.old
         (flat_map (item_breaks (known_sets known.now) (known_modifiers known.now))

@@ -17,9 +17,9 @@ use Rattle.token_tree.specs.Tree.{Definition, Properties, Child, a_token, a_grou
 use Rattle.token_tree.specs.declared.mark.Mark.{Mark}
 use Rattle.token_tree.specs.declared.mark.Mark.TheVariants.{No, Yes, Because}
 use Rattle.group_inherit.specs.Expansion.{properties_in, without_extension, over_inherited, Expands, expands, AreExpanded, no_member, own_token, child_group, IsInherited, no_target, its_target}
-use Rattle.group_inherit.specs.Extension.{GroupPath, group_of as member_group, group_at, children_in, at_path, target_path}
+use Rattle.group_inherit.specs.Extension.{GroupPath, as_group, group_at, children_in, at_path, target_path}
 use Rattle.group_inherit.specs.Flattening.{Nearest, nearest, TokenAt, tokens_in, tokens_among, tokens_at, nothing_above}
-use Rattle.group_inherit.specs.Merging.{either, over_properties, named, over, over_members, over_child, empty_group, merged_over}
+use Rattle.group_inherit.specs.Merging.{either, over_properties, children_by_name, over, over_members, over_child, empty_group, merged_over}
 
 -- what holds of strings, which are the names of members and the reasons of marks, and of the definitions of tokens
 pub record Holding : Type 1 where
@@ -121,9 +121,9 @@ module _ (holds : Holding) where
   get_formed : (m : Named) (k : List ℕ) (c : Child) → AreFormed m → finite.get m k ≡ Some c → IsWellFormed k c
   get_formed m k c all is = find_formed (finite.entries m) k c all (sym (finite.get-entries m k) ∙ is)
 
-  map_formed : (cs : Children) → AreWellFormed cs → AreFormed (named cs)
+  map_formed : (cs : Children) → AreWellFormed cs → AreFormed (children_by_name cs)
   map_formed no_children h = none_formed
-  map_formed (child name c cs) h = more_formed (named cs) name c (map_formed cs h.1) h.0
+  map_formed (child name c cs) h = more_formed (children_by_name cs) name c (map_formed cs h.1) h.0
 
   pub group_formed : (ps : Properties) (m : Named) → IsMarked holds ps.deprecated → AreFormed m → WellFormed (group_with ps m)
   group_formed ps m mark h = (mark, children_formed (finite.entries m) h)
@@ -133,7 +133,7 @@ module _ (holds : Holding) where
   mutual
     pub over_formed : (g h : Group) → WellFormed g → WellFormed h → WellFormed (over g h)
     over_formed (group ps cs) (group qs ds) o p =
-        group_formed (over_properties ps qs) (over_members cs (named ds)) (nearer_marked ps.deprecated qs.deprecated o.0 p.0) (members_formed cs (named ds) o.1 (map_formed ds p.1))
+        group_formed (over_properties ps qs) (over_members cs (children_by_name ds)) (nearer_marked ps.deprecated qs.deprecated o.0 p.0) (members_formed cs (children_by_name ds) o.1 (map_formed ds p.1))
 
     members_formed : (cs : Children) (es : Named) → AreWellFormed cs → AreFormed es → AreFormed (over_members cs es)
     members_formed no_children es o h = h
@@ -173,8 +173,8 @@ module _ (holds : Holding) where
       expanded_formed : (path : GroupPath) {e : Group} → Expands tree path e → WellFormed e
       expanded_formed path (expands {members = ms} a t) =
           let g = at_path tree path in
-          inherited_formed (target_path g) (group_with (without_extension (properties_in g)) (named ms)) t
-          (group_formed (without_extension (properties_in g)) (named ms) (fronts path).0 (map_formed ms (all_expanded path (children_in g) a (fronts path).1)))
+          inherited_formed (target_path g) (group_with (without_extension (properties_in g)) (children_by_name ms)) t
+          (group_formed (without_extension (properties_in g)) (children_by_name ms) (fronts path).0 (map_formed ms (all_expanded path (children_in g) a (fronts path).1)))
 
       all_expanded : (path : GroupPath) (cs : Children) {ms : Children} → AreExpanded tree path cs ms → FrontFormed cs → AreWellFormed ms
       all_expanded path no_children no_member h = tt
@@ -187,12 +187,12 @@ module _ (holds : Holding) where
 
   -- The group at a path.
 
-  group_in_child : (name : List ℕ) (c : Child) (g : Group) → IsWellFormed name c → member_group c ≡ Some g → WellFormed g
+  group_in_child : (name : List ℕ) (c : Child) (g : Group) → IsWellFormed name c → as_group c ≡ Some g → WellFormed g
   group_in_child name (a_token d) g h is = cc
   group_in_child name (a_group k) g h is = let same : k ≡ g = cc in subst WellFormed same h.2
 
   behind_formed : (o : Option Child) (name : List ℕ) (path : GroupPath) (g : Group) → ((c : Child) → o ≡ Some c → IsWellFormed name c)
-      → ((k : Group) → WellFormed k → group_at k path ≡ Some g → WellFormed g) → option_and_then (λ h. group_at h path) (option_and_then member_group o) ≡ Some g → WellFormed g
+      → ((k : Group) → WellFormed k → group_at k path ≡ Some g → WellFormed g) → option_and_then (λ h. group_at h path) (option_and_then as_group o) ≡ Some g → WellFormed g
   behind_formed None name path g all later is = cc
   behind_formed (Some (a_token d)) name path g all later is = cc
   behind_formed (Some (a_group k)) name path g all later is = later k (all (a_group k) refl).2 is
@@ -200,7 +200,7 @@ module _ (holds : Holding) where
   at_formed : (path : GroupPath) (tree g : Group) → WellFormed tree → group_at tree path ≡ Some g → WellFormed g
   at_formed [] tree g h is = let same : tree ≡ g = cc in subst WellFormed same h
   at_formed (name ∷ path) (group ps cs) g h is =
-      behind_formed (finite.get (named cs) name) name path g (λ c e. get_formed (named cs) name c (map_formed cs h.1) e) (λ k w e. at_formed path k g w e) is
+      behind_formed (finite.get (children_by_name cs) name) name path g (λ c e. get_formed (children_by_name cs) name c (map_formed cs h.1) e) (λ k w e. at_formed path k g w e) is
 
   or_empty : (o : Option Group) → ((g : Group) → o ≡ Some g → WellFormed g) → IsFront (unwrap_or o empty_group)
   or_empty None h = (tt, tt)

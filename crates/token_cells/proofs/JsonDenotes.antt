@@ -19,7 +19,7 @@ use Rattle.alias_ref.specs.Unchanged.{AreDefinitions}
 use Rattle.json_out.specs.Laws.{SheetsDenote, SlicesStay}
 use Rattle.json_out.specs.PlatformValue.{Json}
 use Rattle.json_out.specs.Properties.{HaveValue}
-use Rattle.json_out.specs.Reading.{number_in}
+use Rattle.json_out.specs.Reading.{number_of_text}
 use Rattle.json_out.specs.Sheets.{Cell, json_frame, cell_text, IsJsonCell, sheet_bytes, sheet_members, Denotes}
 use Rattle.token_cells.specs.Cell.{TokenPath, AreCells, extras_of}
 use Rattle.token_cells.specs.Breaks.{cell_reports}
@@ -47,7 +47,7 @@ an_object_at (placed (an_object ms) start end) e = (ms, refl)
 slice_value : SlicesStay → (source : List ℕ) (object : Placed) → Shows source object → (es : List Entry) → IsObjectOf object es → (u : Option Placed) → value_of_name (codes "$extensions") es ≡ u
     → (w : Option Json) × HaveValue (option_map (slice_of source) u) w
 slice_value slices source object shown es are None is = (None, tt)
-slice_value slices source object shown es are (Some n) is = (Some (plain_of number_in n), slices source object n shown (under_part object es (codes "$extensions") n are is))
+slice_value slices source object shown es are (Some n) is = (Some (plain_of number_of_text n), slices source object n shown (under_part object es (codes "$extensions") n are is))
 
 have_extensions : SlicesStay → (flat : Flat) → AreDefinitions flat → HaveExtensions flat
 have_extensions slices flat defs path f there =

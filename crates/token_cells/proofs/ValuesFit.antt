@@ -27,7 +27,7 @@ use Rattle.composite_rules.specs.declared.typed.Typed.TheVariants as typed
 use Rattle.composite_rules.specs.declared.typography.Typography.{Typography}
 use Rattle.composite_rules.specs.Value.{stroke_in, border_in, transition_in, shadow_item_in, unless_zero, one_item, one_shadow, if_list, shadows_in, stop_in, gradient_in, typography_in, simple_in, value_of}
 use Rattle.css_out.specs.Sources.{HasRoom}
-use Rattle.json_out.specs.Sheets.{simple_families, families_in}
+use Rattle.json_out.specs.Sheets.{simple_families, typed_families}
 
 -- what a plain value keeps to, its parts keep to
 module _ (n : ℕ) where
@@ -216,7 +216,7 @@ gradients_few v stops h e = some_few most stop_in v stops h e
 -- What a value keeps to: its lists have no more items than memory has places, and its families are of bytes.
 pub record Keeps (t : Typed) : Type 0 where
   pub room : HasRoom t
-  pub families : AreTexts (families_in t)
+  pub families : AreTexts (typed_families t)
 
 simple_keeps : (k : Kind) (v : Value) (t : Typed) → FitsIn most v → simple_in k v ≡ Ok t → Keeps t
 unfolding simple_in

@@ -4,12 +4,12 @@ use Rattle.std.specs.FinMap.Entries.{is_sorted}
 use Rattle.tk_io.specs.Order.{text_cmp}
 use Rattle.token_tree.specs.Tree.{Child, a_token, a_group, Group, group, Children, no_children, child}
 use Rattle.group_inherit.specs.Answer.{most_told}
-use Rattle.group_inherit.specs.Ordered.{entries_in}
+use Rattle.group_inherit.specs.Ordered.{child_entries}
 
 abbrev mutual
   -- no group extends another, and the children of each stand in byte order of names
   pub IsBare : Group → Type 0
-  IsBare (group ps cs) = (ps.extends ≡ None) × T (is_sorted text_cmp (entries_in cs)) × AreBare cs
+  IsBare (group ps cs) = (ps.extends ≡ None) × T (is_sorted text_cmp (child_entries cs)) × AreBare cs
 
   pub AreBare : Children → Type 0
   AreBare no_children = Unit {0}
@@ -21,16 +21,16 @@ abbrev mutual
 
 abbrev mutual
   -- how many members there are, those of groups below included
-  pub members_of : Group → ℕ
-  members_of (group ps cs) = members_among cs
+  pub member_count_of : Group → ℕ
+  member_count_of (group ps cs) = member_count_among cs
 
-  pub members_among : Children → ℕ
-  members_among no_children = 0
-  members_among (child name c cs) = suc (members_in c + members_among cs)
+  pub member_count_among : Children → ℕ
+  member_count_among no_children = 0
+  member_count_among (child name c cs) = suc (member_count_in c + member_count_among cs)
 
-  pub members_in : Child → ℕ
-  members_in (a_token d) = 0
-  members_in (a_group g) = members_of g
+  pub member_count_in : Child → ℕ
+  member_count_in (a_token d) = 0
+  member_count_in (a_group g) = member_count_of g
 
 abbrev mutual
   -- how many levels there are down to the tokens
@@ -46,13 +46,13 @@ abbrev mutual
   levels_in (a_group g) = levels_of g + 1
 
 -- a bare group, and how large it is, each number at most a million
-pub record IsSize (g : Group) (members levels : ℕ) : Type 0 where
+pub record IsBareSize (g : Group) (members levels : ℕ) : Type 0 where
   pub bare : IsBare g
-  pub many : members ≡ min (members_of g) most_told
+  pub many : members ≡ min (member_count_of g) most_told
   pub high : levels ≡ min (levels_of g) most_told
 
 -- the same of a child
 pub record IsChildSize (c : Child) (members levels : ℕ) : Type 0 where
   pub bare : IsBareChild c
-  pub many : members ≡ min (members_in c) most_told
+  pub many : members ≡ min (member_count_in c) most_told
   pub high : levels ≡ min (levels_in c) most_told

@@ -6,7 +6,7 @@ use Rattle.group_inherit.specs.declared.fault.TreeFault.TheVariants.{ExtendsTarg
 use Rattle.group_inherit.specs.Answer.{IsFirstLost}
 use Rattle.group_inherit.specs.Extension.{GroupPath, Lost}
 use Rattle.group_inherit.specs.Span.{Span, span_of}
-use Rattle.group_inherit.specs.inner.Numbering.{GroupAt, path_in, extension_in}
+use Rattle.group_inherit.specs.inner.Numbering.{GroupAt, numbered_path, extension_in}
 
 -- the fault is the first of these groups without a target
 abbrev pub IsLostTarget : List Lost → TreeFault → Type 0
@@ -18,7 +18,7 @@ IsLostTarget losts NoMemory = Unit {0}
 
 -- these are the paths of a list of numbered groups, and the span is that of the extension among them
 pub record IsReported (nodes : List GroupAt) (ring : List ℕ) (paths : List GroupPath) (span : Span) : Type 0 where
-  pub same : paths ≡ map (path_in nodes) ring
+  pub same : paths ≡ map (numbered_path nodes) ring
   pub extension : Extension
   pub among : extension_in nodes ring ≡ Some extension
   pub at : span ≡ span_of extension

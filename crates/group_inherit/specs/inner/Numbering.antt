@@ -18,12 +18,12 @@ abbrev pub nowhere : GroupAt
 nowhere = ([], empty_group)
 
 -- the group of a number, where there is one
-abbrev pub group_in : List GroupAt → ℕ → Group
-group_in nodes v = (slice_index_or nodes v nowhere).1
+abbrev pub numbered_group : List GroupAt → ℕ → Group
+numbered_group nodes v = (slice_index_or nodes v nowhere).1
 
 -- its path
-abbrev pub path_in : List GroupAt → ℕ → GroupPath
-path_in nodes v = (slice_index_or nodes v nowhere).0
+abbrev pub numbered_path : List GroupAt → ℕ → GroupPath
+numbered_path nodes v = (slice_index_or nodes v nowhere).0
 
 -- all numbers of a row: those of the child groups, and then the target's
 abbrev pub numbers_of : Row → List ℕ
@@ -55,8 +55,8 @@ abbrev mutual
 
 -- the groups of the tree whose root is the first
 pub record IsNumbering (nodes : List GroupAt) : Type 0 where
-  pub all : nodes ≡ groups_from [] (group_in nodes 0)
-  pub named : AreNamed (group_in nodes 0)
+  pub all : nodes ≡ groups_from [] (numbered_group nodes 0)
+  pub named : AreNamed (numbered_group nodes 0)
 
 -- numbers by paths
 abbrev pub Places : Type 0
@@ -64,22 +64,22 @@ Places = map_of.FinMap names_cmp ℕ
 
 -- the numbers of paths, as far as the first n groups have them
 pub record ArePlaces (nodes : List GroupAt) (n : ℕ) (places : Places) : Type 0 where
-  pub found : (path : GroupPath) (v : ℕ) → map_of.get places path ≡ Some v → (v < n) × (path_in nodes v ≡ path)
-  pub missing : (path : GroupPath) (v : ℕ) → map_of.get places path ≡ None → v < n → path_in nodes v ≡ path → ⊥
+  pub found : (path : GroupPath) (v : ℕ) → map_of.get places path ≡ Some v → (v < n) × (numbered_path nodes v ≡ path)
+  pub missing : (path : GroupPath) (v : ℕ) → map_of.get places path ≡ None → v < n → numbered_path nodes v ≡ path → ⊥
 
 -- the child groups of a group at a path have numbers
 
-abbrev pub IsKnown : Places → GroupPath → Child → Type 0
-IsKnown places path (a_token d) = Unit {0}
-IsKnown places path (a_group g) = (v : ℕ) × (map_of.get places path ≡ Some v)
+abbrev pub IsNumbered : Places → GroupPath → Child → Type 0
+IsNumbered places path (a_token d) = Unit {0}
+IsNumbered places path (a_group g) = (v : ℕ) × (map_of.get places path ≡ Some v)
 
-abbrev pub AreKnown : Places → GroupPath → Children → Type 0
-AreKnown places path no_children = Unit {0}
-AreKnown places path (child name c cs) = IsKnown places (path ++ name ∷ []) c × AreKnown places path cs
+abbrev pub AreNumbered : Places → GroupPath → Children → Type 0
+AreNumbered places path no_children = Unit {0}
+AreNumbered places path (child name c cs) = IsNumbered places (path ++ name ∷ []) c × AreNumbered places path cs
 
-abbrev pub EachKnown : Places → List GroupAt → Type 0
-EachKnown places [] = Unit {0}
-EachKnown places (n ∷ ns) = AreKnown places n.0 (children_in n.1) × EachKnown places ns
+abbrev pub EachNumbered : Places → List GroupAt → Type 0
+EachNumbered places [] = Unit {0}
+EachNumbered places (n ∷ ns) = AreNumbered places n.0 (children_in n.1) × EachNumbered places ns
 
 -- the row has the numbers of a group's child groups, in their order, and that of its target
 pub record IsRow (places : Places) (n : GroupAt) (row : Row) : Type 0 where
@@ -105,8 +105,8 @@ lost_nodes places = lost_among (has_number places)
 
 -- by its numbers, the row has what the group of this number needs
 pub record IsRowOf (nodes : List GroupAt) (v : ℕ) (row : Row) : Type 0 where
-  pub children : map (path_in nodes) row.children.items ≡ child_paths (path_in nodes v) (group_in nodes v)
-  pub target : option_map (path_in nodes) row.target ≡ target_path (group_in nodes v)
+  pub children : map (numbered_path nodes) row.children.items ≡ child_paths (numbered_path nodes v) (numbered_group nodes v)
+  pub target : option_map (numbered_path nodes) row.target ≡ target_path (numbered_group nodes v)
   pub within : All (λ w. w < length nodes) (numbers_of row)
 
 -- each row is that of its number
@@ -119,11 +119,11 @@ AreListed rows lists = map (λ l. l.items) lists ≡ map numbers_of rows
 
 -- by its numbers, a list has what the group of its number needs
 abbrev pub AreNeeds : List GroupAt → List (Vec ℕ Global) → Type 0
-AreNeeds nodes lists = (v : ℕ) → v < length nodes → map (path_in nodes) (needs_in lists v) ≡ needs_of (path_in nodes v) (group_in nodes v)
+AreNeeds nodes lists = (v : ℕ) → v < length nodes → map (numbered_path nodes) (needs_in lists v) ≡ needs_of (numbered_path nodes v) (numbered_group nodes v)
 
 -- what the first of these numbered groups whose target is the group after it says of that target
 abbrev pub extension_after : List GroupAt → ℕ → List ℕ → Option Extension
-extension_after nodes = extension_along (path_in nodes) (group_in nodes)
+extension_after nodes = extension_along (numbered_path nodes) (numbered_group nodes)
 
 abbrev pub extension_in : List GroupAt → List ℕ → Option Extension
-extension_in nodes = extension_around (path_in nodes) (group_in nodes)
+extension_in nodes = extension_around (numbered_path nodes) (numbered_group nodes)

@@ -17,16 +17,16 @@ use Rattle.group_inherit.specs.Answer.{most_told}
 use Rattle.group_inherit.specs.Expansion.{Expands, AreExpanded}
 use Rattle.group_inherit.specs.Extension.{GroupPath, at_path, children_in, group_names, names_of_groups, child_paths, paths_below, target_path, groups_from, how_many, height_of, Heights}
 use Rattle.group_inherit.specs.Flattening.{Flattened, TokenAt, flattened, tokens_in, tokens_at}
-use Rattle.group_inherit.specs.Merging.{named, over_members, over_child}
+use Rattle.group_inherit.specs.Merging.{children_by_name, over_members, over_child}
 use Rattle.group_inherit.specs.Putting.{put_all}
-use Rattle.group_inherit.specs.View.{Tokens}
+use Rattle.group_inherit.specs.View.{FlatTokens}
 use Rattle.group_inherit.specs.declared.checked.ReadyTree.{ReadyTree}
 use Rattle.group_inherit.specs.declared.numbered.Node.{Node}
 use Rattle.group_inherit.specs.declared.targets.Row.{Row}
 use Rattle.group_inherit.specs.declared.walking.Nearest.{Nearest}
 use Rattle.group_inherit.specs.inner.Checking.{IsChecked}
-use Rattle.group_inherit.specs.inner.Numbering.{GroupAt, Places, group_in, path_in}
-use Rattle.group_inherit.specs.inner.Tables.{value, HaveExpansions, HasTarget}
+use Rattle.group_inherit.specs.inner.Numbering.{GroupAt, Places, numbered_group, numbered_path}
+use Rattle.group_inherit.specs.inner.Tables.{tabled_group, HaveExpansions, HasTarget}
 use Rattle.group_inherit.specs.inner.View.{nodes_view, nearest_view}
 
 -- Merging.
@@ -39,11 +39,11 @@ abbrev pub IsChildOver : Child → Child → Child → Type 0
 IsChildOver later earlier c = child_view c ≡ over_child (child_view later) (Some (child_view earlier))
 
 -- the members of a list from the i-th on are put
-abbrev pub AreAdded : List Member → ℕ → Named → Named → Type 0
-AreAdded list i old new = new ≡ put_all (drop i (map_list member_view list)) old
+abbrev pub AreMembersAdded : List Member → ℕ → Named → Named → Type 0
+AreMembersAdded list i old new = new ≡ put_all (drop i (map_list member_view list)) old
 
-abbrev pub IsAdded : Member → Named → Named → Type 0
-IsAdded m old new = new ≡ map.insert old m.name (child_view m.child)
+abbrev pub IsMemberAdded : Member → Named → Named → Type 0
+IsMemberAdded m old new = new ≡ map.insert old m.name (child_view m.child)
 
 -- the target that a group names is another's, or both name none
 abbrev pub IsSameTarget : Option Extends → Option Extends → Type 0
@@ -78,7 +78,7 @@ IsHeight tree path shown = (n : ℕ) × Heights tree path n × (shown ≡ min n 
 
 -- the table has the height of a numbered group
 abbrev pub HoldsHeight : List GroupAt → List ℕ → ℕ → Type 0
-HoldsHeight nodes table v = IsHeight (group_in nodes 0) (path_in nodes v) (slice_index table v)
+HoldsHeight nodes table v = IsHeight (numbered_group nodes 0) (numbered_path nodes v) (slice_index table v)
 
 -- .. of each group of the order
 abbrev pub AreHeights : List Node → List ℕ → List ℕ → Type 0
@@ -91,7 +91,7 @@ IsReady tree r = IsChecked tree (nodes_view r.nodes.items) r.rows.items r.order.
 
 -- the table has the expansion of a numbered group
 abbrev pub HoldsExpansion : List GroupAt → List Group → ℕ → Type 0
-HoldsExpansion nodes table v = Expands (group_in nodes 0) (path_in nodes v) (value table v)
+HoldsExpansion nodes table v = Expands (numbered_group nodes 0) (numbered_path nodes v) (tabled_group table v)
 
 -- .. of each group of the order
 abbrev pub AreExpansions : List Node → List ℕ → List Group → Type 0
@@ -112,25 +112,25 @@ HaveNumbers members numbers = length numbers ≡ length (names_of_groups (childr
 pub record HasMembers (tree : GroupData) (path : GroupPath) (cs : Children) (made : Named) : Type 0 where
   pub members : Children
   pub are : AreExpanded tree path cs members
-  pub same : made ≡ named members
+  pub same : made ≡ children_by_name members
 
 -- Wherever the members stand in a tree, and the table has the expansions of their groups, these are the expanded members.
-abbrev pub AreMembers : Named → List Group → List ℕ → Named → Type 0
-AreMembers members table numbers made = (tree : GroupData) (path : GroupPath)
+abbrev pub AreExpandedMembers : Named → List Group → List ℕ → Named → Type 0
+AreExpandedMembers members table numbers made = (tree : GroupData) (path : GroupPath)
     → HaveExpansions tree table (paths_below path (children_of (map.entries members))) numbers
     → HasMembers tree path (children_of (map.entries members)) made
 
 -- Flat trees.
 
-abbrev pub IsPut : GroupPath → Flattened → List TokenAt → List TokenAt → Type 0
-IsPut path t old new = new ≡ put names_cmp path t old
+abbrev pub IsPutInto : GroupPath → Flattened → List TokenAt → List TokenAt → Type 0
+IsPutInto path t old new = new ≡ put names_cmp path t old
 
-abbrev pub TokenPut : GroupPath → Nearest → Definition → Tokens → Tokens → Type 0
+abbrev pub TokenPut : GroupPath → Nearest → Definition → FlatTokens → FlatTokens → Type 0
 TokenPut path near d old new = new ≡ map.insert old path (flattened (nearest_view near) d)
 
 -- the tokens of a child, and of a group, are put
-abbrev pub ChildPut : GroupPath → Nearest → Child → Tokens → Tokens → Type 0
+abbrev pub ChildPut : GroupPath → Nearest → Child → FlatTokens → FlatTokens → Type 0
 ChildPut path near c old new = new ≡ put_all (tokens_at path (nearest_view near) (child_view c)) old
 
-abbrev pub GroupPut : GroupPath → Nearest → Group → Tokens → Tokens → Type 0
+abbrev pub GroupPut : GroupPath → Nearest → Group → FlatTokens → FlatTokens → Type 0
 GroupPut path above g old new = new ≡ put_all (tokens_in path (nearest_view above) (group_view g)) old

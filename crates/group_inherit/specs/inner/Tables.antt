@@ -8,19 +8,19 @@ use Rattle.group_inherit.specs.Expansion.{Expands}
 use Rattle.group_inherit.specs.Extension.{GroupPath}
 
 -- the group of a number, counted from 0
-abbrev pub value : List Group → ℕ → GroupData
-value table v = slice_index_or (map group_view table) v empty_group
+abbrev pub tabled_group : List Group → ℕ → GroupData
+tabled_group table v = slice_index_or (map group_view table) v empty_group
 
 -- at these numbers stand the expansions of the groups at these paths of a tree, one for each
 abbrev pub HaveExpansions : GroupData → List Group → List GroupPath → List ℕ → Type 0
 HaveExpansions tree table [] [] = Unit {0}
 HaveExpansions tree table [] (w ∷ ws) = ⊥
 HaveExpansions tree table (path ∷ paths) [] = ⊥
-HaveExpansions tree table (path ∷ paths) (w ∷ ws) = Expands tree path (value table w) × HaveExpansions tree table paths ws
+HaveExpansions tree table (path ∷ paths) (w ∷ ws) = Expands tree path (tabled_group table w) × HaveExpansions tree table paths ws
 
 -- the same of a target, where there is one
 abbrev pub HasTarget : GroupData → List Group → Option GroupPath → Option ℕ → Type 0
 HasTarget tree table None None = Unit {0}
 HasTarget tree table None (Some w) = ⊥
 HasTarget tree table (Some path) None = ⊥
-HasTarget tree table (Some path) (Some w) = Expands tree path (value table w)
+HasTarget tree table (Some path) (Some w) = Expands tree path (tabled_group table w)

@@ -7,11 +7,11 @@ use Rattle.group_inherit.specs.declared.numbered.Node.{Node}
 use Rattle.group_inherit.specs.declared.walking.Nearest.{Nearest}
 use Rattle.group_inherit.specs.inner.Numbering.{GroupAt}
 
-abbrev pub node_view : Node → GroupAt
-node_view n = (n.path, group_view n.group.now)
+abbrev pub group_node_view : Node → GroupAt
+group_node_view n = (n.path, group_view n.group.now)
 
 abbrev pub nodes_view : List Node → List GroupAt
-nodes_view nodes = map node_view nodes
+nodes_view nodes = map group_node_view nodes
 
 abbrev pub nearest_view : Nearest → NearestData
 nearest_view n = record { kind = n.kind; mark = option_copied n.mark }

@@ -1,7 +1,7 @@
 use Rattle.std.proofs.Common.{◌≡◌, [], arith, sym, subst}
 use Rattle.token_tree.specs.Tree.{Group}
 use Rattle.token_tree.specs.View.{group_view}
-use Rattle.group_inherit.specs.inner.Bare.{members_of, levels_of}
+use Rattle.group_inherit.specs.inner.Bare.{member_count_of, levels_of}
 use Rattle.group_inherit.specs.Extension.{Heights}
 use Rattle.group_inherit.proofs.BareTrees.{bare_targets, bare_no_ring, bare_count, bare_height, bare_counted, bare_sound, low_levels}
 use Rattle.group_inherit.proofs.bare.check_size.Goals as goal
@@ -10,7 +10,7 @@ pub returns-then-size-gt-MOST_MEMBERS-clause-broken : goal.returns-then-size-gt-
 returns-then-size-gt-MOST_MEMBERS-clause-broken c =
     let tree = group_view c.args.tree.now in
     let b = c.requires.bare in
-    (bare_targets tree b, bare_no_ring tree b, (members_of tree, bare_count tree b, omega (arith, c.requires.many, c.if-size-gt-MOST_MEMBERS.true), c.requires.many))
+    (bare_targets tree b, bare_no_ring tree b, (member_count_of tree, bare_count tree b, omega (arith, c.requires.many, c.if-size-gt-MOST_MEMBERS.true), c.requires.many))
 
 pub returns-then-size-gt-HIGHEST-clause-broken : goal.returns-then-size-gt-HIGHEST-clause-broken
 returns-then-size-gt-HIGHEST-clause-broken c =

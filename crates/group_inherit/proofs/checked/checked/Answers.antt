@@ -3,7 +3,7 @@ use Rattle.std.proofs.lemmas.List.{length-map}
 use Rattle.ring.specs.Order.{Follows}
 use Rattle.token_tree.specs.View.{group_view}
 use Rattle.group_inherit.specs.inner.Numbering.{AreRows, needs_by}
-use Rattle.group_inherit.specs.inner.View.{node_view, nodes_view}
+use Rattle.group_inherit.specs.inner.View.{group_node_view, nodes_view}
 use Rattle.group_inherit.proofs.Verdict.{numbering_of}
 use Rattle.group_inherit.proofs.checked.checked.Goals as goal
 
@@ -17,7 +17,7 @@ returns-clause-ready c =
     let nodes = c.in_ok-nodes.nodes.items in
     let table = c.in_ok-table.table.items in
     let order = c.in_ok-order.order.items in
-    let many = sym (length-map nodes node_view) in
+    let many = sym (length-map nodes group_node_view) in
     let n = numbering_of (group_view c.args.tree.now) (nodes_view nodes) c.in_ok-nodes.ensures.all c.in_ok-nodes.ensures.named in
     record {
       numbering = n.0;

@@ -1,7 +1,7 @@
 use Rattle.std.proofs.Common.{◌∙◌}
 use Rattle.std.proofs.lemmas.List.{length-map}
 use Rattle.std.proofs.lemmas.Result.{err_from_is_err_and}
-use Rattle.group_inherit.specs.inner.View.{node_view, nodes_view}
+use Rattle.group_inherit.specs.inner.View.{group_node_view, nodes_view}
 use Rattle.group_inherit.proofs.Trees.{rows_long}
 use Rattle.group_inherit.proofs.Verdict.{are_known, lost_break, no_lost, rows_are, places_of}
 use Rattle.group_inherit.proofs.checked.checked_rows.Goals as goal
@@ -20,7 +20,7 @@ returns-in_err-table-clause-broken c =
 pub returns-clause-long : goal.returns-clause-long
 returns-clause-long c =
     rows_long c.in_ok-numbers.numbers (nodes_view c.args.nodes.now) c.in_ok-table.table.items c.in_ok-table.ensures.ok
-    ∙ length-map c.args.nodes.now node_view
+    ∙ length-map c.args.nodes.now group_node_view
 
 pub returns-clause-rows : goal.returns-clause-rows
 returns-clause-rows c =

@@ -8,7 +8,7 @@ use Rattle.tk_io.specs.Order.{text_cmp}
 use Rattle.token_tree.specs.Tree.{a_group, children_of}
 use Rattle.token_tree.specs.View.{child_view, group_view, member_view, members_view}
 use Rattle.group_inherit.specs.Extension.{names_of_groups, paths_below}
-use Rattle.group_inherit.specs.inner.Outcomes.{AreMembers, HasMembers}
+use Rattle.group_inherit.specs.inner.Outcomes.{AreExpandedMembers, HasMembers}
 use Rattle.group_inherit.specs.inner.Tables.{HaveExpansions}
 use Rattle.group_inherit.proofs.Expands.{Entries, Filling, nothing_filled, token_filled, group_filled, all_filled, members_stay, no_names, ok_then, groups_left_token, groups_left_group}
 use Rattle.group_inherit.proofs.Tables.{value_read}
@@ -19,7 +19,7 @@ pub returns-then-is_empty : goal.returns-then-is_empty
 returns-then-is_empty c =
     let m = members_view c.args.members.now in
     let none = no_names (children_of (map.entries m)) c.args.children.now c.requires.many (sym c.is_empty.ensures ∙ c.if-is_empty.true) in
-    ok_then c.copy.result (λ made. made ≡ m) (AreMembers c.args.members.now c.args.table.now c.args.children.now)
+    ok_then c.copy.result (λ made. made ≡ m) (AreExpandedMembers c.args.members.now c.args.table.now c.args.children.now)
     (λ made is tree path known. subst (HasMembers tree path (children_of (map.entries m))) (sym is) (members_stay tree path m none)) c.copy.ensures
 
 pub loop-member-init : goal.loop-member-init

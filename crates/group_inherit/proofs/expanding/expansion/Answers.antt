@@ -7,7 +7,7 @@ use Rattle.group_inherit.specs.Merging.{over}
 use Rattle.token_tree.specs.declared.tree.Group.{Group as GroupIn}
 use Rattle.group_inherit.specs.View.{IsOver}
 use Rattle.group_inherit.specs.inner.Outcomes.{IsExpansion}
-use Rattle.group_inherit.specs.inner.Tables.{value, HaveExpansions, HasTarget}
+use Rattle.group_inherit.specs.inner.Tables.{tabled_group, HaveExpansions, HasTarget}
 use Rattle.group_inherit.proofs.Expands.{none_inherited, some_inherited, expands_with, ok_then}
 use Rattle.group_inherit.proofs.Tables.{value_read}
 use Rattle.group_inherit.proofs.expanding.expansion.Goals as goal
@@ -37,7 +37,7 @@ returns c =
     let own : Group = group_with (record { kind = g.kind; deprecated = g.deprecated; extends = None }) m in
     let same : group_view local ≡ own = ap (λ (d : Option Mark). group_with (record { kind = g.kind; deprecated = d; extends = None }) m) (c.in_ok-deprecated.ensures ∙ c.as_ref.ensures.value) in
     ok_then c.over.result (IsOver local item) (IsExpansion g table row)
-    (λ made is tree path at known target. expands_with tree path (group_view g) m (Some (value table w)) at
+    (λ made is tree path at known target. expands_with tree path (group_view g) m (Some (tabled_group table w)) at
     (c.in_ok-members.ensures tree path (subst (HaveExpansions tree table (child_paths path (group_view g))) (sym c.as_slice.ensures.value) known))
     (some_inherited tree table (target_path (group_view g)) w (subst (HasTarget tree table (target_path (group_view g))) c.in-Some.is target))
     (is ∙ (ap (λ (h : Group). over h (group_view item)) same ∙ ap (over own) (sym (value_read table w item within c.index-table-target.is)))))

@@ -2,8 +2,8 @@ use Rattle.std.proofs.Common.{ℕ, ◌<◌, List, sym, ap, ◌∙◌, subst, len
 use Rattle.std.proofs.lemmas.List.{length-map, take_all}
 use Rattle.ring.specs.Lists.{In}
 use Rattle.token_tree.specs.View.{group_view}
-use Rattle.group_inherit.specs.inner.Numbering.{group_in, path_in}
-use Rattle.group_inherit.specs.inner.View.{node_view, nodes_view}
+use Rattle.group_inherit.specs.inner.Numbering.{numbered_group, numbered_path}
+use Rattle.group_inherit.specs.inner.View.{group_node_view, nodes_view}
 use Rattle.group_inherit.proofs.Tables.{row_at, children_known, target_known, in_slice, target_in_slice, expansion_more}
 use Rattle.group_inherit.proofs.Trees.{at_tree}
 use Rattle.group_inherit.proofs.expanding.expansions.Goals as goal
@@ -26,13 +26,13 @@ loop-v-preserved c =
     let n = c.requires.numbering in
     let r = row_at nodes c.args.rows.now order k row c.index-nodes-v.result (length c.as_slice.result.now)
     c.requires.rows c.requires.long c.requires.within c.loop-v-test.true c.index-rows-v.is (ap length c.as_slice.ensures.value ∙ c.loop-v.invariant.long) in
-    let there : v < length ns = omega (arith, r.here, length-map nodes node_view) in
+    let there : v < length ns = omega (arith, r.here, length-map nodes group_node_view) in
     let g = group_view (get_or nodes v c.index-nodes-v.result).group.now in
     let children = children_known ns c.args.rows.now table order k v row r.is_row r.own c.requires.order c.loop-v-test.true refl c.loop-v.invariant.known in
     let target = target_known ns c.args.rows.now table order k v row r.is_row r.own c.requires.order c.loop-v-test.true refl c.loop-v.invariant.known in
-    let expands = c.in_ok-group.ensures (group_in ns 0) (path_in ns v) (at_tree (group_in ns 0) ns n.all n.named v there ∙ r.itself)
-    (in_slice (group_in ns 0) table c.as_slice.result.now (group_in ns v) g (path_in ns v) row c.as_slice.ensures.value r.itself children)
-    (target_in_slice (group_in ns 0) table c.as_slice.result.now (group_in ns v) g row c.as_slice.ensures.value r.itself target) in
+    let expands = c.in_ok-group.ensures (numbered_group ns 0) (numbered_path ns v) (at_tree (numbered_group ns 0) ns n.all n.named v there ∙ r.itself)
+    (in_slice (numbered_group ns 0) table c.as_slice.result.now (numbered_group ns v) g (numbered_path ns v) row c.as_slice.ensures.value r.itself children)
+    (target_in_slice (numbered_group ns 0) table c.as_slice.result.now (numbered_group ns v) g row c.as_slice.ensures.value r.itself target) in
     record {
       long = length-set table v c.in_ok-group.group ∙ c.loop-v.invariant.long;
       known = expansion_more ns table order k v c.in_ok-group.group c.loop-v-test.true refl (omega (arith, r.here, c.loop-v.invariant.long)) c.loop-v.invariant.known expands;

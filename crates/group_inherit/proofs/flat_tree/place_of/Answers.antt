@@ -2,7 +2,7 @@ use Rattle.std.proofs.Common.{◌≡◌, ℕ, ◌+◌, ◌-◌, ◌/◌, ◌<◌
 use Rattle.std.specs.Cmp.Lexicographic.{lists_total, nat_list_cmp_total}
 use Rattle.tk_io.specs.Order.{names_cmp}
 use Rattle.group_inherit.specs.Flattening.{Flattened}
-use Rattle.group_inherit.specs.inner.Halves.{Ahead}
+use Rattle.group_inherit.specs.inner.Halves.{IsBeforeAll}
 use Rattle.group_inherit.proofs.Halves.{same_item, passes_one, stops, passed_before}
 use Rattle.group_inherit.proofs.flat_tree.place_of.Goals as goal
 
@@ -51,5 +51,5 @@ returns-clause-gap c =
     record {
       within = omega (arith, met, c.loop-low.invariant.within);
       passed = c.loop-low.invariant.passed;
-      ahead = subst (λ (n : ℕ). Ahead names_cmp c.args.path.now (drop n c.args.tokens.now)) met c.loop-low.invariant.ahead;
+      ahead = subst (λ (n : ℕ). IsBeforeAll names_cmp c.args.path.now (drop n c.args.tokens.now)) met c.loop-low.invariant.ahead;
     }

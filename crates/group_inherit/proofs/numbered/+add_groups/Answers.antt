@@ -7,7 +7,7 @@ use Rattle.token_tree.specs.Tree.{a_group, children_of}
 use Rattle.token_tree.specs.View.{member_view, child_view, members_view, group_view}
 use Rattle.group_inherit.specs.Extension.{groups_from, groups_among}
 use Rattle.group_inherit.specs.inner.Numbering.{GroupAt}
-use Rattle.group_inherit.specs.inner.View.{node_view, nodes_view}
+use Rattle.group_inherit.specs.inner.View.{group_node_view, nodes_view}
 use Rattle.group_inherit.specs.declared.numbered.Node.{Node}
 use Rattle.token_tree.specs.declared.tree.Group.{Group as GroupValue}
 use Rattle.group_inherit.proofs.Naming.{sorted_drop, sorted_lacks}
@@ -75,7 +75,7 @@ returns t c =
     let node : Node = record { group = c.args.group; path = c.in_ok-own.own } in
     let this : GroupAt = (c.args.path.now, group_view g) in
     let made : before ≡ old ++ this ∷ [] =
-    ap nodes_view c.in_ok-push.ensures.items ∙ (map_push node_view c.args.nodes.now.items node ∙ ap (λ (p : List (List ℕ)). old ++ (p, group_view g) ∷ []) c.in_ok-own.ensures) in
+    ap nodes_view c.in_ok-push.ensures.items ∙ (map_push group_node_view c.args.nodes.now.items node ∙ ap (λ (p : List (List ℕ)). old ++ (p, group_view g) ∷ []) c.in_ok-own.ensures) in
     let rest = groups_among c.args.path.now (children_of es) in
     let k : Progress c.args.path.now (before ++ rest) es after [] = subst (Progress c.args.path.now (before ++ rest) es after) gone c.loop-member.invariant in
     record {

@@ -1,8 +1,8 @@
 use Rattle.std.proofs.Common.{◌≡◌, map, take}
 use Rattle.group_inherit.specs.inner.View.{nodes_view}
-use Rattle.group_inherit.specs.inner.Numbering.{path_in}
+use Rattle.group_inherit.specs.inner.Numbering.{numbered_path}
 use Rattle.group_inherit.proofs.rings.ring_paths.Given as goal
 
 -- the paths so far
 abbrev pub invariant-loop-v : goal.invariant-loop-v
-invariant-loop-v l = l.paths ≡ map (path_in (nodes_view l.nodes)) (take l.v-index l.ring)
+invariant-loop-v l = l.paths ≡ map (numbered_path (nodes_view l.nodes)) (take l.v-index l.ring)

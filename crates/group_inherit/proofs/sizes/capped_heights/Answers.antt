@@ -4,7 +4,7 @@ use Rattle.token_tree.specs.Tree.{Group}
 use Rattle.token_tree.specs.View.{group_view}
 use Rattle.group_inherit.specs.inner.Numbering.{numbers_of}
 use Rattle.group_inherit.specs.inner.Outcomes.{capped_height}
-use Rattle.group_inherit.specs.inner.View.{node_view, nodes_view}
+use Rattle.group_inherit.specs.inner.View.{group_node_view, nodes_view}
 use Rattle.group_inherit.proofs.Counting.{heights_more}
 use Rattle.group_inherit.proofs.Tables.{row_at}
 use Rattle.group_inherit.proofs.sizes.capped_heights.Goals as goal
@@ -27,7 +27,7 @@ loop-v-preserved c =
     record {
       long = length-set table v c.height_at.result ∙ c.loop-v.invariant.long;
       known = heights_more (nodes_view nodes) c.requires.numbering c.args.rows.now table c.args.order.now k v c.height_at.result row r.is_row r.own
-          c.requires.order c.loop-v-test.true refl (omega (arith, r.here, length-map nodes node_view)) (omega (arith, r.here, c.loop-v.invariant.long)) c.loop-v.invariant.known
+          c.requires.order c.loop-v-test.true refl (omega (arith, r.here, length-map nodes group_node_view)) (omega (arith, r.here, c.loop-v.invariant.long)) c.loop-v.invariant.known
           (c.height_at.ensures
           ∙ (ap (λ (t : List ℕ). capped_height (group_view (get_or nodes v c.index-nodes-v.result).group.now) t (numbers_of row)) c.as_slice.ensures.value
           ∙ ap (λ (g : Group). capped_height g table (numbers_of row)) (sym r.itself)));

@@ -1,6 +1,6 @@
 use Rattle.std.proofs.Common.{◌<◌, [], length, arith, sym, subst}
 use Rattle.std.proofs.lemmas.List.{get_or_read}
-use Rattle.group_inherit.specs.inner.Numbering.{group_in}
+use Rattle.group_inherit.specs.inner.Numbering.{numbered_group}
 use Rattle.group_inherit.specs.inner.Outcomes.{IsHeight}
 use Rattle.group_inherit.specs.inner.View.{nodes_view}
 use Rattle.group_inherit.proofs.Counting.{in_all, root_height, height_fault, height_ok}
@@ -9,7 +9,7 @@ use Rattle.group_inherit.proofs.sizes.check_height.Goals as goal
 pub returns-then-height-gt-HIGHEST-clause-broken : goal.returns-then-height-gt-HIGHEST-clause-broken
 returns-then-height-gt-HIGHEST-clause-broken c =
     let nodes = nodes_view c.args.nodes.now in
-    let tree = group_in nodes 0 in
+    let tree = numbered_group nodes 0 in
     let heights = c.in_ok-heights.heights.items in
     let shown = c.index-height.result.now in
     let some : 0 < length c.args.nodes.now = in_all (λ v. v < length c.args.nodes.now) c.args.order.now 0 c.requires.within c.requires.root in
@@ -20,7 +20,7 @@ returns-then-height-gt-HIGHEST-clause-broken c =
 pub returns-clause-ok : goal.returns-clause-ok
 returns-clause-ok c =
     let nodes = nodes_view c.args.nodes.now in
-    let tree = group_in nodes 0 in
+    let tree = numbered_group nodes 0 in
     let heights = c.in_ok-heights.heights.items in
     let shown = c.index-height.result.now in
     let some : 0 < length c.args.nodes.now = in_all (λ v. v < length c.args.nodes.now) c.args.order.now 0 c.requires.within c.requires.root in
