@@ -18,7 +18,7 @@ use transforms::{Config, scale_rem};
 use type_rules::{Color, Simple, Size, SizeUnit, Space, Time, TimeUnit};
 
 /// What an element holds.
-#[derive(Clone, Copy)]
+#[derive(Clone, Copy, Debug)]
 pub(crate) enum Content<'a> {
     /// The bytes of alpha, red, green and blue.
     Color(u8, u8, u8, u8),

@@ -19,13 +19,14 @@ use tk_io::{Bytes, NoMemory};
 use transforms::{Frag, Names, Platform, name_for, name_with_ending};
 
 /// The names and lines so far.
-#[derive(Drop)]
+#[derive(Debug, Drop)]
 struct Lines {
     names: Names,
     line: Line,
 }
 
 /// What a line of a typography is about: a member and its kind, and the ending of the line's name.
+#[derive(Debug)]
 struct Member {
     name: &'static str,
     kind: Kind,

@@ -4,7 +4,7 @@ use json_span::Node;
 use tk_io::{Sequence, Text};
 
 /// What tokens come from. It borrows from the texts of files alone.
-#[derive(Drop)]
+#[derive(Debug, Drop)]
 pub enum PlanSource<'s> {
     /// A file: its name, and the byte offsets of the beginning and the end of the string that names it.
     File(Text<'s>, usize, usize),
@@ -16,7 +16,7 @@ pub enum PlanSource<'s> {
 pub type PlanSources<'s> = Sequence<PlanSource<'s>>;
 
 /// A permutation: its name and its sources.
-#[derive(Drop)]
+#[derive(Debug, Drop)]
 pub struct PlanPerm<'s> {
     pub name: Text<'s>,
     pub sources: PlanSources<'s>,

@@ -9,7 +9,7 @@ use std::sync::ledger::Ledger;
 use tk_io::{NoMemory, Steps, TextMap};
 
 /// What reading a file answers.
-#[derive(Drop)]
+#[derive(Debug, Drop)]
 pub enum Tree<'s> {
     Read(Node<'s>),
     /// The fault is never out of memory.

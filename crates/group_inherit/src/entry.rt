@@ -6,7 +6,7 @@ use std::rc::Rc;
 use token_tree::{Mark, TokenDef};
 
 /// A token of a flat tree, seen as plain data.
-#[derive(Drop)]
+#[derive(Debug, Drop)]
 pub struct Entry<'s> {
     /// What stands at the token's path. Trees share their definitions.
     pub def: Rc<TokenDef<'s>>,

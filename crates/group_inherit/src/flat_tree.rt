@@ -18,7 +18,7 @@ use std::marker::Model;
 use tk_io::NoMemory;
 
 /// The tokens of a tree under their paths, in path order. It is seen as a finite map from path to token.
-#[derive(Drop)]
+#[derive(Debug, Drop)]
 pub struct Flat<'s> {
     tokens: Vec<(Path<'s>, Entry<'s>)>,
 }

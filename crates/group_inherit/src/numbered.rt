@@ -11,7 +11,7 @@ use tk_io::NoMemory;
 use token_tree::{Child, Group};
 
 /// A group of a tree, and its path.
-#[derive(Drop)]
+#[derive(Debug, Drop)]
 pub(crate) struct Node<'t, 's> {
     pub group: &'t Group<'s>,
     pub path: Path<'s>,

@@ -19,7 +19,7 @@ use tk_io::{NoMemory, Text};
 use token_tree::Child;
 
 /// What a group needs, by numbers.
-#[derive(Drop)]
+#[derive(Debug, Drop)]
 pub(crate) struct Row {
     /// The child groups, in byte order of names.
     pub children: Vec<usize>,

@@ -13,21 +13,21 @@ use transforms::{Config, scale_rem};
 use type_rules::{Curve, Simple, Size, SizeUnit, Time, TimeUnit};
 
 /// A number, or a byte over 255.
-#[derive(Clone, Copy)]
+#[derive(Clone, Copy, Debug)]
 pub(crate) enum Quantity {
     Number(Dec),
     Byte(u8),
 }
 
 /// An argument of a constructor.
-#[derive(Clone, Copy)]
+#[derive(Clone, Copy, Debug)]
 pub(crate) enum Argument {
     Labelled(&'static str, Quantity),
     Bare(Quantity),
 }
 
 /// What a constant holds.
-#[derive(Clone, Copy)]
+#[derive(Clone, Copy, Debug)]
 pub(crate) enum Content<'a> {
     /// A number of a type.
     Number(&'static str, Dec),

@@ -12,7 +12,7 @@ use std::marker::Model;
 use tk_io::{Bytes, NoMemory, Text};
 
 /// Numbers under texts, seen as a finite map.
-#[derive(Drop)]
+#[derive(Debug, Drop)]
 pub(crate) struct Pointers {
     alloc: Global,
     numbers: BTreeMap<Vec<u8>, usize>,

@@ -4,7 +4,7 @@ use json_span::NodeRef;
 use tk_io::{Sequence, Text};
 
 /// A source as it is written.
-#[derive(Drop)]
+#[derive(Debug, Drop)]
 pub enum WrittenSource<'a, 's> {
     /// A file: its name, and the byte offsets of the beginning and the end of the string that names it.
     File(Text<'s>, usize, usize),

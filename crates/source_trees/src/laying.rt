@@ -17,7 +17,7 @@ use tk_io::NoMemory;
 use token_tree::{Group, Members};
 
 /// What sources come to: one tree, or the first rule that one of them breaks.
-#[derive(Drop)]
+#[derive(Debug, Drop)]
 pub enum Merged<'s> {
     Tree(Group<'s>),
     Broken(SourceBreak<'s>),

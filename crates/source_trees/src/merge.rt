@@ -11,7 +11,7 @@ use tk_io::{NoMemory, Steps, TextMap};
 use token_tree::Group;
 
 /// The flat tree of a merged tree, or the first rule of extension that the tree breaks.
-#[derive(Drop)]
+#[derive(Debug, Drop)]
 pub enum Merge<'s> {
     Flat(Flat<'s>),
     /// The fault is never [`TreeFault::NoMemory`].

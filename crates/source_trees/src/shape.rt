@@ -15,7 +15,7 @@ use tk_io::{NoMemory, TextMap};
 use token_tree::{Group, ShapeFault, shape};
 
 /// What the tree of a file, or an object in it, shows: groups and tokens, or the first rule that it breaks.
-#[derive(Drop)]
+#[derive(Debug, Drop)]
 pub enum FileShape<'s> {
     Shows(Group<'s>),
     Breaks(SourceBreak<'s>),
