@@ -40,19 +40,18 @@ digit (suc (suc (suc (suc (suc (suc (suc (suc (suc (suc (suc (suc (suc (suc zero
 digit (suc (suc (suc (suc (suc (suc (suc (suc (suc (suc (suc (suc (suc (suc (suc zero))))))))))))))) h = record { value = refl; hexadecimal = refl; plain = refl }
 digit (suc (suc (suc (suc (suc (suc (suc (suc (suc (suc (suc (suc (suc (suc (suc (suc n)))))))))))))))) h = absurd (omega arith)
 
+-- both digits of a byte
+two_digits : (b : ℕ) → b < 256 → IsDigit (b / 16) × IsDigit (b % 16)
+two_digits b h = (digit (b / 16) (omega arith), digit (b % 16) (omega arith))
+
 byte_value : (b : ℕ) → b < 256 → hex_value (hex_byte b) ≡ b
-byte_value b h =
-    let high = digit (b / 16) (omega arith) in
-    let low = digit (b % 16) (omega arith) in
-    rw (high.value, low.value) (omega arith)
+byte_value b h = let digits = two_digits b h in rw (digits.0.value, digits.1.value) (omega arith)
 
 color_read : (a r g b : ℕ) → a < 256 → r < 256 → g < 256 → b < 256 → hex_color_in (hex_color (a ∷ r ∷ g ∷ b ∷ [])) ≡ Some (color a r g b)
 color_read a r g b ha hr hg hb =
-    let a1 = digit (a / 16) (omega arith) in let a2 = digit (a % 16) (omega arith) in
-    let r1 = digit (r / 16) (omega arith) in let r2 = digit (r % 16) (omega arith) in
-    let g1 = digit (g / 16) (omega arith) in let g2 = digit (g % 16) (omega arith) in
-    let b1 = digit (b / 16) (omega arith) in let b2 = digit (b % 16) (omega arith) in
-    rw (a1.hexadecimal, a2.hexadecimal, r1.hexadecimal, r2.hexadecimal, g1.hexadecimal, g2.hexadecimal, b1.hexadecimal, b2.hexadecimal)
+    let alpha = two_digits a ha in let red = two_digits r hr in
+    let green = two_digits g hg in let blue = two_digits b hb in
+    rw (alpha.0.hexadecimal, alpha.1.hexadecimal, red.0.hexadecimal, red.1.hexadecimal, green.0.hexadecimal, green.1.hexadecimal, blue.0.hexadecimal, blue.1.hexadecimal)
     (ap (λ x. Some (color x (hex_value (hex_byte r)) (hex_value (hex_byte g)) (hex_value (hex_byte b)))) (byte_value a ha)
     ∙ ap (λ x. Some (color a x (hex_value (hex_byte g)) (hex_value (hex_byte b)))) (byte_value r hr)
     ∙ ap (λ x. Some (color a r x (hex_value (hex_byte b)))) (byte_value g hg)
@@ -60,11 +59,9 @@ color_read a r g b ha hr hg hb =
 
 color_plain : (a r g b : ℕ) → a < 256 → r < 256 → g < 256 → b < 256 → list_all no_tag (hex_color (a ∷ r ∷ g ∷ b ∷ [])) ≡ true
 color_plain a r g b ha hr hg hb =
-    let a1 = digit (a / 16) (omega arith) in let a2 = digit (a % 16) (omega arith) in
-    let r1 = digit (r / 16) (omega arith) in let r2 = digit (r % 16) (omega arith) in
-    let g1 = digit (g / 16) (omega arith) in let g2 = digit (g % 16) (omega arith) in
-    let b1 = digit (b / 16) (omega arith) in let b2 = digit (b % 16) (omega arith) in
-    rw (a1.plain, a2.plain, r1.plain, r2.plain, g1.plain, g2.plain, b1.plain, b2.plain) refl
+    let alpha = two_digits a ha in let red = two_digits r hr in
+    let green = two_digits g hg in let blue = two_digits b hb in
+    rw (alpha.0.plain, alpha.1.plain, red.0.plain, red.1.plain, green.0.plain, green.1.plain, blue.0.plain, blue.1.plain) refl
 
 -- numbers
 number_read : (f : Decimal → List ℕ → Option Content) (d : Decimal) (t : List ℕ) → IsDec d → ends_number t ≡ true → numbered f (spelling d ++ t) ≡ f d t

@@ -145,6 +145,10 @@ none_merged xs ys m e q =
 
 -- The turns over two lists of members.
 
+-- the members that a map has stand in byte order of names
+pub members_sorted : (m : Named) (items : List Member) → map_list member_view items ≡ map.entries m → T (is_sorted text_cmp (map_list member_view items))
+members_sorted m items same = subst (λ (l : Entries). T (is_sorted text_cmp l)) (sym same) (map.entries_sorted m)
+
 rest_sorted : (list : List Member) (i : ℕ) (x : Member) → T (is_sorted text_cmp (map_list member_view list)) → i < length list → x ≡ get_or list i x → T (is_sorted text_cmp (member_view x ∷ drop (i + 1) (map_list member_view list)))
 rest_sorted list i x s h e = subst (λ (l : Entries). T (is_sorted text_cmp l)) (first_left member_view list i x h e) (sorted_drop i (map_list member_view list) s)
 

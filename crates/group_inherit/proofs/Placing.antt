@@ -10,13 +10,18 @@ use Rattle.std.specs.FinMap as map_of
 use Rattle.std.specs.FinMap.{slice_cmp-IsAntisymmetric, nat_cmp-IsAntisymmetric}
 use Rattle.tk_io.specs.Order.{names_cmp}
 use Rattle.token_tree.specs.Tree.{Definition, Extension, Child, a_token, a_group, Group, children_of}
+use Rattle.token_tree.specs.View.{child_view, member_view}
+use Rattle.token_tree.specs.declared.tree.Member.{Member}
 use Rattle.group_inherit.specs.declared.fault.TreeFault.{TreeFault}
 use Rattle.group_inherit.specs.declared.fault.TreeFault.TheVariants.{ExtendsTarget, ExtendsCycle, TooManyTokens, TooHigh, NoMemory}
+use Rattle.group_inherit.specs.declared.numbered.Node.{Node}
 use Rattle.group_inherit.specs.declared.targets.Row.{Row}
 use Rattle.group_inherit.specs.inner.Faults.{IsLostTarget}
 use Rattle.group_inherit.specs.Extension.{GroupPath, Lost, extension_of, names_of_groups, group_names, lost_unless, lost_at}
 use Rattle.group_inherit.specs.inner.Numbering.{GroupAt, numbered_path, Places, ArePlaces, AreNumbered, EachNumbered, IsRow, EachRow, numbers_of, has_number, lost_of, lost_nodes}
+use Rattle.group_inherit.specs.inner.View.{group_node_view}
 use Rattle.group_inherit.proofs.Numbers.{Entries}
+use Rattle.group_inherit.proofs.Turns.{first_entry, no_entry, first_left}
 
 tied : (r : Ordering) → is_eq r ≡ true → r ≡ Equal
 tied Less e = cc
@@ -69,17 +74,17 @@ pub record Kids (places : Places) (path : GroupPath) (all : List (Option ℕ)) (
   pub known : AreNumbered places path (children_of left)
 
 module _ (places : Places) (path : GroupPath) (all : List (Option ℕ)) where
-  pub kid_token : (row : List ℕ) (name : List ℕ) (c : Child) (left : Entries) (d : Definition) → c ≡ a_token d → Kids places path all row ((name, c) ∷ left) → Kids places path all row left
+  kid_token : (row : List ℕ) (name : List ℕ) (c : Child) (left : Entries) (d : Definition) → c ≡ a_token d → Kids places path all row ((name, c) ∷ left) → Kids places path all row left
   kid_token row name c left d is k =
       let q : Kids places path all row ((name, a_token d) ∷ left) = subst (λ (x : Child). Kids places path all row ((name, x) ∷ left)) is k in
       record { numbers = q.numbers; known = q.known.1 }
 
-  pub kid_known : (row : List ℕ) (name : List ℕ) (c : Child) (left : Entries) (g : Group) → c ≡ a_group g → Kids places path all row ((name, c) ∷ left) → (v : ℕ) × (map_of.get places (path ++ name ∷ []) ≡ Some v)
+  kid_known : (row : List ℕ) (name : List ℕ) (c : Child) (left : Entries) (g : Group) → c ≡ a_group g → Kids places path all row ((name, c) ∷ left) → (v : ℕ) × (map_of.get places (path ++ name ∷ []) ≡ Some v)
   kid_known row name c left g is k =
       let q : Kids places path all row ((name, a_group g) ∷ left) = subst (λ (x : Child). Kids places path all row ((name, x) ∷ left)) is k in
       q.known.0
 
-  pub kid_group : (row more : List ℕ) (name : List ℕ) (c : Child) (left : Entries) (g : Group) (v : ℕ) → c ≡ a_group g → Some v ≡ map_of.get places (path ++ name ∷ []) → more ≡ row ++ v ∷ [] →
+  kid_group : (row more : List ℕ) (name : List ℕ) (c : Child) (left : Entries) (g : Group) (v : ℕ) → c ≡ a_group g → Some v ≡ map_of.get places (path ++ name ∷ []) → more ≡ row ++ v ∷ [] →
       Kids places path all row ((name, c) ∷ left) → Kids places path all more left
   kid_group row more name c left g v is found made k =
       let q : Kids places path all row ((name, a_group g) ∷ left) = subst (λ (x : Child). Kids places path all row ((name, x) ∷ left)) is k in
@@ -92,6 +97,27 @@ module _ (places : Places) (path : GroupPath) (all : List (Option ℕ)) where
             ∙ (append_assoc some (Some v ∷ []) rest ∙ (ap (λ (o : Option ℕ). some ++ o ∷ rest) found ∙ q.numbers)));
         known = q.known.1;
       }
+
+  -- a turn over the members of the group
+  module _ (items : List Member) (es : Entries) (same : map member_view items ≡ es) (i : ℕ) (row : List ℕ) (k : Kids places path all row (drop i es)) where
+    module _ (x : Member) (h : i < length items) (is : x ≡ get_or items i x) where
+      here : Kids places path all row (member_view x ∷ drop (i + 1) es)
+      here = subst (Kids places path all row) (first_entry items es i x same h is) k
+
+      pub turn_token : (d : Definition) → child_view x.child ≡ a_token d → Kids places path all row (drop (i + 1) es)
+      turn_token d e = kid_token row x.name (child_view x.child) (drop (i + 1) es) d e here
+
+      pub turn_known : (g : Group) → child_view x.child ≡ a_group g → (v : ℕ) × (map_of.get places (path ++ x.name ∷ []) ≡ Some v)
+      turn_known g e = kid_known row x.name (child_view x.child) (drop (i + 1) es) g e here
+
+      pub turn_group : (more : List ℕ) (g : Group) (v : ℕ) → child_view x.child ≡ a_group g → Some v ≡ map_of.get places (path ++ x.name ∷ []) → more ≡ row ++ v ∷ []
+          → Kids places path all more (drop (i + 1) es)
+      turn_group more g v e found made = kid_group row more x.name (child_view x.child) (drop (i + 1) es) g v e found made here
+
+    pub all_kids : length items ≤ i → map (λ (v : ℕ). Some v) row ≡ all
+    all_kids h =
+        let gone : Kids places path all row [] = subst (Kids places path all row) (no_entry items es i same h) k in
+        sym (append-nil (map (λ (v : ℕ). Some v) row)) ∙ gone.numbers
 
 -- The child groups and the target.
 
@@ -131,6 +157,11 @@ pub record Rowing (places : Places) (nodes : List GroupAt) (rows : List Row) (le
   pub rows_are : (rest : List Row) → EachRow places left rest → EachRow places nodes (rows ++ rest)
   pub sound : lost_nodes places left ≡ lost_nodes places nodes
   pub known : EachNumbered places left
+
+-- the turn's node is the first of those that are left
+pub next_row : (places : Places) (all : List GroupAt) (rows : List Row) (nodes : List Node) (i : ℕ) (x : Node) → i < length nodes → x ≡ get_or nodes i x
+    → Rowing places all rows (drop i (map group_node_view nodes)) → Rowing places all rows (group_node_view x ∷ drop (i + 1) (map group_node_view nodes))
+next_row places all rows nodes i x h e = subst (Rowing places all rows) (first_left group_node_view nodes i x h e)
 
 pub one_row_more : (places : Places) (nodes : List GroupAt) (rows more : List Row) (n : GroupAt) (left : List GroupAt) (row : Row) → Rowing places nodes rows (n ∷ left) → IsRow places n row → lost_of places n ≡ [] → more ≡ rows ++ row ∷ [] → Rowing places nodes more left
 one_row_more places nodes rows more n left row r is none made = record {

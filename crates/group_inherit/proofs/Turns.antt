@@ -1,5 +1,5 @@
 -- The turns of a loop over the entries of a map.
-use Rattle.std.proofs.Common.{◌≡◌, ℕ, ◌+◌, ◌<◌, ◌≤◌, List, [], ◌∷◌, map, drop, length, get_or, sym, ap, ◌∙◌, arith, drop-cons, add-one}
+use Rattle.std.proofs.Common.{◌≡◌, ℕ, ◌+◌, ◌<◌, ◌≤◌, List, [], ◌∷◌, map, drop, length, get_or, sym, ap, ◌∙◌, subst, arith, drop-cons, add-one}
 use Rattle.std.proofs.lemmas.List.{get_or-map, drop_all, length-map}
 use Rattle.std.specs.FinMap as finite
 use Rattle.token_tree.specs.Tree.{Child as ChildData, Named, children_of}
@@ -18,6 +18,14 @@ first_left v xs i x h e =
 -- at the end none is left
 pub none_left : {A B : Type 0} (v : A → B) (xs : List A) (i : ℕ) → length xs ≤ i → drop i (map v xs) ≡ []
 none_left v xs i h = drop_all i (map v xs) (omega (arith, h, length-map xs v))
+
+-- the same of the entries that members show
+pub first_entry : (items : List Member) (es : List (List ℕ × ChildData)) (i : ℕ) (x : Member) → map member_view items ≡ es → i < length items → x ≡ get_or items i x
+    → drop i es ≡ member_view x ∷ drop (i + 1) es
+first_entry items es i x same h e = subst (λ (l : List (List ℕ × ChildData)). drop i l ≡ member_view x ∷ drop (i + 1) l) same (first_left member_view items i x h e)
+
+pub no_entry : (items : List Member) (es : List (List ℕ × ChildData)) (i : ℕ) → map member_view items ≡ es → length items ≤ i → drop i es ≡ []
+no_entry items es i same h = subst (λ (l : List (List ℕ × ChildData)). drop i l ≡ []) same (none_left member_view items i h)
 
 -- an entry of a group is lighter than all
 pub entry_lighter : (items : List Member) (es : List (List ℕ × ChildData)) (i : ℕ) (x : Member) → map member_view items ≡ es → i < length items → x ≡ get_or items i x

@@ -1,11 +1,12 @@
 -- From the numbered groups to the tree: its breaks, and that it has none.
-use Rattle.std.proofs.Common.{◌≡◌, ℕ, ◌<◌, min, List, [], get_or, refl, sym, ap, ◌∙◌, subst, length, arith, All, Vec}
+use Rattle.std.proofs.Common.{◌≡◌, ℕ, ◌<◌, min, List, [], map, get_or, refl, sym, ap, ◌∙◌, subst, length, arith, All, Vec}
 use Rattle.std.proofs.lemmas.List.{get_or_read, length-map}
 use Rattle.std.specs.declared.alloc.Global.{Global}
 use Rattle.ring.specs.declared.search.Found.{Found}
 use Rattle.ring.specs.declared.search.Found.TheVariants.{Ring}
 use Rattle.ring.specs.Answer.{IfRing}
 use Rattle.ring.specs.Graph.{needs_in, IsGraph}
+use Rattle.ring.specs.Order.{Follows}
 use Rattle.ring.specs.Routes.{IsRing, HasNoRing}
 use Rattle.ring.specs.Values.{Comes, IsTotal}
 use Rattle.token_tree.specs.Tree.{Group, group}
@@ -14,14 +15,14 @@ use Rattle.group_inherit.specs.declared.fault.TreeFault.TheVariants.{ExtendsTarg
 use Rattle.group_inherit.specs.Extension.{GroupPath, groups_from, Lost, at_path, needs, lost_targets, count_of, Counts, ring_extension}
 use Rattle.group_inherit.specs.Answer.{most_told, IsFirstLost, IsTreeBreak}
 use Rattle.group_inherit.specs.inner.Faults.{IsLostTarget, IsReportOf}
-use Rattle.group_inherit.specs.inner.Numbering.{GroupAt, numbered_group, AreNamed, IsNumbering, Places, ArePlaces, EachNumbered, EachRow, lost_nodes, AreRows, AreNeeds}
+use Rattle.group_inherit.specs.inner.Numbering.{GroupAt, numbered_group, AreNamed, IsNumbering, Places, ArePlaces, EachNumbered, EachRow, lost_nodes, needs_by, AreRows, AreListed, AreNeeds}
 use Rattle.group_inherit.specs.declared.targets.Row.{Row}
 use Rattle.group_inherit.specs.declared.numbered.Node.{Node}
 use Rattle.group_inherit.specs.inner.View.{group_node_view, nodes_view}
 use Rattle.group_inherit.specs.inner.Outcomes.{own_counts}
 use Rattle.group_inherit.proofs.Counting.{counts_are}
 use Rattle.group_inherit.proofs.Reports.{reported_at}
-use Rattle.group_inherit.proofs.Trees.{some_nodes, at_tree, each_known, each_row, lost_are, tree_ring, tree_no_ring, tree_value}
+use Rattle.group_inherit.proofs.Trees.{lists_graph, lists_needs, lists_follow, some_nodes, at_tree, each_known, each_row, lost_are, tree_ring, tree_no_ring, tree_value}
 
 module _ (nodes : List GroupAt) (n : IsNumbering nodes) where
   module _ (places : Places) (p : ArePlaces nodes (length nodes) places) where
@@ -80,6 +81,23 @@ module _ (nodes : List GroupAt) (n : IsNumbering nodes) where
 -- the lists of nodes are those of the groups that the nodes show
 pub as_many : (ns : List Node) (lists : List (Vec ℕ Global)) → length lists ≡ length ns → length lists ≡ length (nodes_view ns)
 as_many ns lists e = e ∙ sym (length-map ns group_node_view)
+
+-- what the slice of the lists is, where these have the numbers of the rows
+module _ (ns : List Node) (rows : List Row) (long : length rows ≡ length ns) (each : AreRows (nodes_view ns) rows) (slice lists : List (Vec ℕ Global)) (is : slice ≡ lists) (listed : AreListed rows lists) where
+  rows_long : length rows ≡ length (nodes_view ns)
+  rows_long = long ∙ sym (length-map ns group_node_view)
+
+  slice_listed : AreListed rows slice
+  slice_listed = ap (map (λ (l : Vec ℕ Global). l.items)) is ∙ listed
+
+  pub slice_graph : IsGraph slice
+  slice_graph = lists_graph (nodes_view ns) rows slice rows_long each slice_listed
+
+  pub slice_needs : AreNeeds (nodes_view ns) slice
+  slice_needs = lists_needs (nodes_view ns) rows slice rows_long each slice_listed
+
+  pub slice_follow : (order : List ℕ) → Follows (needs_in slice) [] order → Follows (needs_by rows) [] order
+  slice_follow = lists_follow (nodes_view ns) rows slice rows_long each slice_listed
 
 -- the ring that was found, of numbers of nodes
 pub found_ring : (ns : List Node) (lists : List (Vec ℕ Global)) (f : Found) (ring : Vec ℕ Global) → length lists ≡ length ns → f ≡ Ring ring

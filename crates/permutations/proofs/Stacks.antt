@@ -32,6 +32,10 @@ popped stack rest part is =
     ap (λ ps. reverse (parts_view ps)) is
     ∙ (ap reverse (map-append part_view rest (part ∷ [])) ∙ reverse-append (parts_view rest) (part_view part ∷ []))
 
+pub popped_solid : (f : ℕ → List TokenSource) (rows : List RowData) (K : ℕ → Type 0) (stack rest : List Part) (part : Part) → stack ≡ rest ++ part ∷ []
+    → AreSolid f rows K (reverse (parts_view stack)) → AreSolid f rows K (part_view part ∷ reverse (parts_view rest))
+popped_solid f rows K stack rest part is = subst (AreSolid f rows K) (popped stack rest part is)
+
 -- what comes in place of a part, before the rest
 abbrev pub after : List RowData → PartData → List PartData → List PartData
 after rows part rest = reverse (parts_left rows part) ++ rest

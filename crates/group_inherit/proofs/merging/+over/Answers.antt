@@ -1,17 +1,15 @@
-use Rattle.std.proofs.Common.{◌≡◌, ℕ, true, T, List, [], inl, inr, ◌⊎◌, ◌==◌, drop, option_map, arith, ap, ap₂, sym, subst, ◌∙◌}
+use Rattle.std.proofs.Common.{◌≡◌, ℕ, true, List, [], inl, inr, ◌⊎◌, ◌==◌, drop, option_map, arith, ap, ap₂, sym, ◌∙◌}
 use Rattle.std.proofs.Common.{map as map_list}
 use Rattle.std.proofs.lemmas.Bool.Decides.{nat_tests}
 use Rattle.std.proofs.lemmas.Result.{IfOk-weaker}
 use Rattle.std.specs.FinMap as map
-use Rattle.std.specs.FinMap.Entries.{is_sorted}
-use Rattle.tk_io.specs.Order.{text_cmp}
 use Rattle.token_tree.specs.Tree.{Properties, group_with, children_of}
 use Rattle.token_tree.specs.View.{extends_view, child_view, member_view, members_view, properties_view}
 use Rattle.token_tree.specs.declared.tree.Member.{Member}
 use Rattle.group_inherit.specs.Merging.{over_properties, over_members}
 use Rattle.group_inherit.proofs.Options.{copied_or, map_or}
 use Rattle.group_inherit.proofs.Overs.{named_entries}
-use Rattle.group_inherit.proofs.Merges.{Entries, none_merged, later_turn, earlier_turn, both_turn, all_merged, over_of, over_nothing, over_members_alone}
+use Rattle.group_inherit.proofs.Merges.{members_sorted, none_merged, later_turn, earlier_turn, both_turn, all_merged, over_of, over_nothing, over_members_alone}
 use Rattle.group_inherit.proofs.Turns.{none_left, entry_lighter}
 use Rattle.group_inherit.proofs.merging.+over.Goals.{merged-then-loop-i-test+else-j-lower, merged-else-loop-i-test}
 use Rattle.group_inherit.proofs.merging.+over.Goals as goal
@@ -57,8 +55,8 @@ merged-loop-i-init t c = record {
 
 pub merged-loop-i-preserved-in-Less : goal.merged-loop-i-preserved-in-Less
 merged-loop-i-preserved-in-Less t c =
-    let s : T (is_sorted text_cmp (map_list member_view c.as_slice-upper.result.now)) = subst (λ (l : Entries). T (is_sorted text_cmp l)) (sym c.as_slice-upper.ensures) (map.entries_sorted c.args.later.now) in
-    let r : T (is_sorted text_cmp (map_list member_view c.as_slice-lower.result.now)) = subst (λ (l : Entries). T (is_sorted text_cmp l)) (sym c.as_slice-lower.ensures) (map.entries_sorted c.args.earlier.now) in
+    let s = members_sorted c.args.later.now _ c.as_slice-upper.ensures in
+    let r = members_sorted c.args.earlier.now _ c.as_slice-lower.ensures in
     record {
       upper = omega (arith, c.loop-i-test.true);
       lower = c.loop-i.invariant.lower;
@@ -69,8 +67,8 @@ merged-loop-i-preserved-in-Less t c =
 
 pub merged-loop-i-preserved-in-Equal : goal.merged-loop-i-preserved-in-Equal
 merged-loop-i-preserved-in-Equal t c =
-    let s : T (is_sorted text_cmp (map_list member_view c.as_slice-upper.result.now)) = subst (λ (l : Entries). T (is_sorted text_cmp l)) (sym c.as_slice-upper.ensures) (map.entries_sorted c.args.later.now) in
-    let r : T (is_sorted text_cmp (map_list member_view c.as_slice-lower.result.now)) = subst (λ (l : Entries). T (is_sorted text_cmp l)) (sym c.as_slice-lower.ensures) (map.entries_sorted c.args.earlier.now) in
+    let s = members_sorted c.args.later.now _ c.as_slice-upper.ensures in
+    let r = members_sorted c.args.earlier.now _ c.as_slice-lower.ensures in
     record {
       upper = omega (arith, c.loop-i-test.true);
       lower = omega (arith, c.if-j-lower.true);
@@ -81,8 +79,8 @@ merged-loop-i-preserved-in-Equal t c =
 
 pub merged-loop-i-preserved : goal.merged-loop-i-preserved
 merged-loop-i-preserved t c =
-    let s : T (is_sorted text_cmp (map_list member_view c.as_slice-upper.result.now)) = subst (λ (l : Entries). T (is_sorted text_cmp l)) (sym c.as_slice-upper.ensures) (map.entries_sorted c.args.later.now) in
-    let r : T (is_sorted text_cmp (map_list member_view c.as_slice-lower.result.now)) = subst (λ (l : Entries). T (is_sorted text_cmp l)) (sym c.as_slice-lower.ensures) (map.entries_sorted c.args.earlier.now) in
+    let s = members_sorted c.args.later.now _ c.as_slice-upper.ensures in
+    let r = members_sorted c.args.earlier.now _ c.as_slice-lower.ensures in
     record {
       upper = c.loop-i.invariant.upper;
       lower = omega (arith, c.if-j-lower.true);
@@ -95,8 +93,8 @@ pub merged-returns : goal.merged-returns
 merged-returns t c =
     let upper : List Member = c.as_slice-upper.result.now in
     let lower : List Member = c.as_slice-lower.result.now in
-    let s : T (is_sorted text_cmp (map_list member_view upper)) = subst (λ (l : Entries). T (is_sorted text_cmp l)) (sym c.as_slice-upper.ensures) (map.entries_sorted c.args.later.now) in
-    let r : T (is_sorted text_cmp (map_list member_view lower)) = subst (λ (l : Entries). T (is_sorted text_cmp l)) (sym c.as_slice-lower.ensures) (map.entries_sorted c.args.earlier.now) in
+    let s = members_sorted c.args.later.now _ c.as_slice-upper.ensures in
+    let r = members_sorted c.args.earlier.now _ c.as_slice-lower.ensures in
     let ended : (drop c.loop-i.i (map_list member_view upper) ≡ []) ⊎ (drop c.loop-i.j (map_list member_view lower) ≡ []) =
     elim c.loop-i-test.branch [
       | merged-then-loop-i-test+else-j-lower w ↦ inr (none_left member_view lower c.loop-i.j w.if-j-lower.false)

@@ -1,8 +1,6 @@
-use Rattle.std.proofs.Common.{◌≡◌, ℕ, T, ◌+◌, List, [], ◌∷◌, ◌++◌, sym, ap, ◌∙◌, subst, map, drop, arith, append-nil, append_assoc}
+use Rattle.std.proofs.Common.{◌≡◌, ℕ, ◌+◌, List, [], ◌∷◌, ◌++◌, sym, ap, ◌∙◌, subst, drop, arith, append-nil, append_assoc}
 use Rattle.std.proofs.lemmas.List.{map_push}
 use Rattle.std.specs.FinMap as map_of
-use Rattle.std.specs.FinMap.Entries.{is_sorted}
-use Rattle.tk_io.specs.Order.{text_cmp}
 use Rattle.token_tree.specs.Tree.{a_group, children_of}
 use Rattle.token_tree.specs.View.{member_view, child_view, members_view, group_view}
 use Rattle.group_inherit.specs.Extension.{groups_from, groups_among}
@@ -10,9 +8,8 @@ use Rattle.group_inherit.specs.inner.Numbering.{GroupAt}
 use Rattle.group_inherit.specs.inner.View.{group_node_view, nodes_view}
 use Rattle.group_inherit.specs.declared.numbered.Node.{Node}
 use Rattle.token_tree.specs.declared.tree.Group.{Group as GroupValue}
-use Rattle.group_inherit.proofs.Naming.{sorted_drop, sorted_lacks}
-use Rattle.group_inherit.proofs.Numbers.{Entries, Progress, past_token, past_group, size_in, size_at}
-use Rattle.group_inherit.proofs.Turns.{first_left, none_left}
+use Rattle.group_inherit.proofs.Numbers.{Entries, Progress, turn_token, turn_group, size_in, size_at}
+use Rattle.group_inherit.proofs.Turns.{first_entry, no_entry}
 use Rattle.group_inherit.proofs.numbered.+add_groups.Goals as goal
 
 pub add_groups-requires : goal.add_groups-requires
@@ -21,53 +18,35 @@ add_groups-requires t c =
     let es : Entries = map_of.entries (members_view c.args.group.now.members) in
     let i = c.loop-member.member-index in
     let x = c.member-item.result in
-    let same : map member_view items ≡ es = c.as_slice-member-items.ensures in
-    let first : drop i es ≡ member_view x ∷ drop (i + 1) es = subst (λ (l : Entries). drop i l ≡ member_view x ∷ drop (i + 1) l) same (first_left member_view items i x c.loop-member-test.true c.member-item.is) in
+    let first = first_entry items es i x c.as_slice-member-items.ensures c.loop-member-test.true c.member-item.is in
     let is : child_view x.child ≡ a_group (group_view c.deref.result.now) = ap child_view c.in-Group.is ∙ ap (λ (g : GroupValue). a_group (group_view g)) (sym c.deref.ensures) in
     (omega (arith, size_at es i (member_view x) (drop (i + 1) es) first, ap size_in is, c.decreases), tt)
 
 pub loop-member-preserved : goal.loop-member-preserved
 loop-member-preserved t c =
-    let items = c.as_slice-member-items.result.now in
     let es : Entries = map_of.entries (members_view c.args.group.now.members) in
-    let i = c.loop-member.member-index in
     let x = c.member-item.result in
-    let same : map member_view items ≡ es = c.as_slice-member-items.ensures in
-    let left = drop (i + 1) es in
-    let first : drop i es ≡ member_view x ∷ left = subst (λ (l : Entries). drop i l ≡ member_view x ∷ drop (i + 1) l) same (first_left member_view items i x c.loop-member-test.true c.member-item.is) in
     let is : child_view x.child ≡ a_group (group_view c.deref.result.now) = ap child_view c.in-Group.is ∙ ap (λ (g : GroupValue). a_group (group_view g)) (sym c.deref.ensures) in
-    let all = nodes_view c.push.new.self.items ++ groups_among c.args.path.now (children_of es) in
     let nodes = nodes_view c.loop-member.nodes.items in
-    let p : Progress c.args.path.now all es nodes (member_view x ∷ left) = subst (Progress c.args.path.now all es nodes) first c.loop-member.invariant in
     let below : c.push-in-loop-member.new.self ≡ c.args.path.now ++ x.name ∷ [] =
     c.in_ok-push-2.ensures.ok ∙ (ap (λ (q : List (List ℕ)). q ++ c.in_ok-copy.field-0 ∷ []) c.in_ok-below.ensures ∙ ap (λ (n : List ℕ). c.args.path.now ++ n ∷ []) c.in_ok-copy.ensures) in
     let added : nodes_view c.add_groups.new.nodes.items ≡ nodes ++ groups_from (c.args.path.now ++ x.name ∷ []) (group_view c.deref.result.now) =
     c.in_ok-add_groups.ensures.all ∙ ap (λ (q : List (List ℕ)). nodes ++ groups_from q (group_view c.deref.result.now)) below in
-    past_group c.args.path.now all es nodes (nodes_view c.add_groups.new.nodes.items) x.name (child_view x.child) left (group_view c.deref.result.now) is
-    (sorted_lacks (member_view x) left (subst (λ (l : Entries). T (is_sorted text_cmp l)) first (sorted_drop i es (map_of.entries_sorted (members_view c.args.group.now.members))))) added c.in_ok-add_groups.ensures.named p
+    turn_group c.args.path.now _ es c.as_slice-member-items.result.now c.as_slice-member-items.ensures (map_of.entries_sorted (members_view c.args.group.now.members)) c.loop-member.member-index
+    nodes c.loop-member.invariant x c.loop-member-test.true c.member-item.is (nodes_view c.add_groups.new.nodes.items) (group_view c.deref.result.now) is added c.in_ok-add_groups.ensures.named
 
 pub loop-member-preserved-in_default : goal.loop-member-preserved-in_default
 loop-member-preserved-in_default t c =
-    let items = c.as_slice-member-items.result.now in
     let es : Entries = map_of.entries (members_view c.args.group.now.members) in
-    let i = c.loop-member.member-index in
-    let x = c.member-item.result in
-    let same : map member_view items ≡ es = c.as_slice-member-items.ensures in
-    let left = drop (i + 1) es in
-    let first : drop i es ≡ member_view x ∷ left = subst (λ (l : Entries). drop i l ≡ member_view x ∷ drop (i + 1) l) same (first_left member_view items i x c.loop-member-test.true c.member-item.is) in
-    let all = nodes_view c.push.new.self.items ++ groups_among c.args.path.now (children_of es) in
-    let nodes = nodes_view c.loop-member.nodes.items in
-    let p : Progress c.args.path.now all es nodes (member_view x ∷ left) = subst (Progress c.args.path.now all es nodes) first c.loop-member.invariant in
-    past_token c.args.path.now all es nodes x.name (child_view x.child) left c.in_default.field-0.value (ap child_view c.in_default.is)
-    (sorted_lacks (member_view x) left (subst (λ (l : Entries). T (is_sorted text_cmp l)) first (sorted_drop i es (map_of.entries_sorted (members_view c.args.group.now.members))))) p
+    turn_token c.args.path.now _ es c.as_slice-member-items.result.now c.as_slice-member-items.ensures (map_of.entries_sorted (members_view c.args.group.now.members)) c.loop-member.member-index
+    (nodes_view c.loop-member.nodes.items) c.loop-member.invariant c.member-item.result c.loop-member-test.true c.member-item.is c.in_default.field-0.value (ap child_view c.in_default.is)
 
 pub returns : goal.returns
 returns t c =
     let items = c.as_slice-member-items.result.now in
     let es : Entries = map_of.entries (members_view c.args.group.now.members) in
     let i = c.loop-member.member-index in
-    let same : map member_view items ≡ es = c.as_slice-member-items.ensures in
-    let gone : drop i es ≡ [] = subst (λ (l : Entries). drop i l ≡ []) same (none_left member_view items i c.loop-member-test.false) in
+    let gone = no_entry items es i c.as_slice-member-items.ensures c.loop-member-test.false in
     let g = c.args.group.now in
     let old = nodes_view c.args.nodes.now.items in
     let before = nodes_view c.push.new.self.items in

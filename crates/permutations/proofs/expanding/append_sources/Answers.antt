@@ -7,7 +7,7 @@ use Rattle.permutations.specs.View.{token_sources_view}
 use Rattle.permutations.specs.inner.Parts.{part_view, parts_view, parts_in, row_view, rows_view, part_sources, HaveRows, AreSolid}
 use Rattle.permutations.specs.inner.Expanding.{parts_left}
 use Rattle.permutations.proofs.Known.{named_known}
-use Rattle.permutations.proofs.Stacks.{popped, put_back, begun, after, weight, kept, solid_after, lighter, placed, all_tell}
+use Rattle.permutations.proofs.Stacks.{popped, popped_solid, put_back, begun, after, weight, kept, solid_after, lighter, placed, all_tell}
 use Rattle.permutations.proofs.expanding.append_sources.Goals as goal
 
 pub loop-part-init : goal.loop-part-init
@@ -33,8 +33,7 @@ pub expand-requires : goal.expand-requires
 expand-requires c =
     let sets = sets_view c.args.table.now.sets.now in
     let rows = rows_view c.args.table.now.rows.items in
-    let top = popped c.loop-part.stack.items c.pop.new.self.items c.in-Some.part c.in-Some.ensures.items in
-    let solid = subst (λ ps. AreSolid (set_sources sets) rows (λ w. w < length sets) ps) top c.loop-part.invariant.solid in
+    let solid = popped_solid (set_sources sets) rows (λ w. w < length sets) c.loop-part.stack.items c.pop.new.self.items c.in-Some.part c.in-Some.ensures.items c.loop-part.invariant.solid in
     let has_rows : length c.as_slice-in-Some.result.now ≡ length sets =
     ap length c.as_slice-in-Some.ensures.value ∙ (sym (length-map c.args.table.now.rows.items row_view) ∙ c.requires.tells.long) in
     placed (set_sources sets) (length sets) rows c.requires.tells (part_view c.in-Some.part) (length c.as_slice-in-Some.result.now) has_rows (solid (part_view c.in-Some.part) (inl refl))
@@ -47,7 +46,7 @@ loop-part-smaller c =
     let part = part_view c.in-Some.part in
     let rest = parts_view c.pop.new.self.items in
     let top = popped c.loop-part.stack.items c.pop.new.self.items c.in-Some.part c.in-Some.ensures.items in
-    let solid = subst (λ ps. AreSolid f rows (λ w. w < length sets) ps) top c.loop-part.invariant.solid in
+    let solid = popped_solid f rows (λ w. w < length sets) c.loop-part.stack.items c.pop.new.self.items c.in-Some.part c.in-Some.ensures.items c.loop-part.invariant.solid in
     let next : reverse (parts_view c.expand.new.stack.items) ≡ after rows part (reverse rest) =
     put_back rows (parts_view c.expand.new.stack.items) rest part
     (c.in_ok-expand.ensures.left ∙ ap (λ rs. rest ++ parts_left (rows_view rs) part) c.as_slice-in-Some.ensures.value) in
@@ -64,7 +63,7 @@ loop-part-preserved c =
     let rest = parts_view c.pop.new.self.items in
     let out = token_sources_view c.loop-part.out in
     let top = popped c.loop-part.stack.items c.pop.new.self.items c.in-Some.part c.in-Some.ensures.items in
-    let solid = subst (λ ps. AreSolid f rows (λ w. w < length sets) ps) top c.loop-part.invariant.solid in
+    let solid = popped_solid f rows (λ w. w < length sets) c.loop-part.stack.items c.pop.new.self.items c.in-Some.part c.in-Some.ensures.items c.loop-part.invariant.solid in
     let next : reverse (parts_view c.expand.new.stack.items) ≡ after rows part (reverse rest) =
     put_back rows (parts_view c.expand.new.stack.items) rest part
     (c.in_ok-expand.ensures.left ∙ ap (λ rs. rest ++ parts_left (rows_view rs) part) c.as_slice-in-Some.ensures.value) in
