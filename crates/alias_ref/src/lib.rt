@@ -23,5 +23,5 @@ pub use laws::{
     unchanged_is_alike,
 };
 pub use refs::refs_of;
-pub use resolved::{Resolved, evaluate};
+pub use resolved::{Resolved, evaluate, evaluate_entry};
 pub use span::span_of;

@@ -7,10 +7,10 @@ ghost use Rattle.alias_ref.specs.Answer.{IsResolved, IsRefBreak, HasRealRing};
 ghost use Rattle.alias_ref.specs.Written.{written_in};
 
 use crate::fault::{RefFault, RefRule};
-use crate::spot::whole_spot;
+use crate::spot::token_spot;
 use crate::trace::{Trace, broken};
 use crate::walking::walk;
-use group_inherit::Flat;
+use group_inherit::{Entry, Flat};
 use json_span::Plain;
 use name_path::{Kind, Links, Path, Place, Trail};
 use std::alloc::Global;
@@ -47,10 +47,31 @@ pub fn evaluate<'s, N: Ledger>(
     ensures broken { IfErr result (λ e. IsRefBreak flat.now path.now e) }
     ensures ring { IfErr result (λ e. HasRealRing (written_in flat.now) e) }
 {
-    evals.tick();
-    let Some(spot) = whole_spot(alloc, flat, path)? else {
+    let Some(entry) = flat.get(path) else {
         unreachable!()
     };
+    evaluate_entry(alloc, flat, path, entry, evals)
+}
+
+/// What a token comes to that is at hand: the flat tree holds it under the path. Else as [`evaluate`].
+///
+/// # Errors
+/// Those of [`evaluate`].
+pub fn evaluate_entry<'s, N: Ledger>(
+    alloc: Global,
+    flat: &Flat<'s>,
+    path: &Path<'s>,
+    entry: &Entry<'s>,
+    evals: &mut Steps<N>,
+) -> Result<Resolved<'s>, RefFault<'s>>
+    requires token { map.get flat.now path.now ≡ Some entry.now }
+    ensures step { evals.new ≡ evals.old + 1 }
+    ensures resolved { IfOk result (λ r. IsResolved flat.now path.now r) }
+    ensures broken { IfErr result (λ e. IsRefBreak flat.now path.now e) }
+    ensures ring { IfErr result (λ e. HasRealRing (written_in flat.now) e) }
+{
+    evals.tick();
+    let spot = token_spot(alloc, path, entry)?;
     let mut trace = Trace::new(alloc);
     let mut links = Links::new(alloc);
     let found = walk(alloc, flat, spot, true, &mut trace, &mut links)?;

@@ -26,33 +26,47 @@ pub(crate) struct Spot<'a, 's> {
     pub(crate) content: Content<'a, 's>,
 }
 
-/// The whole value of a token; none where there is no such token.
-pub(crate) fn whole_spot<'a, 's>(
+/// The whole value of a token that is at hand.
+pub(crate) fn token_spot<'a, 's>(
     alloc: Global,
-    flat: &'a Flat<'s>,
-    token: &Path<'s>,
-) -> Result<Option<Spot<'a, 's>>, NoMemory>
-    ensures place { IfOk result (λ o. IfSome o (λ s. s.place ≡ whole token.now)) }
-    ensures at { IfOk result (λ o. IfSome o (λ s. IsSpot flat.entry.now s)) }
-    ensures none { IfOk result (λ o. IfNone o (map.get flat.entry.now token.now ≡ None)) }
+    path: &Path<'s>,
+    entry: &'a Entry<'s>,
+) -> Result<Spot<'a, 's>, NoMemory>
+    ensures place { IfOk result (λ s. s.place ≡ whole path.now) }
+    ensures at { (flat : FlatTree) → map.get flat path.now ≡ Some entry.entry.now
+        → IfOk result (λ s. IsSpot flat s) }
 {
-    let Some(entry) = flat.get(token) else {
-        return Ok(None);
-    };
     entry.def.keeps();
     let _ = entry.def.source.len();
     let node = entry.def.value.as_ref();
     let content = read_content(alloc, node, entry.def.by_ref)?;
     let place = Place {
-        token: token.copy()?,
+        token: path.copy()?,
         trail: Trail::new(alloc),
     };
-    Ok(Some(Spot {
+    Ok(Spot {
         place,
         token: entry,
         start: node.start(),
         content,
-    }))
+    })
+}
+
+/// The whole value of the token of a path; none where there is no such token.
+pub(crate) fn whole_spot<'a, 's>(
+    alloc: Global,
+    flat: &'a Flat<'s>,
+    path: &Path<'s>,
+) -> Result<Option<Spot<'a, 's>>, NoMemory>
+    ensures place { IfOk result (λ o. IfSome o (λ s. s.place ≡ whole path.now)) }
+    ensures at { IfOk result (λ o. IfSome o (λ s. IsSpot flat.entry.now s)) }
+    ensures none { IfOk result (λ o. IfNone o (map.get flat.entry.now path.now ≡ None)) }
+{
+    let Some(entry) = flat.get(path) else {
+        return Ok(None);
+    };
+    let spot = token_spot(alloc, path, entry)?;
+    Ok(Some(spot))
 }
 
 /// The part after a step.

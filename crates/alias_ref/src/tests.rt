@@ -5,7 +5,7 @@ ghost use Rattle.std.specs.Prelude.{◌≡◌, ◌<◌};
 mod trees;
 
 use self::trees::{PART_1, PART_2, PART_3, PART_4};
-use crate::{RefFault, RefRule, Resolved, evaluate, refs_of, span_of};
+use crate::{RefFault, RefRule, Resolved, evaluate, evaluate_entry, refs_of, span_of};
 use group_inherit::{Flat, flatten};
 use itoa::Buffer;
 use json_span::{Plain, PlainFields, PlainItems, read};
@@ -155,7 +155,10 @@ fn append_answer<'s, L: Ledger>(
     let Some(entry) = flat.get(path) else {
         return out.append(b"nowhere");
     };
-    let answer = evaluate(alloc, flat, path, evals);
+    let answer = evaluate_entry(alloc, flat, path, entry, evals);
+    if evaluate(alloc, flat, path, evals).is_ok() != answer.is_ok() {
+        return out.append(b"another answer by its path");
+    }
     match answer {
         Ok(resolved) => append_resolved(out, &resolved)?,
         Err(RefFault::Broken { rule, place, ring }) => {
