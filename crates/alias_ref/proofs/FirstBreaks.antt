@@ -1,5 +1,6 @@
 -- The first break in lists that are joined.
 use Rattle.std.proofs.Common.{◌≡◌, ℕ, zero, suc, ◌+◌, ◌-◌, ◌<◌, List, [], ◌∷◌, ◌++◌, Bool, true, false, cond, Option, Some, None, length, refl, sym, ap, ap₂, ◌∙◌, subst, arith, length-append}
+use Rattle.std.proofs.lemmas.Bool.{lt-leb}
 use Rattle.std.specs.Prelude.{is_some, nat_le}
 use Rattle.name_path.specs.declared.place.Place.{Place}
 use Rattle.alias_ref.specs.Written.{Written, Tokens, is_misspelled}
@@ -79,6 +80,14 @@ module _ (T : Tokens) where
 
   pub enters : (n : ℕ) (b : List Place) (p : Place) → own_break T n (visit b p) ≡ None → Enters b p
   enters n b p h = enters_of n b p (since p b) refl h
+
+  -- .. and what has no break
+  pub unbroken : (n : ℕ) (b : List Place) (p : Place) → since p b ≡ None → length b < most_places → n < most_visits → is_misspelled (T p) ≡ false → own_break T n (visit b p) ≡ None
+  unbroken n b p new room few spelled =
+      ap (break_if T n b p) new
+      ∙ ap (λ x. cond x (Some (ref_break rule.Deep p)) (cond (nat_le most_visits n) (Some (ref_break rule.Big p)) (cond (is_misspelled (T p)) (Some (ref_break rule.RefSyntax p)) None))) (lt-leb most_places (length b) room)
+      ∙ ap (λ y. cond y (Some (ref_break rule.Big p)) (cond (is_misspelled (T p)) (Some (ref_break rule.RefSyntax p)) None)) (lt-leb most_visits n few)
+      ∙ ap (λ z. cond z (Some (ref_break rule.RefSyntax p)) None) spelled
 
   less_room : (b : List Place) (p : Place) → length b < 256 → 256 - length b ≡ suc (256 - length (b ++ p ∷ []))
   less_room b p h = omega (arith, length-append b (p ∷ []))

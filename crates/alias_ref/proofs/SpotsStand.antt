@@ -104,6 +104,12 @@ part_content flat p f s m c k is =
 pub part_stands_at : (flat : Flat) (p : Place) (f : Flattened) (s : Step) (m : Placed) → IsPartAt flat p f s m → IsValueAt flat (part p s) f m
 part_stands_at flat p f s m k = part_stands flat p f k.value m s k.stands k.part
 
+pub part_shows : (flat : Flat) (p : Place) (f : Flattened) (s : Step) (m : Placed) (c : Content) → IsPartAt flat p f s m → IsContent c (role_of false) (tree_of m) → written_in flat (part p s) ≡ Some (content_view c)
+part_shows flat p f s m c k is = written_stands flat (part p s) f m (part_stands_at flat p f s m k) ∙ ap Some (sym (part_content flat p f s m c k is).written)
+
+pub part_start : (flat : Flat) (p : Place) (f : Flattened) (s : Step) (m : Placed) → IsPartAt flat p f s m → start_of m ≡ start_in flat (part p s)
+part_start flat p f s m k = start_is flat (part p s) f m (part_stands_at flat p f s m k)
+
 pub holder_part : (flat : Flat) (p : Place) (f : Flattened) (ps front : Parts) (s : Step) (m : Placed) (rest : Parts) → IsHolder flat p f ps → ps ≡ front ++ (s, m) ∷ rest → IsPartAt flat p f s m
 holder_part flat p f ps front s m rest k e =
     let there : part_behind k.value s ≡ Some m = found_under (parts_of (tree_of k.value)) front s m rest (distinct_parts k.value k.sound) (sym k.parts ∙ e) in

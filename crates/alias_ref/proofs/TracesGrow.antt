@@ -3,11 +3,12 @@ use Rattle.std.proofs.Common.{◌≡◌, ℕ, zero, suc, ◌+◌, ◌<◌, List,
 use Rattle.std.specs.Prelude.{Contains, IfNone, IfSome}
 use Rattle.std.specs.FinMap as flat_map
 use Rattle.name_path.specs.declared.place.Place.{Place}
-use Rattle.alias_ref.specs.Written.{Step, whole, is_written, written_in}
-use Rattle.alias_ref.specs.Visits.{same_place, since}
+use Rattle.alias_ref.specs.Written.{Step, Tokens, whole, is_written, is_misspelled, written_in}
+use Rattle.alias_ref.specs.Visits.{visit, same_place, since, own_break}
 use Rattle.alias_ref.specs.Laws.{Flat}
-use Rattle.alias_ref.specs.inner.Spots.{start_in, HasStarts, IsSameBranch}
+use Rattle.alias_ref.specs.inner.Spots.{start_in, HasStarts, IsClear, IsSameBranch}
 use Rattle.alias_ref.specs.declared.trace.Trace.{Trace}
+use Rattle.alias_ref.proofs.FirstBreaks.{unbroken}
 use Rattle.alias_ref.proofs.SamePlaces.{same_place-is}
 use Rattle.alias_ref.proofs.WrittenParts.{token_lost}
 
@@ -21,6 +22,13 @@ no_start f p [] h = refl
 no_start f p (q ∷ ps) h =
     ap (λ b. cond b (Some (q ∷ ps)) (since p ps)) (fails (same_place q p) (λ e. h (0, omega arith, ap f (same_place-is q p e))))
     ∙ no_start f p ps (λ k. h (suc k.0, omega (arith, k.1), k.2))
+
+-- a visit that finds no such start on the branch, and room, breaks no rule where the place is spelled well
+pub clear_visit : (flat : Flat) (T : Tokens) (t : Trace) (p : Place) (start : ℕ) → IsClear t start → HasStarts flat t → start ≡ start_in flat p → is_misspelled (T p) ≡ false → own_break T t.visits (visit t.places.items p) ≡ None
+clear_visit flat T t p start k h e spelled =
+    let new = no_start (start_in flat) p t.places.items (λ there.
+        k.is_new (subst (λ xs. Contains xs start) (sym h) (subst (Contains (map (start_in flat) t.places.items)) (sym e) there))) in
+    unbroken T t.visits t.places.items p new k.room k.few spelled
 
 map_more : (f : Place → ℕ) (ps : List Place) (p : Place) → map f (ps ++ p ∷ []) ≡ map f ps ++ f p ∷ []
 map_more f [] p = refl

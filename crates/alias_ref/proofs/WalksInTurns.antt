@@ -1,14 +1,15 @@
 -- What the turns of the walk add to the entries seen.
 use Rattle.std.proofs.Common.{◌≡◌, ℕ, ◌+◌, List, [], ◌∷◌, ◌++◌, Bool, true, false, Option, Some, None, refl, sym, ap, ◌∙◌, subst, append_assoc, append-nil}
 use Rattle.name_path.specs.declared.place.Place.{Place}
-use Rattle.alias_ref.specs.Written.{Step, Written, refers, Tokens, whole, part, is_reference, is_written}
+use Rattle.json_span.specs.PlainView.{Value}
+use Rattle.alias_ref.specs.Written.{Step, Written, leaf, refers, Tokens, whole, part, is_reference, is_written}
 use Rattle.alias_ref.specs.Visits.{Visit, visit, lost, Way, ends_at, after_visits, goes_on, go_if, steps_from, way_of, settled, settle_by, pass_written, at_end, walk_written, ref_break, own_break, first_break, walked, passed}
 use Rattle.alias_ref.specs.declared.fault.RefRule.TheVariants as rule
 use Rattle.std.specs.Prelude.{Result, Ok, Err}
 use Rattle.alias_ref.specs.inner.Seen.{Clean, IsFault, Sees}
 use Rattle.alias_ref.specs.declared.fault.RefFault.{RefFault}
 use Rattle.alias_ref.specs.declared.fault.RefFault.TheVariants as faults
-use Rattle.alias_ref.proofs.FirstBreaks.{clean_entry, clean_append, fault_later, fault_first, enters, walked-enters, passed-enters}
+use Rattle.alias_ref.proofs.FirstBreaks.{clean_nil, clean_entry, clean_append, fault_later, fault_first, enters, walked-enters, passed-enters}
 
 pub goes_on-front : (xs : List Visit) (o : Option Place) (next : Place → Way) → (es : List Visit) × ((goes_on xs o next).seen ≡ xs ++ es)
 goes_on-front xs None next = ([], sym (append-nil xs))
@@ -99,6 +100,10 @@ module _ (T : Tokens) where
 
     pub walk_clean : {k : ℕ} → Clean T m k (walk_written T (settle_by T (passed T b')) (walked T b') p (Some s)) → Clean T n k (walked T b p)
     walk_clean {k} h = subst (λ w. Clean T n k w) (sym walk_is) (clean_append T (visit b p ∷ []) (walk_written T (settle_by T (passed T b')) (walked T b') p (Some s)) entered h)
+
+  -- a leaf asks for no visit
+  pub leaf_clean : {n m : ℕ} (b : List Place) (p : Place) (v : Value) → T p ≡ Some (leaf v) → own_break T n (visit b p) ≡ None → m ≡ n + 1 → Clean T n m (walked T b p)
+  leaf_clean {n} {m} b p v is own one = walk_clean n b (b ++ p ∷ []) p (leaf v) is own refl one (clean_nil T m)
 
   -- a reference, when it is passed
   pub refers_fault : (f : RefFault) (n : ℕ) (settle : Place → Way) (p : Place) (t : List Step) (steps : List Step) → IsFault f (first_break T n (way_of T settle p t steps).seen) → IsFault f (first_break T n (pass_written T settle p (Some (refers t steps))).seen)

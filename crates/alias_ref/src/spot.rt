@@ -3,10 +3,11 @@
 ghost use Rattle.std.specs.Prelude.{◌≡◌, ◌<◌, ◌^◌, ℕ, Some, None, false, length, option_map, IfOk};
 ghost use Rattle.std.specs.Prelude.{IfSome, IfNone};
 ghost use Rattle.std.specs.FinMap as map;
-ghost use Rattle.alias_ref.specs.Written.{whole, part, part_under, is_reference};
+ghost use Rattle.alias_ref.specs.Written.{whole, part, part_under, is_reference, of_value};
 ghost use Rattle.alias_ref.specs.Laws.{Flat as FlatTree};
 ghost use Rattle.alias_ref.specs.inner.Contents.{content_view, content_parts, content_items};
-ghost use Rattle.json_span.specs.View.{ref_view};
+ghost use Rattle.alias_ref.specs.inner.Contents.{IsContent};
+ghost use Rattle.json_span.specs.View.{ref_view, json_view};
 ghost use Rattle.alias_ref.specs.inner.Spots.{IsSpot, IsPartAt};
 
 use crate::content::{Content, read_content};
@@ -81,27 +82,32 @@ fn part_node<'a, 's>(content: &Content<'a, 's>, step: &str) -> Option<NodeRef<'a
     }
 }
 
-/// The part of a place after a step, which leads to this value.
+/// The place one step further.
+pub(crate) fn part_place<'s>(place: &Place<'s>, step: &Text<'s>) -> Result<Place<'s>, NoMemory>
+    ensures { IfOk result (λ p. p ≡ part place.now step.now) }
+{
+    let Place { token, mut trail } = place.copy()?;
+    trail.push(step.copy()?)?;
+    Ok(Place { token, trail })
+}
+
+/// The part of a place after a step, which leads to this value, where this is written.
 pub(crate) fn part_spot<'a, 's>(
-    alloc: Global,
     place: &Place<'s>,
     token: &'a Entry<'s>,
     step: &Text<'s>,
     node: NodeRef<'a, 's>,
+    content: Content<'a, 's>,
 ) -> Result<Spot<'a, 's>, NoMemory>
     ensures place { IfOk result (λ s. s.place ≡ part place.now step.now) }
     ensures at { (flat : FlatTree)
         → IsPartAt flat place.now token.entry.now step.now (ref_view node.entry)
+        → IsContent content.entry of_value (json_view node.entry)
         → IfOk result (λ s. IsSpot flat s) }
 {
-    let content = read_content(alloc, node, false)?;
-    let Place {
-        token: path,
-        mut trail,
-    } = place.copy()?;
-    trail.push(step.copy()?)?;
+    let place = part_place(place, step)?;
     Ok(Spot {
-        place: Place { token: path, trail },
+        place,
         token,
         start: node.start(),
         content,
@@ -126,7 +132,8 @@ impl<'a, 's> Spot<'a, 's> {
         let Some(node) = part_node(&self.content, step.as_str()) else {
             return Ok(None);
         };
-        let spot = part_spot(alloc, &self.place, self.token, step, node)?;
+        let content = read_content(alloc, node, false)?;
+        let spot = part_spot(&self.place, self.token, step, node, content)?;
         Ok(Some(spot))
     }
 }

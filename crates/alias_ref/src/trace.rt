@@ -1,20 +1,21 @@
 //! The trace of a walk: the places that are being visited, and how many visits there were.
 
 ghost use Rattle.std.specs.Prelude.{◌≡◌, ◌≤◌, ◌+◌, ◌∷◌, ◌++◌, [], ℕ, List, Contains, length, drop};
-ghost use Rattle.std.specs.Prelude.{map, Some, IfOk, OnOk, false};
+ghost use Rattle.std.specs.Prelude.{◌<◌, map, Some, IfOk, OnOk, IsTrue, false};
 ghost use Rattle.name_path.specs.declared.place.Place.{Place};
-ghost use Rattle.alias_ref.specs.Written.{Tokens};
-ghost use Rattle.alias_ref.specs.Visits.{visit, since, ref_break};
+ghost use Rattle.alias_ref.specs.Written.{Tokens, leaf, part, is_misspelled};
+ghost use Rattle.json_span.specs.PlainView.{Value};
+ghost use Rattle.alias_ref.specs.Visits.{visit, since, ref_break, most_visits};
 ghost use Rattle.alias_ref.specs.inner.Contents.{content_view};
 ghost use Rattle.alias_ref.specs.inner.Seen.{IsFault, HasBegun};
-ghost use Rattle.alias_ref.specs.inner.Spots.{start_in, HasStarts};
+ghost use Rattle.alias_ref.specs.inner.Spots.{start_in, HasStarts, IsSameBranch, IsClear};
 ghost use Rattle.alias_ref.specs.Laws.{Flat};
 
 use crate::fault::{RefFault, RefRule};
-use crate::spot::Spot;
+use crate::spot::{Spot, part_place};
 use name_path::{Place, Ring};
 use std::alloc::Global;
-use tk_io::NoMemory;
+use tk_io::{NoMemory, Text};
 
 /// How many places may stand on a branch before a visit.
 const MOST_PLACES: usize = 256;
@@ -104,6 +105,39 @@ impl<'s> Trace<'s> {
         ring_from(alloc, self.places.as_slice(), place)
     }
 
+    /// The first rule that a visit of the place breaks, if any.
+    fn check(
+        &self,
+        alloc: Global,
+        place: &Place<'s>,
+        start: usize,
+        misspelled: bool,
+    ) -> Result<(), RefFault<'s>>
+        ensures broken { (flat : Flat) (T : Tokens) → HasStarts flat self.now
+            → start ≡ start_in flat place.now → misspelled ≡ is_misspelled (T place.now)
+            → HasBegun T self.now.visits (visit self.now.places.items place.now) result }
+        ensures few { OnOk result (self.now.visits < most_visits) }
+    {
+        if let Some(ring) = self.ring(alloc, place, start)? {
+            let place = place.copy()?;
+            return Err(RefFault::Broken {
+                rule: RefRule::Cycle,
+                place,
+                ring,
+            });
+        }
+        if self.places.len() >= MOST_PLACES {
+            return Err(broken(alloc, RefRule::Deep, place));
+        }
+        if self.visits >= MOST_VISITS {
+            return Err(broken(alloc, RefRule::Big, place));
+        }
+        if misspelled {
+            return Err(broken(alloc, RefRule::RefSyntax, place));
+        }
+        Ok(())
+    }
+
     /// Begins a visit, unless it breaks a rule.
     pub(crate) fn enter(&mut self, alloc: Global, spot: &Spot<'_, 's>) -> Result<(), RefFault<'s>>
         ensures broken { (flat : Flat) (T : Tokens) → HasStarts flat self.old
@@ -116,25 +150,63 @@ impl<'s> Trace<'s> {
             (self.new.starts.items ≡ self.old.starts.items ++ spot.now.start ∷ []) }
         ensures counted { OnOk result (self.new.visits ≡ self.old.visits + 1) }
     {
-        if let Some(ring) = self.ring(alloc, &spot.place, spot.start)? {
-            let place = spot.place.copy()?;
-            return Err(RefFault::Broken {
-                rule: RefRule::Cycle,
-                place,
-                ring,
-            });
-        }
-        if self.places.len() >= MOST_PLACES {
-            return Err(broken(alloc, RefRule::Deep, &spot.place));
-        }
-        if self.visits >= MOST_VISITS {
-            return Err(broken(alloc, RefRule::Big, &spot.place));
-        }
-        if spot.content.is_misspelled() {
-            return Err(broken(alloc, RefRule::RefSyntax, &spot.place));
-        }
+        let misspelled = spot.content.is_misspelled();
+        self.check(alloc, &spot.place, spot.start, misspelled)?;
         self.places.push(spot.place.copy()?)?;
         self.starts.push(spot.start)?;
+        self.visits += 1;
+        Ok(())
+    }
+
+    /// Whether a visit of a value that starts here breaks no rule, if it is spelled well.
+    fn is_clear(&self, start: usize) -> bool
+        ensures { IsTrue result → IsClear self.now start }
+    {
+        self.places.len() < MOST_PLACES
+            && self.visits < MOST_VISITS
+            && !self.starts.as_slice().contains(&start)
+    }
+
+    /// The first rule that a visit of the part after a step breaks, if any, where a leaf is written there.
+    fn check_leaf(
+        &self,
+        alloc: Global,
+        place: &Place<'s>,
+        step: &Text<'s>,
+        start: usize,
+    ) -> Result<(), RefFault<'s>>
+        ensures broken { (flat : Flat) (T : Tokens) (v : Value) → HasStarts flat self.now
+            → start ≡ start_in flat (part place.now step.now)
+            → T (part place.now step.now) ≡ Some (leaf v)
+            → HasBegun T self.now.visits
+            (visit self.now.places.items (part place.now step.now)) result }
+        ensures few { OnOk result (self.now.visits < most_visits) }
+    {
+        if self.is_clear(start) {
+            return Ok(());
+        }
+        let place = part_place(place, step)?;
+        self.check(alloc, &place, start, false)
+    }
+
+    /// Counts the visit of the part after a step, unless it breaks a rule, where a leaf is written there. It asks for no other
+    /// visit, so it does not go onto the branch.
+    pub(crate) fn visit_leaf(
+        &mut self,
+        alloc: Global,
+        place: &Place<'s>,
+        step: &Text<'s>,
+        start: usize,
+    ) -> Result<(), RefFault<'s>>
+        ensures broken { (flat : Flat) (T : Tokens) (v : Value) → HasStarts flat self.old
+            → start ≡ start_in flat (part place.now step.now)
+            → T (part place.now step.now) ≡ Some (leaf v)
+            → HasBegun T self.old.visits
+            (visit self.old.places.items (part place.now step.now)) result }
+        ensures branch { IsSameBranch self.old self.new }
+        ensures counted { OnOk result (self.new.visits ≡ self.old.visits + 1) }
+    {
+        self.check_leaf(alloc, place, step, start)?;
         self.visits += 1;
         Ok(())
     }

@@ -12,7 +12,7 @@ ghost use Rattle.alias_ref.specs.inner.Walks.{IsKindAt, HasLinks, HasLinksOf, it
 ghost use Rattle.alias_ref.specs.inner.Walks.{field_parts};
 ghost use Rattle.alias_ref.specs.inner.Walks.{ItemsMean, FieldsMean};
 
-use crate::content::Content;
+use crate::content::{Content, read_content};
 use crate::fault::RefFault;
 use crate::index::index_text;
 use crate::passing::follow;
@@ -226,7 +226,7 @@ fn walk_fields<'a, 's>(
     Ok(list)
 }
 
-/// Walks the part after a step.
+/// Walks the part after a step. A leaf asks for no further visit: its place is made only where a fault is told.
 #[cycle(walking)]
 fn walk_part<'a, 's>(
     alloc: Global,
@@ -249,7 +249,16 @@ fn walk_part<'a, 's>(
         (HasLinks own flat.entry.now (part place.now step.now) links.old links.new) }
     ensures branch { OnOk result (IsSameBranch trace.old trace.new) }
 {
-    let spot = part_spot(alloc, place, token, step, node)?;
-    let found = walk(alloc, flat, spot, own, trace, links)?;
-    Ok(found.plain)
+    let content = read_content(alloc, node, false)?;
+    match content {
+        Content::Leaf(plain) => {
+            trace.visit_leaf(alloc, place, step, node.start())?;
+            Ok(plain)
+        }
+        content => {
+            let spot = part_spot(place, token, step, node, content)?;
+            let found = walk(alloc, flat, spot, own, trace, links)?;
+            Ok(found.plain)
+        }
+    }
 }

@@ -1,5 +1,5 @@
 -- Where a walk stands, and what its trace holds.
-use Rattle.std.specs.Prelude.{◌≡◌, ℕ, ◌<◌, ◌^◌, List, ◌++◌, length, map, Bool, true, false, Some, None, option_map, option_and_then, unwrap_or}
+use Rattle.std.specs.Prelude.{◌≡◌, ℕ, ◌<◌, ◌^◌, Contains, List, ◌++◌, length, map, Bool, true, false, Some, None, option_map, option_and_then, unwrap_or}
 use Rattle.std.specs.FinMap as flat_map
 use Rattle.name_path.specs.declared.link.Link.{Link}
 use Rattle.name_path.specs.declared.place.Place.{Place}
@@ -7,6 +7,7 @@ use Rattle.json_span.specs.Tree.{Tree, a_null, a_boolean, a_number, a_string, an
 use Rattle.json_span.specs.Flaw.{flaw_in}
 use Rattle.group_inherit.specs.Flattening.{Flattened}
 use Rattle.alias_ref.specs.Written.{Step, of_value, Tokens, Parts, parts_of, part_behind, value_at, is_reference, written_as, role_behind, role_at}
+use Rattle.alias_ref.specs.Visits.{most_places, most_visits}
 use Rattle.alias_ref.specs.Kinds.{Kinds, LinksAt, LinksEach}
 use Rattle.alias_ref.specs.Laws.{Flat}
 use Rattle.alias_ref.specs.inner.Contents.{IsContent}
@@ -76,6 +77,12 @@ start_in flat p = unwrap_or (option_map start_of (option_and_then (λ f. value_a
 -- the starts of a trace are those of its places
 abbrev pub HasStarts : Flat → Trace → Type 0
 HasStarts flat t = t.starts.items ≡ map (start_in flat) t.places.items
+
+-- a visit of a value that starts so finds no such start on the branch, and room
+pub record IsClear (t : Trace) (start : ℕ) : Type 0 where
+  pub is_new : Contains t.starts.items start → ⊥
+  pub room : length t.places.items < most_places
+  pub few : t.visits < most_visits
 
 -- the branch stays
 abbrev pub IsSameBranch : Trace → Trace → Type 0

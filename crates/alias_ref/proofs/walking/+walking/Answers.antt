@@ -3,7 +3,7 @@ use Rattle.std.proofs.lemmas.Result.{err_from_is_err_and}
 use Rattle.group_inherit.specs.Merging.{either}
 use Rattle.json_span.specs.Plain.{plains_of, plain_array}
 use Rattle.json_span.specs.PlainView.{ValueEntry, plain_view, plain_items_view, plain_fields_view}
-use Rattle.alias_ref.specs.Written.{array, object, leaf, parts, is_misspelled, parts_by_index, parts_by_name, steps_of, written_in}
+use Rattle.alias_ref.specs.Written.{array, object, leaf, part, parts, is_misspelled, parts_by_index, parts_by_name, steps_of, written_in}
 use Rattle.alias_ref.specs.Meaning.{Means, means_leaf, means_parts, means_target}
 use Rattle.alias_ref.specs.Visits.{settle_by, passed, walked, walk_written, first_break}
 use Rattle.alias_ref.specs.Kinds.{own_in, group_in}
@@ -16,9 +16,9 @@ use Rattle.alias_ref.proofs.FirstBreaks.{clean_nil, enters, walked-fault}
 use Rattle.alias_ref.proofs.LinksOfParts.{alone, refers_kind}
 use Rattle.alias_ref.proofs.PartsInTurn.{none_walked, next_item, next_field, walked_more, items_more, walked_fault, leaf_grown, grown_parts, lead_by, refers_grown}
 use Rattle.alias_ref.proofs.PlainViews.{array_view, object_view}
-use Rattle.alias_ref.proofs.SpotsStand.{spot_written, spot_start, spot_shows, own_is, group_is, kinds_at, holder_part, holder_few}
+use Rattle.alias_ref.proofs.SpotsStand.{spot_written, spot_start, spot_shows, own_is, group_is, kinds_at, part_shows, part_start, holder_part, holder_few}
 use Rattle.alias_ref.proofs.TracesGrow.{starts_more, same_starts, same_then}
-use Rattle.alias_ref.proofs.WalksInTurns.{walk_fault, walk_clean, target_fault, target_then_fault, target_clean}
+use Rattle.alias_ref.proofs.WalksInTurns.{leaf_clean, walk_fault, walk_clean, target_fault, target_then_fault, target_clean}
 use Rattle.alias_ref.proofs.walking.+walking.Goals as goal
 
 pub walk-returns-in_err-enter-clause-seen : goal.walk-returns-in_err-enter-clause-seen
@@ -272,3 +272,37 @@ walk_on-returns-in-Refers t c =
       links = refers_grown T (own_in flat) (group_in flat) c.args.own settle spot.place q token trail found.found.kind c.args.links.now c.walk.new.links c.refer.new.links is k.ends found.ensures.kind found.ensures.links refer.ensures.links;
       branch = same_then c.args.trace.now c.follow.new.trace c.walk.new.trace k.branch found.ensures.branch;
     }
+
+pub walk_part-returns-in_err-visit_leaf-in-Leaf-clause-seen : goal.walk_part-returns-in_err-visit_leaf-in-Leaf-clause-seen
+walk_part-returns-in_err-visit_leaf-in-Leaf-clause-seen t c =
+    let flat = c.args.flat.now in
+    let T = written_in flat in
+    let place = c.args.place.now in
+    let step = c.args.step.now in
+    let f = c.in_err-visit_leaf-in-Leaf.field-0.0 in
+    let p = err_from_is_err_and c.from_residual-in_err-visit_leaf-in-Leaf.result c.from_residual-in_err-visit_leaf-in-Leaf.ensures.1 in
+    let is = part_shows flat place c.args.token.now step (ref_view c.args.node) c.in_ok-content.content c.requires.at c.in_ok-content.ensures ∙ ap (λ x. Some (content_view x)) c.in-Leaf.is in
+    let start = c.start.ensures ∙ part_start flat place c.args.token.now step (ref_view c.args.node) c.requires.at in
+    let own = c.in_err-visit_leaf-in-Leaf.ensures.broken flat T (plain_view c.in-Leaf.plain) c.requires.starts start is in
+    rw (p.1, p.2) (walked-fault T f c.args.trace.now.visits c.args.trace.now.places.items (part place step) own)
+
+pub walk_part-returns-in_ok-visit_leaf-in-Leaf-clause-seen : goal.walk_part-returns-in_ok-visit_leaf-in-Leaf-clause-seen
+walk_part-returns-in_ok-visit_leaf-in-Leaf-clause-seen t c =
+    let flat = c.args.flat.now in
+    let T = written_in flat in
+    let place = c.args.place.now in
+    let step = c.args.step.now in
+    let e = c.in_ok-visit_leaf-in-Leaf.ensures in
+    let is = part_shows flat place c.args.token.now step (ref_view c.args.node) c.in_ok-content.content c.requires.at c.in_ok-content.ensures ∙ ap (λ x. Some (content_view x)) c.in-Leaf.is in
+    let start = c.start.ensures ∙ part_start flat place c.args.token.now step (ref_view c.args.node) c.requires.at in
+    leaf_clean T c.args.trace.now.places.items (part place step) (plain_view c.in-Leaf.plain) is (e.broken flat T (plain_view c.in-Leaf.plain) c.requires.starts start is) e.counted
+
+pub walk_part-returns-in_ok-visit_leaf-in-Leaf-clause-means : goal.walk_part-returns-in_ok-visit_leaf-in-Leaf-clause-means
+walk_part-returns-in_ok-visit_leaf-in-Leaf-clause-means t c =
+    means_leaf (part_shows c.args.flat.now c.args.place.now c.args.token.now c.args.step.now (ref_view c.args.node) c.in_ok-content.content c.requires.at c.in_ok-content.ensures ∙ ap (λ x. Some (content_view x)) c.in-Leaf.is)
+
+pub walk_part-returns-in_ok-visit_leaf-in-Leaf-clause-links : goal.walk_part-returns-in_ok-visit_leaf-in-Leaf-clause-links
+walk_part-returns-in_ok-visit_leaf-in-Leaf-clause-links t c =
+    let flat = c.args.flat.now in
+    let is = part_shows flat c.args.place.now c.args.token.now c.args.step.now (ref_view c.args.node) c.in_ok-content.content c.requires.at c.in_ok-content.ensures ∙ ap (λ x. Some (content_view x)) c.in-Leaf.is in
+    leaf_grown (written_in flat) (own_in flat) (group_in flat) c.args.own (part c.args.place.now c.args.step.now) (plain_view c.in-Leaf.plain) c.args.links.now is

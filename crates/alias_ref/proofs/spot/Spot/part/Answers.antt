@@ -8,4 +8,4 @@ use Rattle.alias_ref.proofs.spot.Spot.part.Goals as goal
 pub returns-clause-at : goal.returns-clause-at
 returns-clause-at c = λ flat k h.
     let there : part_under c.args.step.now (content_parts c.args.self.now.content) ≡ Some (ref_view c.in-Some.node) = search rules in
-    c.in_ok-spot.ensures.at flat (spot_part flat c.args.self.now c.args.step.now (ref_view c.in-Some.node) k h there)
+    c.in_ok-spot.ensures.at flat (spot_part flat c.args.self.now c.args.step.now (ref_view c.in-Some.node) k h there) c.in_ok-content.ensures
