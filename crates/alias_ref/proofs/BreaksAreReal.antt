@@ -4,11 +4,11 @@ use Rattle.std.specs.Prelude.{is_some, nat_le}
 use Rattle.name_path.specs.declared.place.Place.{Place}
 use Rattle.alias_ref.specs.Written.{Step, Written, leaf, parts, refers, misspelled, Tokens, whole, part, is_reference, is_misspelled, is_written}
 use Rattle.alias_ref.specs.Meaning.{Leads, leads, Goes, onward, Settles}
-use Rattle.alias_ref.specs.Visits.{Visit, visit, lost, Way, since, go_if, steps_from, way_of, settled, settle_by, pass_written, unless_stands, pass_visits, visits_each, walk_written, walk_visits, RefBreak, ref_break, most_places, most_visits, break_if, own_break, first_break, walked, walk_break}
+use Rattle.alias_ref.specs.Visits.{Visit, visit, lost, Way, since, go_if, steps_from, way_of, settled, settle_by, pass_written, unless_stands, pass_visits, visits_each, walk_written, walk_visits, RefBreak, ref_break, most_on_branch, most_visits, break_if, own_break, first_break, walked, walk_break}
 use Rattle.alias_ref.specs.declared.fault.RefRule.TheVariants as rule
 use Rattle.alias_ref.proofs.BranchesAreChains.{Each, Each-append, goes_on_each, at_end_each}
 use Rattle.alias_ref.proofs.OneMeaning.{goes_along, settle_once}
-use Rattle.alias_ref.proofs.RingsAreReal.{or_else_is}
+use Rattle.alias_ref.proofs.RingsAreReal.{option_or_is}
 use Rattle.alias_ref.proofs.WaysSettle.{DoSettle, settle_by-settles, pass_visits-settles}
 
 abbrev pub got : RefBreak → Option RefBreak → RefBreak
@@ -131,7 +131,7 @@ module _ (T : Tokens) where
 
   ring_tells : (n : ℕ) (bs : List Place) (p : Place) (o : Option (List Place)) (b : RefBreak) → break_if T n bs p o ≡ Some b → Tells b
   ring_tells n bs p (Some r) b h = subst Tells (same_break h) ((λ e. absurd (cc)), (λ e. absurd (cc)), (λ n. absurd (n refl)))
-  ring_tells n bs p None b h = visit_tells (nat_le most_places (length bs)) (nat_le most_visits n) (is_misspelled (T p)) p b refl h
+  ring_tells n bs p None b h = visit_tells (nat_le most_on_branch (length bs)) (nat_le most_visits n) (is_misspelled (T p)) p b refl h
 
   own_tells : (n : ℕ) (e : Visit) (b : RefBreak) → LeadsNowhere e → own_break T n e ≡ Some b → Tells b
   own_tells n (visit bs p) b k h = ring_tells n bs p (since p bs) b h
@@ -140,11 +140,11 @@ module _ (T : Tokens) where
   first_tells : (n : ℕ) (es : List Visit) (b : RefBreak) → Each LeadsNowhere es → first_break T n es ≡ Some b → Tells b
   unfolding first_break
   first_tells n [] b k h = absurd (cc)
-  first_tells n (e ∷ es) b (k, ks) h = elim (or_else_is (own_break T n e) (first_break T (n + 1) es) b h) as (λ _. Tells b) [
+  first_tells n (e ∷ es) b (k, ks) h = elim (option_or_is (own_break T n e) (first_break T (n + 1) es) b h) as (λ _. Tells b) [
     | inl i ↦ own_tells n e b k i
     | inr i ↦ first_tells (n + 1) es b ks i
   ]
 
   pub break_tells : (token : List Step) (b : RefBreak) → walk_break T token ≡ Some b → Tells b
   unfolding walked
-  break_tells token b h = first_tells 0 (walked T [] (whole token)) b (walk_true (most_places - length {A = Place} []) [] (whole token)) h
+  break_tells token b h = first_tells 0 (walked T [] (whole token)) b (walk_true (most_on_branch - length {A = Place} []) [] (whole token)) h

@@ -3,7 +3,7 @@ use Rattle.std.proofs.Common.{◌≡◌, ℕ, zero, suc, ◌+◌, ◌-◌, List,
 use Rattle.std.specs.Prelude.{is_some}
 use Rattle.name_path.specs.declared.place.Place.{Place}
 use Rattle.alias_ref.specs.Written.{Step, Written, leaf, parts, refers, misspelled, Tokens, whole, part, is_misspelled, is_written}
-use Rattle.alias_ref.specs.Visits.{Visit, visit, Way, since, way_of, settle_by, pass_visits, visits_each, walk_written, walk_visits, walked, walk_break}
+use Rattle.alias_ref.specs.Visits.{Visit, visit, Way, since, way_of, settle_by, pass_visits, visits_each, walk_written, walk_visits, walked, walk_break, most_on_branch}
 use Rattle.alias_ref.specs.inner.Seen.{Clean, HasParts, AllWritten}
 use Rattle.alias_ref.specs.Depth.{LinkDepth, depth_leaf, depth_steps, depth_link, depth_parts, EachDepth, depth_none, depth_more}
 use Rattle.alias_ref.proofs.FirstBreaks.{enters}
@@ -45,7 +45,7 @@ module _ (T : Tokens) where
   shape_depth hp d settle h walk m p (Some (parts x steps)) n k e w s c = depth_parts e (each_depth d walk m p steps n k (hp p x steps e) c)
   shape_depth hp d settle h walk m p None n k e w s c = cc
 
-  walk_depth : HasParts T → (d : ℕ) (b : List Place) → d + length b ≡ 256 → Bounded d (walk_visits T d b)
+  walk_depth : HasParts T → (d : ℕ) (b : List Place) → d + length b ≡ most_on_branch → Bounded d (walk_visits T d b)
   unfolding walk_visits
   walk_depth hp zero b r p n k w c = absurd (no_room T b r (enters T n b p (clean_first T (visit b p) [] c).0).room)
   walk_depth hp (suc d) b r p n k w c =
@@ -58,6 +58,6 @@ module _ (T : Tokens) where
       shape_depth hp d (settle_by T pass) (settle_end T pass (pass_end T d (b ++ p ∷ []) room)) walk (walk_depth hp d (b ++ p ∷ []) room) p (T p) (n + 1) k refl w e.spelled
       (subst (λ x. Clean T (n + 1) k x) (if_new T p b asked e.is_new) first.1)
 
-  pub unbroken_depth : HasParts T → (t : List Step) → is_written (T (whole t)) ≡ true → walk_break T t ≡ None → LinkDepth T 256 (whole t)
+  pub unbroken_depth : HasParts T → (t : List Step) → is_written (T (whole t)) ≡ true → walk_break T t ≡ None → LinkDepth T most_on_branch (whole t)
   unfolding walked
-  unbroken_depth hp t w h = walk_depth hp (256 - length {A = Place} []) [] (omega arith) (whole t) 0 (0 + length (walked T [] (whole t))) w (record { unbroken = h; counted = refl })
+  unbroken_depth hp t w h = walk_depth hp (most_on_branch - length {A = Place} []) [] (omega arith) (whole t) 0 (0 + length (walked T [] (whole t))) w (record { unbroken = h; counted = refl })

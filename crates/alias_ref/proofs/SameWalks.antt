@@ -1,11 +1,12 @@
 -- Trees that agree where references lead have the same walks and meanings.
 use Rattle.std.proofs.Common.{◌≡◌, ℕ, zero, suc, ◌+◌, ◌-◌, List, [], ◌∷◌, ◌++◌, Bool, true, false, cond, Option, Some, None, length, refl, sym, ap, ap₂, ◌∙◌, subst}
 use Rattle.std.specs.Prelude.{is_some, nat_le}
+use Rattle.std.specs.Option.{option_or}
 use Rattle.name_path.specs.declared.place.Place.{Place}
 use Rattle.json_span.specs.PlainView.{Value, ValueEntry}
 use Rattle.alias_ref.specs.Written.{Step, Written, leaf, parts, refers, misspelled, Tokens, whole, part, is_reference, is_misspelled, is_written}
 use Rattle.alias_ref.specs.Meaning.{Leads, leads, Goes, arrived, onward, Settles, stays, follows, Means, means_leaf, means_parts, means_target, EachMeans, none_left, one_more}
-use Rattle.alias_ref.specs.Visits.{Visit, visit, lost, Way, ends_at, no_end, after_visits, goes_on, then_go, since, go_if, steps_from, way_of, settled, settle_by, pass_written, unless_stands, pass_visits, visits_each, at_end, walk_written, walk_visits, ref_break, most_places, most_visits, break_if, own_break, or_else, first_break, walked, walk_break}
+use Rattle.alias_ref.specs.Visits.{Visit, visit, lost, Way, ends_at, no_end, after_visits, goes_on, then_go, since, go_if, steps_from, way_of, settled, settle_by, pass_written, unless_stands, pass_visits, visits_each, at_end, walk_written, walk_visits, ref_break, most_on_branch, most_visits, break_if, own_break, first_break, walked, walk_break}
 use Rattle.alias_ref.specs.declared.fault.RefRule.TheVariants as rule
 use Rattle.alias_ref.proofs.BranchesAreChains.{Each, Each-append}
 
@@ -170,7 +171,7 @@ module _ (T T' : Tokens) (In : List Step → Type 0) (agree : (p : Place) → In
 
   break_if_same : (n : ℕ) (b : List Place) (p : Place) (o : Option (List Place)) → T p ≡ T' p → break_if T n b p o ≡ break_if T' n b p o
   break_if_same n b p (Some r) h = refl
-  break_if_same n b p None h = ap (λ x. cond (nat_le most_places (length b)) (Some (ref_break rule.Deep p)) (cond (nat_le most_visits n) (Some (ref_break rule.Big p)) (cond (is_misspelled x) (Some (ref_break rule.RefSyntax p)) None))) h
+  break_if_same n b p None h = ap (λ x. cond (nat_le most_on_branch (length b)) (Some (ref_break rule.Deep p)) (cond (nat_le most_visits n) (Some (ref_break rule.Big p)) (cond (is_misspelled x) (Some (ref_break rule.RefSyntax p)) None))) h
 
   own_same : (n : ℕ) (e : Visit) → Agrees e → own_break T n e ≡ own_break T' n e
   own_same n (visit b p) h = break_if_same n b p (since p b) h
@@ -179,10 +180,10 @@ module _ (T T' : Tokens) (In : List Step → Type 0) (agree : (p : Place) → In
   first_same : (n : ℕ) (es : List Visit) → Each Agrees es → first_break T n es ≡ first_break T' n es
   unfolding first_break
   first_same n [] h = refl
-  first_same n (e ∷ es) h = ap₂ or_else (own_same n e h.0) (first_same (n + 1) es h.1)
+  first_same n (e ∷ es) h = ap₂ option_or (own_same n e h.0) (first_same (n + 1) es h.1)
 
   pub walk_break_same : (t : List Step) → In t → walk_break T t ≡ walk_break T' t
   unfolding walked
   walk_break_same t h =
-      let s = walk_visits_same (most_places - length {A = Place} []) [] (whole t) h in
+      let s = walk_visits_same (most_on_branch - length {A = Place} []) [] (whole t) h in
       first_same 0 (walked T [] (whole t)) s.1 ∙ ap (first_break T' 0) s.0

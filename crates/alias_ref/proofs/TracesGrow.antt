@@ -27,7 +27,7 @@ no_start f p (q ∷ ps) h =
 pub clear_visit : (flat : Flat) (T : Tokens) (t : Trace) (p : Place) (start : ℕ) → IsClear t start → HasStarts flat t → start ≡ start_in flat p → is_misspelled (T p) ≡ false → own_break T t.visits (visit t.places.items p) ≡ None
 clear_visit flat T t p start k h e spelled =
     let new = no_start (start_in flat) p t.places.items (λ there.
-        k.is_new (subst (λ xs. Contains xs start) (sym h) (subst (Contains (map (start_in flat) t.places.items)) (sym e) there))) in
+    k.is_new (subst (λ xs. Contains xs start) (sym h) (subst (Contains (map (start_in flat) t.places.items)) (sym e) there))) in
     unbroken T t.visits t.places.items p new k.room k.few spelled
 
 map_more : (f : Place → ℕ) (ps : List Place) (p : Place) → map f (ps ++ p ∷ []) ≡ map f ps ++ f p ∷ []

@@ -6,7 +6,7 @@ use Rattle.name_path.specs.declared.kind.Kind.{Kind}
 use Rattle.name_path.specs.declared.link.Link.{Link}
 use Rattle.name_path.specs.declared.place.Place.{Place}
 use Rattle.alias_ref.specs.Written.{Step, Written, leaf, parts, refers, misspelled, Tokens, whole, part, is_misspelled, is_written}
-use Rattle.alias_ref.specs.Visits.{Visit, visit, Way, since, way_of, settle_by, pass_visits, visits_each, walk_written, walk_visits, walked, walk_break}
+use Rattle.alias_ref.specs.Visits.{Visit, visit, Way, since, way_of, settle_by, pass_visits, visits_each, walk_written, walk_visits, walked, walk_break, most_on_branch}
 use Rattle.alias_ref.specs.Kinds.{Kinds, KindOf, LinksAt, links_leaf, links_parts, LinksEach, each_done, each_more}
 use Rattle.alias_ref.specs.inner.Linking.{lent, link_here}
 use Rattle.alias_ref.specs.inner.Seen.{Clean, HasParts, AllWritten}
@@ -63,7 +63,7 @@ module _ (T : Tokens) (own group : Kinds) where
       }
   shape_found hp settle h walk m p None n k e w s c = absurd (cc)
 
-  walk_found : HasParts T → (d : ℕ) (b : List Place) → d + length b ≡ 256 → Finds (walk_visits T d b)
+  walk_found : HasParts T → (d : ℕ) (b : List Place) → d + length b ≡ most_on_branch → Finds (walk_visits T d b)
   unfolding walk_visits
   walk_found hp zero b r p n k w c = absurd (no_room T b r (enters T n b p (clean_first T (visit b p) [] c).0).room)
   walk_found hp (suc d) b r p n k w c =
@@ -78,4 +78,4 @@ module _ (T : Tokens) (own group : Kinds) where
 
   pub unbroken_found : HasParts T → (t : List Step) → is_written (T (whole t)) ≡ true → walk_break T t ≡ None → Found (whole t)
   unfolding walked
-  unbroken_found hp t w h = walk_found hp (256 - length {A = Place} []) [] (omega arith) (whole t) 0 (0 + length (walked T [] (whole t))) w (record { unbroken = h; counted = refl })
+  unbroken_found hp t w h = walk_found hp (most_on_branch - length {A = Place} []) [] (omega arith) (whole t) 0 (0 + length (walked T [] (whole t))) w (record { unbroken = h; counted = refl })

@@ -5,7 +5,7 @@ use Rattle.name_path.specs.declared.place.Place.{Place}
 use Rattle.json_span.specs.PlainView.{Value, ValueEntry}
 use Rattle.alias_ref.specs.Written.{Step, Written, leaf, parts, refers, misspelled, Tokens, whole, part, is_reference, is_misspelled, is_written}
 use Rattle.alias_ref.specs.Meaning.{put_together, Means, means_leaf, means_parts, means_target, EachMeans, none_left, one_more}
-use Rattle.alias_ref.specs.Visits.{Visit, visit, lost, Way, goes_on, then_go, since, go_if, steps_from, way_of, settled, settle_by, pass_written, unless_stands, pass_visits, visits_each, at_end, walk_written, walk_visits, ref_break, own_break, first_break, walked, walk_break}
+use Rattle.alias_ref.specs.Visits.{Visit, visit, lost, Way, goes_on, then_go, since, go_if, steps_from, way_of, settled, settle_by, pass_written, unless_stands, pass_visits, visits_each, at_end, walk_written, walk_visits, ref_break, own_break, first_break, walked, walk_break, most_on_branch}
 use Rattle.alias_ref.specs.declared.fault.RefRule.TheVariants as rule
 use Rattle.alias_ref.specs.inner.Seen.{Clean, HasParts, AllWritten}
 use Rattle.alias_ref.proofs.FirstBreaks.{first-append, or_none, enters}
@@ -75,16 +75,16 @@ module _ (T : Tokens) where
   pass_written_end settle h p (Some (parts x steps)) n k e w s c = (p, refl, ap is_written e ∙ w)
   pass_written_end settle h p None n k e w s c = cc
 
-  pub no_room : (b : List Place) → zero + length b ≡ 256 → length b < 256 → ⊥
+  pub no_room : (b : List Place) → zero + length b ≡ most_on_branch → length b < most_on_branch → ⊥
   no_room b e h = omega arith
 
   unless_new : (p : Place) (b : List Place) (w : Way) → since p b ≡ None → unless_stands (is_some (since p b)) w ≡ w
   unless_new p b w h = ap (λ o. unless_stands (is_some o) w) h
 
-  pub more_room : (d : ℕ) (b : List Place) (p : Place) → suc d + length b ≡ 256 → d + length (b ++ p ∷ []) ≡ 256
+  pub more_room : (d : ℕ) (b : List Place) (p : Place) → suc d + length b ≡ most_on_branch → d + length (b ++ p ∷ []) ≡ most_on_branch
   more_room d b p h = omega (arith, length-append b (p ∷ []))
 
-  pub pass_end : (d : ℕ) (b : List Place) → d + length b ≡ 256 → Ending (pass_visits T d b)
+  pub pass_end : (d : ℕ) (b : List Place) → d + length b ≡ most_on_branch → Ending (pass_visits T d b)
   unfolding pass_visits
   pass_end zero b r p n k w c = absurd (no_room b r (enters T n b p (clean_first (visit b p) [] c).0).room)
   pass_end (suc d) b r p n k w c =
@@ -133,7 +133,7 @@ module _ (T : Tokens) where
   pub if_new : (p : Place) (b : List Place) (es : List Visit) → since p b ≡ None → cond (is_some (since p b)) [] es ≡ es
   if_new p b es h = ap (λ o. cond (is_some o) [] es) h
 
-  walk_means : HasParts T → (d : ℕ) (b : List Place) → d + length b ≡ 256 → Meaning (walk_visits T d b)
+  walk_means : HasParts T → (d : ℕ) (b : List Place) → d + length b ≡ most_on_branch → Meaning (walk_visits T d b)
   unfolding walk_visits
   walk_means hp zero b r p n k w c = absurd (no_room b r (enters T n b p (clean_first (visit b p) [] c).0).room)
   walk_means hp (suc d) b r p n k w c =
@@ -148,4 +148,4 @@ module _ (T : Tokens) where
 
   pub unbroken_means : HasParts T → (t : List Step) → is_written (T (whole t)) ≡ true → walk_break T t ≡ None → (v : Value) × Means T (whole t) v
   unfolding walked
-  unbroken_means hp t w h = walk_means hp (256 - length {A = Place} []) [] (omega arith) (whole t) 0 (0 + length (walked T [] (whole t))) w (record { unbroken = h; counted = refl })
+  unbroken_means hp t w h = walk_means hp (most_on_branch - length {A = Place} []) [] (omega arith) (whole t) 0 (0 + length (walked T [] (whole t))) w (record { unbroken = h; counted = refl })

@@ -4,7 +4,7 @@ use Rattle.std.specs.Prelude.{is_some}
 use Rattle.name_path.specs.declared.place.Place.{Place}
 use Rattle.alias_ref.specs.Written.{Step, Written, leaf, parts, refers, misspelled, Tokens, whole, part, is_reference, is_misspelled, is_written}
 use Rattle.alias_ref.specs.Meaning.{Leads, leads, Goes, arrived, onward, Settles}
-use Rattle.alias_ref.specs.Visits.{Visit, visit, Way, goes_on, then_go, since, go_if, steps_from, way_of, settle_by, pass_written, visits_each, at_end, walk_written, most_places, walked, passed, walk_break}
+use Rattle.alias_ref.specs.Visits.{Visit, visit, Way, goes_on, then_go, since, go_if, steps_from, way_of, settle_by, pass_written, visits_each, at_end, walk_written, most_on_branch, walked, passed, walk_break}
 use Rattle.alias_ref.specs.Asking.{Manner, by_walking as walking, by_passing as passing, AsksFor, for_part, for_step, for_target, for_next, Lacks, IsVisited, begins, asked}
 use Rattle.alias_ref.specs.inner.Seen.{Clean, AllWritten, HasParts}
 use Rattle.alias_ref.proofs.BranchesAreChains.{since-lacks}
@@ -29,11 +29,11 @@ module _ (T : Tokens) where
 
   walked_begins : (b : List Place) (p : Place) → (es : List Visit) × (walked T b p ≡ visit b p ∷ es)
   unfolding walked
-  walked_begins b p = walk_visits-begins T (most_places - length b) b p
+  walked_begins b p = walk_visits-begins T (most_on_branch - length b) b p
 
   passed_begins : (b : List Place) (p : Place) → (es : List Visit) × ((passed T b p).seen ≡ visit b p ∷ es)
   unfolding passed
-  passed_begins b p = pass_visits-begins T (most_places - length b) b p
+  passed_begins b p = pass_visits-begins T (most_on_branch - length b) b p
 
   list_of : Manner → List Place → Place → List Visit
   list_of walking b p = walked T b p
@@ -47,13 +47,13 @@ module _ (T : Tokens) where
   -- what is passed below a branch with room ends where it settles
   passed_settles : (b : List Place) → DoSettle T (settle_by T (passed T b))
   unfolding passed
-  passed_settles b = settle_by-settles T (passed T b) (pass_visits-settles T (most_places - length b) b)
+  passed_settles b = settle_by-settles T (passed T b) (pass_visits-settles T (most_on_branch - length b) b)
 
-  passed_ends : (b : List Place) → length b ≤ 256 → Ending T (settle_by T (passed T b))
+  passed_ends : (b : List Place) → length b ≤ most_on_branch → Ending T (settle_by T (passed T b))
   unfolding passed
-  passed_ends b h = settle_end T (passed T b) (pass_end T (most_places - length b) b (omega (arith, h)))
+  passed_ends b h = settle_end T (passed T b) (pass_end T (most_on_branch - length b) b (omega (arith, h)))
 
-  longer : (b : List Place) (p : Place) → length b < 256 → length (b ++ p ∷ []) ≤ 256
+  longer : (b : List Place) (p : Place) → length b < most_on_branch → length (b ++ p ∷ []) ≤ most_on_branch
   longer b p h = omega (arith, h, length-append b (p ∷ []))
 
   each_at : (walk : Place → List Visit) (p : Place) (before after : List Step) (s : Step) → CleanList (visits_each walk p (before ++ s ∷ after)) → CleanList (walk (part p s))
@@ -104,7 +104,7 @@ module _ (T : Tokens) where
   reference_written (Some w) r = refl
 
   -- the way of a reference that was visited without a break
-  module _ (b : List Place) (p : Place) (room : length b ≤ 256) (t steps : List Step) (is : T p ≡ Some (refers t steps)) where
+  module _ (b : List Place) (p : Place) (room : length b ≤ most_on_branch) (t steps : List Step) (is : T p ≡ Some (refers t steps)) where
     abbrev way : Way
     way = way_of T (settle_by T (passed T b)) p t steps
 
@@ -156,7 +156,7 @@ module _ (T : Tokens) where
         let e = enters_of passing b p s.clean in
         rest (visit b p) (pass_written T (settle_by T (passed T (b ++ p ∷ []))) p (Some w)).seen (subst (λ x. CleanList x.seen) (passed-enters T b p (Some w) e is) s.clean)
 
-    room_of : (m : Manner) (b : List Place) (p : Place) → Sound m b p → length (b ++ p ∷ []) ≤ 256
+    room_of : (m : Manner) (b : List Place) (p : Place) → Sound m b p → length (b ++ p ∷ []) ≤ most_on_branch
     room_of m b p s = longer b p (enters_of m b p s.clean).room
 
     way_of_walk : (b : List Place) (p : Place) (t steps : List Step) → T p ≡ Some (refers t steps) → Sound walking b p → CleanList (way_of T (settle_by T (passed T (b ++ p ∷ []))) p t steps).seen
@@ -214,7 +214,7 @@ module _ (T : Tokens) where
     none_is o e = ap is_some e
 
     pub visits_sound : (token : List Step) (b : List Place) (m : Manner) (p : Place) → is_written (T (whole token)) ≡ true → walk_break T token ≡ None → IsVisited T token b m p
-        → Lacks p b × (length b < 256) × (is_misspelled (T p) ≡ false) × ((is_reference (T p) ≡ true) → (q : Place) × Leads T p q)
+        → Lacks p b × (length b < most_on_branch) × (is_misspelled (T p) ≡ false) × ((is_reference (T p) ≡ true) → (q : Place) × Leads T p q)
     visits_sound token b m p w h v =
         let s = sound_visit w h v in
         let e = enters_of m b p s.clean in

@@ -18,7 +18,7 @@ use Rattle.group_inherit.specs.Flattening.{Flattened}
 use Rattle.alias_ref.specs.References.{alias_named, place_named}
 use Rattle.alias_ref.specs.Written.{Step, refers, misspelled, Tokens, whole, is_reference, is_misspelled, is_written, Role, written_as, written_at, written_in}
 use Rattle.alias_ref.specs.Meaning.{Leads, Settles, Means}
-use Rattle.alias_ref.specs.Visits.{RefBreak, most_places, walk_break}
+use Rattle.alias_ref.specs.Visits.{RefBreak, most_on_branch, walk_break}
 use Rattle.alias_ref.specs.Asking.{Manner, Lacks, IsRingOfPlaces, IsVisited}
 use Rattle.alias_ref.specs.Kinds.{Kinds, KindOf, LinksAt, IsLink, own_in, group_in}
 use Rattle.alias_ref.specs.PlainParts.{plain_at, Below}
@@ -74,7 +74,7 @@ UnbrokenMeans = (flat : Flat) (token : List Step) → is_written (written_in fla
 -- whose walk comes to a wrong spelling, to a lost target or back to a place on its branch has a break
 pub record IsSoundVisit (T : Tokens) (b : List Place) (p : Place) : Type 0 where
   pub is_new : Lacks p b
-  pub room : length b < most_places
+  pub room : length b < most_on_branch
   pub spelling : is_misspelled (T p) ≡ false
   pub target : is_reference (T p) ≡ true → (q : Place) × Leads T p q
 
@@ -84,7 +84,7 @@ UnbrokenIsSound = (flat : Flat) (token : List Step) → is_written (written_in f
 
 -- .. and has at most so many links that follow one another
 abbrev pub UnbrokenDepth : Type 0
-UnbrokenDepth = (flat : Flat) (token : List Step) → is_written (written_in flat (whole token)) ≡ true → walk_break (written_in flat) token ≡ None → LinkDepth (written_in flat) most_places (whole token)
+UnbrokenDepth = (flat : Flat) (token : List Step) → is_written (written_in flat (whole token)) ≡ true → walk_break (written_in flat) token ≡ None → LinkDepth (written_in flat) most_on_branch (whole token)
 
 -- .. and it has a kind, or none, and links
 abbrev pub UnbrokenHasKind : Type 0

@@ -2,6 +2,7 @@
 use Rattle.std.specs.Prelude.{ℕ, zero, suc, ◌+◌, ◌-◌, List, [], ◌∷◌, ◌++◌, length, Bool, true, false, ◌&&◌, Option, Some, None, nat_le, is_some, if◌then◌else◌}
 use Rattle.std.specs.Cmp.Lexicographic.{pointwise}
 use Rattle.std.specs.Str.{bytes_eq}
+use Rattle.std.specs.Option.{option_or}
 use Rattle.name_path.specs.declared.place.Place.{Place}
 use Rattle.alias_ref.specs.declared.fault.RefRule.{RefRule}
 use Rattle.alias_ref.specs.declared.fault.RefRule.TheVariants as rule
@@ -116,8 +117,8 @@ abbrev pub ref_break : RefRule → Place → RefBreak
 ref_break rule place = record { rule = rule; place = place; ring = [] }
 
 -- how many places may stand on a branch before a visit
-abbrev pub most_places : ℕ
-most_places = 256
+abbrev pub most_on_branch : ℕ
+most_on_branch = 256
 
 -- how many visits may come before a visit
 abbrev pub most_visits : ℕ
@@ -127,7 +128,7 @@ most_visits = 1024
 abbrev pub break_if : Tokens → ℕ → List Place → Place → Option (List Place) → Option RefBreak
 break_if T n b p (Some ring) = Some (record { rule = rule.Cycle; place = p; ring = ring })
 break_if T n b p None =
-    if nat_le most_places (length b) then Some (ref_break rule.Deep p)
+    if nat_le most_on_branch (length b) then Some (ref_break rule.Deep p)
     else if nat_le most_visits n then Some (ref_break rule.Big p)
     else if is_misspelled (T p) then Some (ref_break rule.RefSyntax p)
     else None
@@ -137,21 +138,17 @@ abbrev pub own_break : Tokens → ℕ → Visit → Option RefBreak
 own_break T n (visit b p) = break_if T n b p (since p b)
 own_break T n (lost p) = Some (ref_break rule.RefTarget p)
 
-abbrev pub or_else : Option RefBreak → Option RefBreak → Option RefBreak
-or_else (Some x) y = Some x
-or_else None y = y
-
 -- the first break, where n visits come before these
 unfoldable pub first_break : Tokens → ℕ → List Visit → Option RefBreak
 first_break T n [] = None
-first_break T n (e ∷ es) = or_else (own_break T n e) (first_break T (n + 1) es)
+first_break T n (e ∷ es) = option_or (own_break T n e) (first_break T (n + 1) es)
 
 -- the visits of walking and of passing a place, below this branch
 unfoldable pub walked : Tokens → List Place → Place → List Visit
-walked T b p = walk_visits T (most_places - length b) b p
+walked T b p = walk_visits T (most_on_branch - length b) b p
 
 unfoldable pub passed : Tokens → List Place → Place → Way
-passed T b p = pass_visits T (most_places - length b) b p
+passed T b p = pass_visits T (most_on_branch - length b) b p
 
 -- the first break of a token's walk
 abbrev pub walk_break : Tokens → List Step → Option RefBreak

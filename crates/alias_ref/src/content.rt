@@ -19,7 +19,7 @@ use std::alloc::Global;
 use tk_io::{NoMemory, Text};
 
 /// What is written at a place.
-#[derive(Drop)]
+#[derive(Debug, Drop)]
 pub(crate) enum Content<'a, 's> {
     /// Null, a truth value, a number or a text.
     Leaf(Plain<'s>),

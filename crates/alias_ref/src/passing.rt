@@ -1,6 +1,7 @@
 //! Following references: where they lead, with nothing walked.
 
 ghost use Rattle.std.specs.Prelude.{◌≡◌, ◌≤◌, length, Some, false, IfOk, OnOk};
+ghost use Rattle.alias_ref.specs.Visits.{most_on_branch};
 ghost use Rattle.alias_ref.specs.Written.{is_misspelled};
 ghost use Rattle.alias_ref.specs.inner.Contents.{content_view};
 ghost use Rattle.alias_ref.specs.inner.Spots.{IsSpot, HasStarts, IsSameBranch};
@@ -24,7 +25,7 @@ fn settle<'a, 's>(
     trace: &mut Trace<'s>,
 ) -> Result<Spot<'a, 's>, RefFault<'s>>
     requires at { IsSpot flat.now spot }
-    requires room { length trace.old.places.items ≤ 256 }
+    requires room { length trace.old.places.items ≤ most_on_branch }
     requires starts { HasStarts flat.now trace.old }
     ensures seen { HasGone flat.entry.now trace.old trace.new result (settling spot.entry.place) }
     ensures ends { HasEnded flat.entry.now trace.old result (settling spot.entry.place) }
@@ -47,7 +48,7 @@ fn pass<'a, 's>(
     trace: &mut Trace<'s>,
 ) -> Result<Spot<'a, 's>, RefFault<'s>>
     requires at { IsSpot flat.now spot }
-    requires room { length trace.old.places.items ≤ 256 }
+    requires room { length trace.old.places.items ≤ most_on_branch }
     requires starts { HasStarts flat.now trace.old }
     ensures seen { HasGone flat.entry.now trace.old trace.new result (passing spot.entry.place) }
     ensures ends { HasEnded flat.entry.now trace.old result (passing spot.entry.place) }
@@ -69,7 +70,7 @@ fn pass_on<'a, 's>(
     trace: &mut Trace<'s>,
 ) -> Result<Spot<'a, 's>, RefFault<'s>>
     requires at { IsSpot flat.now spot }
-    requires room { length trace.old.places.items ≤ 256 }
+    requires room { length trace.old.places.items ≤ most_on_branch }
     requires starts { HasStarts flat.now trace.old }
     requires spelled { is_misspelled (Some (content_view spot.content)) ≡ false }
     ensures seen { HasGone flat.entry.now trace.old trace.new result (passing_on spot.entry) }
@@ -94,7 +95,7 @@ pub(crate) fn follow<'a, 's>(
     named: &Place<'s>,
     trace: &mut Trace<'s>,
 ) -> Result<Spot<'a, 's>, RefFault<'s>>
-    requires room { length trace.old.places.items ≤ 256 }
+    requires room { length trace.old.places.items ≤ most_on_branch }
     requires starts { HasStarts flat.now trace.old }
     ensures seen { HasGone flat.entry.now trace.old trace.new result (leading home.now named.now) }
     ensures ends { HasEnded flat.entry.now trace.old result (leading home.now named.now) }

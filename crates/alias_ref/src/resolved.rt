@@ -18,7 +18,7 @@ use std::sync::ledger::Ledger;
 use tk_io::Steps;
 
 /// A token whose references are resolved.
-#[derive(Drop)]
+#[derive(Debug, Drop)]
 pub struct Resolved<'s> {
     /// Its own `$type`; else the kind of the token that its whole value refers to; else the `$type` of the nearest group.
     pub kind: Kind,

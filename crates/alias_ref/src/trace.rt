@@ -18,14 +18,14 @@ use std::alloc::Global;
 use tk_io::{NoMemory, Text};
 
 /// How many places may stand on a branch before a visit.
-const MOST_PLACES: usize = 256;
+const MOST_ON_BRANCH: usize = 256;
 
 /// How many visits may come before a visit.
 const MOST_VISITS: u32 = 1024;
 
 /// The branch of a walk, and how many visits there were. Beside each place stands the offset where its value starts: where
 /// these differ, the places do, and no path has to be compared.
-#[derive(Drop)]
+#[derive(Debug, Drop)]
 pub(crate) struct Trace<'s> {
     places: Vec<Place<'s>>,
     starts: Vec<usize>,
@@ -126,7 +126,7 @@ impl<'s> Trace<'s> {
                 ring,
             });
         }
-        if self.places.len() >= MOST_PLACES {
+        if self.places.len() >= MOST_ON_BRANCH {
             return Err(broken(alloc, RefRule::Deep, place));
         }
         if self.visits >= MOST_VISITS {
@@ -162,7 +162,7 @@ impl<'s> Trace<'s> {
     fn is_clear(&self, start: usize) -> bool
         ensures { IsTrue result → IsClear self.now start }
     {
-        self.places.len() < MOST_PLACES
+        self.places.len() < MOST_ON_BRANCH
             && self.visits < MOST_VISITS
             && !self.starts.as_slice().contains(&start)
     }

@@ -2,6 +2,7 @@
 
 ghost use Rattle.std.specs.Prelude.{◌≡◌, ◌≤◌, ◌++◌, length, Some, false, IfOk, OnOk};
 ghost use Rattle.json_span.specs.View.{ref_view};
+ghost use Rattle.alias_ref.specs.Visits.{most_on_branch};
 ghost use Rattle.alias_ref.specs.Written.{is_misspelled, part};
 ghost use Rattle.alias_ref.specs.inner.Contents.{content_view};
 ghost use Rattle.alias_ref.specs.inner.Linking.{kind_with, lent, links_added};
@@ -25,7 +26,7 @@ use std::alloc::Global;
 use tk_io::{NoMemory, Text};
 
 /// What a walk finds at a place: the value without references, and the kind of the token whose whole value it is.
-#[derive(Drop)]
+#[derive(Debug, Drop)]
 pub(crate) struct Found<'s> {
     pub(crate) plain: Plain<'s>,
     pub(crate) kind: Option<Kind>,
@@ -84,7 +85,7 @@ pub(crate) fn walk<'a, 's>(
     links: &mut Links<'s>,
 ) -> Result<Found<'s>, RefFault<'s>>
     requires at { IsSpot flat.now spot }
-    requires room { length trace.old.places.items ≤ 256 }
+    requires room { length trace.old.places.items ≤ most_on_branch }
     requires starts { HasStarts flat.now trace.old }
     ensures seen { HasSeen flat.entry.now trace.old trace.new result (walking spot.entry.place) }
     ensures means { IfOk result (λ v. IsMeantAt flat.entry.now spot.entry.place v.plain) }
@@ -109,7 +110,7 @@ fn walk_on<'a, 's>(
     links: &mut Links<'s>,
 ) -> Result<Found<'s>, RefFault<'s>>
     requires at { IsSpot flat.now spot }
-    requires room { length trace.old.places.items ≤ 256 }
+    requires room { length trace.old.places.items ≤ most_on_branch }
     requires starts { HasStarts flat.now trace.old }
     requires spelled { is_misspelled (Some (content_view spot.content)) ≡ false }
     ensures seen { HasSeen flat.entry.now trace.old trace.new result (walking_on spot.entry) }
@@ -165,7 +166,7 @@ fn walk_items<'a, 's>(
     links: &mut Links<'s>,
 ) -> Result<PlainItems<'s>, RefFault<'s>>
     requires at { IsHolder flat.now place.now token.now (item_parts items) }
-    requires room { length trace.old.places.items ≤ 256 }
+    requires room { length trace.old.places.items ≤ most_on_branch }
     requires starts { HasStarts flat.now trace.old }
     ensures seen { HasSeen flat.entry.now trace.old trace.new result
         (walking_parts place.now (item_parts items.entry)) }
@@ -198,7 +199,7 @@ fn walk_fields<'a, 's>(
     links: &mut Links<'s>,
 ) -> Result<PlainFields<'s>, RefFault<'s>>
     requires at { IsHolder flat.now place.now token.now (field_parts fields) }
-    requires room { length trace.old.places.items ≤ 256 }
+    requires room { length trace.old.places.items ≤ most_on_branch }
     requires starts { HasStarts flat.now trace.old }
     ensures seen { HasSeen flat.entry.now trace.old trace.new result
         (walking_parts place.now (field_parts fields.entry)) }
@@ -240,7 +241,7 @@ fn walk_part<'a, 's>(
     links: &mut Links<'s>,
 ) -> Result<Plain<'s>, RefFault<'s>>
     requires at { IsPartAt flat.now place.now token.now step.now (ref_view node) }
-    requires room { length trace.old.places.items ≤ 256 }
+    requires room { length trace.old.places.items ≤ most_on_branch }
     requires starts { HasStarts flat.now trace.old }
     ensures seen { HasSeen flat.entry.now trace.old trace.new result
         (walking (part place.now step.now)) }

@@ -7,7 +7,7 @@ use Rattle.json_span.specs.Tree.{Tree, a_null, a_boolean, a_number, a_string, an
 use Rattle.json_span.specs.Flaw.{flaw_in}
 use Rattle.group_inherit.specs.Flattening.{Flattened}
 use Rattle.alias_ref.specs.Written.{Step, of_value, Tokens, Parts, parts_of, part_behind, value_at, is_reference, written_as, role_behind, role_at}
-use Rattle.alias_ref.specs.Visits.{most_places, most_visits}
+use Rattle.alias_ref.specs.Visits.{most_on_branch, most_visits}
 use Rattle.alias_ref.specs.Kinds.{Kinds, LinksAt, LinksEach}
 use Rattle.alias_ref.specs.Laws.{Flat}
 use Rattle.alias_ref.specs.inner.Contents.{IsContent}
@@ -81,7 +81,7 @@ HasStarts flat t = t.starts.items ≡ map (start_in flat) t.places.items
 -- a visit of a value that starts so finds no such start on the branch, and room
 pub record IsClear (t : Trace) (start : ℕ) : Type 0 where
   pub is_new : Contains t.starts.items start → ⊥
-  pub room : length t.places.items < most_places
+  pub room : length t.places.items < most_on_branch
   pub few : t.visits < most_visits
 
 -- the branch stays

@@ -1,21 +1,21 @@
-use Rattle.std.proofs.Common.{◌≡◌, ◌+◌, ◌-◌, ◌*◌, List, length, drop}
+use Rattle.std.proofs.Common.{suc, ◌≡◌, ◌+◌, ◌-◌, ◌*◌, List, length, drop}
 use Rattle.alias_ref.specs.Written.{written_in}
-use Rattle.alias_ref.specs.Visits.{Visit, after_visits, steps_from, way_of, settle_by, passed}
+use Rattle.alias_ref.specs.Visits.{Visit, after_visits, steps_from, way_of, settle_by, passed, most_on_branch}
 use Rattle.alias_ref.specs.inner.Seen.{Clean}
 use Rattle.alias_ref.specs.inner.Spots.{IsSpot, IsSameBranch}
 use Rattle.alias_ref.proofs.passing.+passing.Given as goal
 
 abbrev pub decreases-settle : goal.decreases-settle
-decreases-settle l = 8 * (257 - length l.trace.now.places.items) + 1
+decreases-settle l = 8 * (suc most_on_branch - length l.trace.now.places.items) + 1
 
 abbrev pub decreases-pass : goal.decreases-pass
-decreases-pass l = 8 * (257 - length l.trace.now.places.items)
+decreases-pass l = 8 * (suc most_on_branch - length l.trace.now.places.items)
 
 abbrev pub decreases-pass_on : goal.decreases-pass_on
-decreases-pass_on l = 8 * (257 - length l.trace.now.places.items) + 3
+decreases-pass_on l = 8 * (suc most_on_branch - length l.trace.now.places.items) + 3
 
 abbrev pub decreases-follow : goal.decreases-follow
-decreases-follow l = 8 * (257 - length l.trace.now.places.items) + 2
+decreases-follow l = 8 * (suc most_on_branch - length l.trace.now.places.items) + 2
 
 abbrev pub invariant-follow-loop-step : goal.invariant-follow-loop-step
 invariant-follow-loop-step l =

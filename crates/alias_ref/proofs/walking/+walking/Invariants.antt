@@ -1,5 +1,6 @@
-use Rattle.std.proofs.Common.{◌≡◌, ◌+◌, ◌-◌, ◌*◌, List, length, map}
+use Rattle.std.proofs.Common.{suc, ◌≡◌, ◌+◌, ◌-◌, ◌*◌, List, length, map}
 use Rattle.json_span.specs.PlainView.{ValueEntry, plain_items_view, plain_fields_view}
+use Rattle.alias_ref.specs.Visits.{most_on_branch}
 use Rattle.alias_ref.specs.Written.{written_in, parts_by_index, parts_by_name}
 use Rattle.alias_ref.specs.Kinds.{own_in, group_in}
 use Rattle.json_span.specs.View.{items_view, fields_view}
@@ -8,19 +9,19 @@ use Rattle.alias_ref.specs.inner.Turns.{PartsWalked}
 use Rattle.alias_ref.proofs.walking.+walking.Given as goal
 
 abbrev pub decreases-walk : goal.decreases-walk
-decreases-walk l = 8 * (257 - length l.trace.now.places.items)
+decreases-walk l = 8 * (suc most_on_branch - length l.trace.now.places.items)
 
 abbrev pub decreases-walk_on : goal.decreases-walk_on
-decreases-walk_on l = 8 * (257 - length l.trace.now.places.items) + 3
+decreases-walk_on l = 8 * (suc most_on_branch - length l.trace.now.places.items) + 3
 
 abbrev pub decreases-walk_items : goal.decreases-walk_items
-decreases-walk_items l = 8 * (257 - length l.trace.now.places.items) + 2
+decreases-walk_items l = 8 * (suc most_on_branch - length l.trace.now.places.items) + 2
 
 abbrev pub decreases-walk_fields : goal.decreases-walk_fields
-decreases-walk_fields l = 8 * (257 - length l.trace.now.places.items) + 2
+decreases-walk_fields l = 8 * (suc most_on_branch - length l.trace.now.places.items) + 2
 
 abbrev pub decreases-walk_part : goal.decreases-walk_part
-decreases-walk_part l = 8 * (257 - length l.trace.now.places.items) + 1
+decreases-walk_part l = 8 * (suc most_on_branch - length l.trace.now.places.items) + 1
 
 abbrev pub invariant-walk_items-loop-node : goal.invariant-walk_items-loop-node
 invariant-walk_items-loop-node l =
