@@ -14,6 +14,7 @@ ghost use Rattle.alias_ref.specs.Laws.{Flat};
 use crate::fault::{RefFault, RefRule};
 use crate::spot::{Spot, part_place};
 use name_path::{Place, Ring};
+use smallvec::SmallVec;
 use std::alloc::Global;
 use tk_io::{NoMemory, Text};
 
@@ -24,11 +25,12 @@ const MOST_ON_BRANCH: usize = 256;
 const MOST_VISITS: u32 = 1024;
 
 /// The branch of a walk, and how many visits there were. Beside each place stands the offset where its value starts: where
-/// these differ, the places do, and no path has to be compared.
+/// these differ, the places do, and no path has to be compared. Most branches are short, so that no memory is asked for the
+/// offsets.
 #[derive(Debug, Drop)]
 pub(crate) struct Trace<'s> {
     places: Vec<Place<'s>>,
-    starts: Vec<usize>,
+    starts: SmallVec<usize, 4>,
     visits: u32,
 }
 
@@ -83,7 +85,7 @@ impl<'s> Trace<'s> {
     {
         Trace {
             places: Vec::new(alloc),
-            starts: Vec::new(alloc),
+            starts: SmallVec::new(alloc),
             visits: 0,
         }
     }
