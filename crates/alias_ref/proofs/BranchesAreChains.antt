@@ -2,7 +2,7 @@
 use Rattle.std.proofs.Common.{◌≡◌, ℕ, zero, suc, List, [], ◌∷◌, ◌++◌, Bool, true, false, cond, Option, Some, None, refl, sym, ◌∙◌, subst, append_assoc, inl, inr}
 use Rattle.std.specs.Prelude.{is_some, ◌⊎◌}
 use Rattle.name_path.specs.declared.place.Place.{Place}
-use Rattle.alias_ref.specs.Written.{Step, Container, Written, leaf, parts, refers, misspelled, Tokens, whole, part, is_reference, is_written}
+use Rattle.alias_ref.specs.Written.{Step, Container, Written, leaf, parts, refers, misspelled, WrittenPlaces, whole, part, is_reference, is_written}
 use Rattle.alias_ref.specs.Meaning.{Goes, arrived, onward, Settles}
 use Rattle.alias_ref.specs.Visits.{Visit, visit, lost, Way, goes_on, since, same_place, go_if, steps_from, way_of, settled, settle_by, pass_written, unless_stands, pass_visits, visits_each, at_end, walk_written, walk_visits}
 use Rattle.alias_ref.specs.Asking.{by_walking as walking, by_passing as passing, for_part, for_step, for_target, Asks, Chain, starts, links_last, links, Lacks, lacks_none, lacks, Differ, differ_none, differ_more, IsRingOfPlaces, ring}
@@ -30,7 +30,7 @@ go_if_each P true home w l h = h refl
 go_if_each P false home w l h = (l, tt)
 
 -- the places of the branch differ, and each asks for the next
-abbrev pub Good : Tokens → Visit → Type 0
+abbrev pub Good : WrittenPlaces → Visit → Type 0
 Good T (visit b p) = Chain T b p × Differ b
 Good T (lost p) = Unit {0}
 
@@ -52,7 +52,7 @@ since-lacks p (q ∷ b) h =
     let k = cond_first (same_place q p) p b q refl h in
     lacks (λ e. let t : true ≡ false = sym (place_same q p (sym e)) ∙ k.0 in cc) (since-lacks p b k.1)
 
-module _ (T : Tokens) where
+module _ (T : WrittenPlaces) where
   Chain-end : {p q : Place} {b : List Place} → Chain T b p → Asks T p q → Chain T (b ++ p ∷ []) q
   Chain-end starts a = links_last a
   Chain-end (links_last k) a = links k (links_last a)

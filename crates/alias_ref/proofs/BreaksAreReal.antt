@@ -2,7 +2,7 @@
 use Rattle.std.proofs.Common.{◌≡◌, ℕ, zero, suc, ◌+◌, ◌-◌, List, [], ◌∷◌, ◌++◌, Bool, true, false, cond, Option, Some, None, length, refl, sym, ap, ◌∙◌, subst, inl, inr}
 use Rattle.std.specs.Prelude.{is_some, nat_le}
 use Rattle.name_path.specs.declared.place.Place.{Place}
-use Rattle.alias_ref.specs.Written.{Step, Written, leaf, parts, refers, misspelled, Tokens, whole, part, is_reference, is_misspelled, is_written}
+use Rattle.alias_ref.specs.Written.{Step, Written, leaf, parts, refers, misspelled, WrittenPlaces, whole, part, is_reference, is_misspelled, is_written}
 use Rattle.alias_ref.specs.Meaning.{Leads, leads, Goes, onward, Settles}
 use Rattle.alias_ref.specs.Visits.{Visit, visit, lost, Way, since, go_if, steps_from, way_of, settled, settle_by, pass_written, unless_stands, pass_visits, visits_each, walk_written, walk_visits, RefBreak, ref_break, most_on_branch, most_visits, break_if, own_break, first_break, walked, walk_break}
 use Rattle.alias_ref.specs.declared.fault.RefRule.TheVariants as rule
@@ -15,7 +15,7 @@ abbrev pub got : RefBreak → Option RefBreak → RefBreak
 got b (Some x) = x
 got b None = b
 
-module _ (T : Tokens) where
+module _ (T : WrittenPlaces) where
   -- a reference that is lost leads nowhere
   abbrev pub LeadsNowhere : Visit → Type 0
   LeadsNowhere (visit b p) = Unit {0}

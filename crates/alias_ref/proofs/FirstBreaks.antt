@@ -4,7 +4,7 @@ use Rattle.std.proofs.lemmas.Bool.{lt-leb}
 use Rattle.std.specs.Prelude.{is_some, nat_le}
 use Rattle.std.specs.Option.{option_or}
 use Rattle.name_path.specs.declared.place.Place.{Place}
-use Rattle.alias_ref.specs.Written.{Written, Tokens, is_misspelled}
+use Rattle.alias_ref.specs.Written.{Written, WrittenPlaces, is_misspelled}
 use Rattle.alias_ref.specs.Visits.{Visit, visit, after_visits, since, settle_by, pass_written, unless_stands, pass_visits, walk_written, walk_visits, RefBreak, ref_break, most_on_branch, most_visits, break_if, own_break, first_break, walked, passed}
 use Rattle.alias_ref.specs.declared.fault.RefRule.TheVariants as rule
 use Rattle.alias_ref.specs.inner.Seen.{Clean, IsFault}
@@ -19,7 +19,7 @@ pub or_none : (a b : Option RefBreak) → option_or a b ≡ None → (a ≡ None
 or_none (Some x) b h = cc
 or_none None b h = (refl, h)
 
-module _ (T : Tokens) where
+module _ (T : WrittenPlaces) where
   pub first-append : (n : ℕ) (xs ys : List Visit) → first_break T n (xs ++ ys) ≡ option_or (first_break T n xs) (first_break T (n + length xs) ys)
   unfolding first_break
   first-append n [] ys = let e : n ≡ n + length {A = Visit} [] = omega arith in ap (λ k. first_break T k ys) e

@@ -2,7 +2,7 @@
 use Rattle.std.proofs.Common.{◌≡◌, ℕ, zero, suc, ◌+◌, ◌-◌, List, [], ◌∷◌, ◌++◌, true, false, cond, Option, Some, None, length, refl, subst, arith}
 use Rattle.std.specs.Prelude.{is_some}
 use Rattle.name_path.specs.declared.place.Place.{Place}
-use Rattle.alias_ref.specs.Written.{Step, Written, leaf, parts, refers, misspelled, Tokens, whole, part, is_misspelled, is_written}
+use Rattle.alias_ref.specs.Written.{Step, Written, leaf, parts, refers, misspelled, WrittenPlaces, whole, part, is_misspelled, is_written}
 use Rattle.alias_ref.specs.Visits.{Visit, visit, Way, since, way_of, settle_by, pass_visits, visits_each, walk_written, walk_visits, walked, walk_break, most_on_branch}
 use Rattle.alias_ref.specs.inner.Seen.{Clean, HasParts, AllWritten}
 use Rattle.alias_ref.specs.Depth.{LinkDepth, depth_leaf, depth_steps, depth_link, depth_parts, EachDepth, depth_none, depth_more}
@@ -10,7 +10,7 @@ use Rattle.alias_ref.proofs.FirstBreaks.{enters}
 use Rattle.alias_ref.proofs.LinksOfParts.{way_end}
 use Rattle.alias_ref.proofs.UnbrokenMeans.{Ending, clean_front, clean_first, way_end_is, at_end_means, front_of, settle_end, pass_end, more_room, no_room, if_new}
 
-module _ (T : Tokens) where
+module _ (T : WrittenPlaces) where
   mutual
     deeper : {n : ℕ} {p : Place} → LinkDepth T n p → LinkDepth T (suc n) p
     deeper (depth_leaf e) = depth_leaf e

@@ -3,12 +3,12 @@ use Rattle.std.proofs.Common.{◌≡◌, List, [], ◌∷◌, Some, inl, inr, re
 use Rattle.ring.specs.Lists.{In}
 use Rattle.name_path.specs.declared.link.Link.{Link}
 use Rattle.name_path.specs.declared.place.Place.{Place}
-use Rattle.alias_ref.specs.Written.{Step, refers, Tokens, part}
+use Rattle.alias_ref.specs.Written.{Step, refers, WrittenPlaces, part}
 use Rattle.alias_ref.specs.Kinds.{Kinds, LinksAt, links_leaf, links_steps, links_one, links_parts, LinksEach, each_done, each_more, IsLink}
 use Rattle.alias_ref.specs.PlainParts.{Below, below_here, below_part}
 use Rattle.alias_ref.proofs.RefsAreWritten.{In-left, In-right, In-either}
 
-module _ (T : Tokens) (own group : Kinds) where
+module _ (T : WrittenPlaces) (own group : Kinds) where
   link_is : (token : List Step) (x l : Link) → IsLink T own group token x → l ≡ x → IsLink T own group token l
   link_is token x l k e = subst (IsLink T own group token) (sym e) k
 

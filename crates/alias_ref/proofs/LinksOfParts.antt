@@ -1,7 +1,7 @@
 -- Kinds and links at a place, from those at its parts and targets.
 use Rattle.std.proofs.Common.{◌≡◌, List, [], ◌∷◌, ◌++◌, Option, Some, None, refl, sym, ap, ap₂, ◌∙◌, subst, append_assoc, append-nil}
 use Rattle.name_path.specs.declared.place.Place.{Place}
-use Rattle.alias_ref.specs.Written.{Step, Written, refers, Tokens, whole, part, is_written}
+use Rattle.alias_ref.specs.Written.{Step, Written, refers, WrittenPlaces, whole, part, is_written}
 use Rattle.alias_ref.specs.Visits.{Way, steps_from, way_of}
 use Rattle.alias_ref.specs.Kinds.{Kinds, link_token, KindOf, kind_alone, kind_linked, LinksAt, links_leaf, links_steps, links_one, links_parts, LinksEach, each_done, each_more}
 use Rattle.group_inherit.specs.Merging.{either}
@@ -13,7 +13,7 @@ use Rattle.alias_ref.proofs.WaysSettle.{go_if_ends}
 pub whole_of : (p : Place) → p.trail ≡ [] → p ≡ whole p.token
 whole_of p h = let make : List Step → Place = λ ss. record { token = p.token; trail = ss } in ap make h
 
-module _ (T : Tokens) where
+module _ (T : WrittenPlaces) where
   pub way_end : (settle : Place → Way) (p q : Place) (u : List Step) → (way_of T settle p u []).ends ≡ Some q → q ≡ whole u
   unfolding steps_from
   way_end settle p q u h = let k = go_if_ends (is_written (T (whole u))) p (steps_from T settle p (whole u) []) h in let e = k.1 in cc

@@ -2,10 +2,10 @@
 use Rattle.std.proofs.Common.{◌≡◌, List, ◌∷◌, true, false, Some, refl, sym, ap, ap₂, ◌∙◌, subst}
 use Rattle.name_path.specs.declared.place.Place.{Place}
 use Rattle.json_span.specs.PlainView.{Value, ValueEntry}
-use Rattle.alias_ref.specs.Written.{Step, Container, leaf, parts, refers, Tokens, whole, part, is_reference}
+use Rattle.alias_ref.specs.Written.{Step, Container, leaf, parts, refers, WrittenPlaces, whole, part, is_reference}
 use Rattle.alias_ref.specs.Meaning.{Leads, leads, Goes, arrived, onward, Settles, stays, follows, put_together, Means, means_leaf, means_parts, means_target, EachMeans, none_left, one_more}
 
-module _ (T : Tokens) where
+module _ (T : WrittenPlaces) where
   pub goes_along : {t u : List Step} {ss us : List Step} {q : Place} → Some (refers t ss) ≡ Some (refers u us) → Goes T (whole u) us q → Goes T (whole t) ss q
   goes_along {t} {u} {ss} {us} {q} e g = let a : u ≡ t = cc in let b : us ≡ ss = cc in subst (λ x. Goes T (whole x) ss q) a (subst (λ xs. Goes T (whole u) xs q) b g)
 

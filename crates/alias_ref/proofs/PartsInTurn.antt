@@ -6,7 +6,7 @@ use Rattle.name_path.specs.declared.place.Place.{Place}
 use Rattle.std.specs.Fmt.{decimal}
 use Rattle.json_span.specs.Tree.{Placed, Entry as Member}
 use Rattle.json_span.specs.PlainView.{Value, ValueEntry}
-use Rattle.alias_ref.specs.Written.{Step, Container, leaf, parts, refers, Tokens, Parts, part, parts_by_index, parts_by_name, steps_of, is_reference}
+use Rattle.alias_ref.specs.Written.{Step, Container, leaf, parts, refers, WrittenPlaces, Parts, part, parts_by_index, parts_by_name, steps_of, is_reference}
 use Rattle.alias_ref.specs.Meaning.{Leads, Settles, stays, follows, Means, EachMeans, none_left, one_more}
 use Rattle.alias_ref.specs.Visits.{Visit, Way, way_of, settle_by, visits_each, first_break, walked, passed}
 use Rattle.alias_ref.specs.Kinds.{Kinds, KindOf, each_done, links_leaf, links_parts}
@@ -40,7 +40,7 @@ push_map : {A B : Type 0} (f : A → B) (xs : List A) (x : A) → map f (xs ++ x
 push_map f [] x = refl
 push_map f (y ∷ xs) x = ap (λ l. f y ∷ l) (push_map f xs x)
 
-module _ (T : Tokens) where
+module _ (T : WrittenPlaces) where
   pub lead_by : (b : List Place) (p q : Place) (t steps : List Step) → T p ≡ Some (refers t steps) → (way_of T (settle_by T (passed T b)) p t steps).ends ≡ Some q → Leads T p q
   unfolding passed
   lead_by b p q t steps is h = way_of-leads T (settle_by T (passed T b)) (settle_by-settles T (passed T b) (pass_visits-settles T _ b)) p q t steps is h
@@ -68,7 +68,7 @@ module _ (T : Tokens) where
   grown_parts kinds groups true p steps old new is (ls, k, e) = (ls, links_parts is k, e)
   grown_parts kinds groups false p steps old new is h = h
 
-module _ (T : Tokens) (kinds groups : Kinds) (p : Place) where
+module _ (T : WrittenPlaces) (kinds groups : Kinds) (p : Place) where
   grown_more : (own : Bool) (steps : List Step) (s : Step) (old now new : List Link) → HasGrownEach own T kinds groups p steps old now → HasGrown own T kinds groups (part p s) now new → HasGrownEach own T kinds groups p (steps ++ s ∷ []) old new
   grown_more true steps s old now new h (more, l, e) = one_more_part T kinds groups p steps s old now new more h l e
   grown_more false steps s old now new h k = k ∙ h
@@ -78,7 +78,7 @@ module _ (T : Tokens) (kinds groups : Kinds) (p : Place) where
   none_grown false links = refl
 
 -- a walk over the parts of a place: what was walked so far, what comes next, and what the next part adds
-module _ {T : Tokens} {kinds groups : Kinds} {branch : List Place} {p : Place} where
+module _ {T : WrittenPlaces} {kinds groups : Kinds} {branch : List Place} {p : Place} where
   pub none_walked : {own : Bool} {all rest : Parts} {n : ℕ} {es : List ValueEntry} {links : List Link} → all ≡ rest → es ≡ [] → PartsWalked T own kinds groups branch p all rest n n es links links
   none_walked {own} {all} {rest} {n} {es} {links} same e = record {
     front = [];
@@ -129,22 +129,22 @@ module _ {T : Tokens} {kinds groups : Kinds} {branch : List Place} {p : Place} w
       (subst (λ x. IsFault f (first_break T i (walked T x (part p s)))) same h)
 
 -- the links and the kind of a place that is no reference
-module _ (T : Tokens) (kinds groups : Kinds) where
+module _ (T : WrittenPlaces) (kinds groups : Kinds) where
   pub leaf_grown : (own : Bool) (p : Place) (v : Value) (links : List Link) → T p ≡ Some (leaf v) → HasGrown own T kinds groups p links links
   leaf_grown true p v links is = ([], links_leaf is, sym (append-nil links))
   leaf_grown false p v links is = refl
 
 -- a place that settles is no reference
-settles_plain : {T : Tokens} {p q : Place} → Settles T p q → is_reference (T q) ≡ false
+settles_plain : {T : WrittenPlaces} {p q : Place} → Settles T p q → is_reference (T q) ≡ false
 settles_plain (stays h) = h
 settles_plain (follows a b) = settles_plain b
 
-pub settled_plain : (T : Tokens) (b : List Place) (p q : Place) → (settle_by T (passed T b) p).ends ≡ Some q → is_reference (T q) ≡ false
+pub settled_plain : (T : WrittenPlaces) (b : List Place) (p q : Place) → (settle_by T (passed T b) p).ends ≡ Some q → is_reference (T q) ≡ false
 unfolding passed
 settled_plain T b p q h = settles_plain (settle_by-settles T (passed T b) (pass_visits-settles T _ b) p q h)
 
 -- the links of a reference, where it is in the token's own value
-module _ (T : Tokens) (kinds groups : Kinds) where
+module _ (T : WrittenPlaces) (kinds groups : Kinds) where
   pub refers_grown : (own : Bool) (settle : Place → Way) (p q : Place) (u steps : List Step) (k : Option Kind) (old mid new : List Link) → T p ≡ Some (refers u steps) → (way_of T settle p u steps).ends ≡ Some q → (q.trail ≡ [] → KindOf T kinds groups q.token k)
       → mid ≡ old → new ≡ mid ++ links_added own p u k steps → HasGrown own T kinds groups p old new
   refers_grown true settle p q u steps k old mid new is ends kind e f = (link_here p u k steps, refers_links T kinds groups settle p q u steps k (link_here p u k steps) is ends kind refl, f ∙ ap (λ ls. ls ++ link_here p u k steps) e)

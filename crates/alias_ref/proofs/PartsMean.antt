@@ -11,7 +11,7 @@ use Rattle.json_span.specs.Plain.{plains_of, plain_members_of, plains_in, plain_
 use Rattle.json_span.specs.PlainView.{Value, ValueEntry}
 use Rattle.token_tree.proofs.Names.{same_text, text_same}
 use Rattle.token_tree.specs.Shape.{has}
-use Rattle.alias_ref.specs.Written.{Step, Container, array, object, parts, Tokens, part, parts_by_index, parts_by_name, steps_of, Role, reference_written, object_pointed, written_as, role_at, written_in}
+use Rattle.alias_ref.specs.Written.{Step, Container, array, object, parts, WrittenPlaces, part, parts_by_index, parts_by_name, steps_of, Role, reference_written, object_pointed, written_as, role_at, written_in}
 use Rattle.alias_ref.specs.Meaning.{put_together, Means, means_leaf, means_parts, means_target, EachMeans, none_left, one_more}
 use Rattle.alias_ref.specs.PlainParts.{plain_numbered, plain_parts, plain_under, plain_at, Below, below_here, below_part}
 use Rattle.alias_ref.specs.Laws.{Flat}
@@ -42,7 +42,7 @@ array_steps role (a_string text) steps e = absurd (text_no_parts role text array
 array_steps role (an_array ns) steps e = (elements_in ns, cc)
 array_steps role (an_object ms) steps e = absurd (object_array (has (codes "$ref") (entries_in ms)) (entries_in ms) steps e)
 
-module _ (T : Tokens) where
+module _ (T : WrittenPlaces) where
   each_numbered : (p : Place) (i : ℕ) (ns : List Placed) (es : List ValueEntry) → EachMeans T p (steps_of (parts_by_index i ns)) es → plain_numbered i (map (λ e. e.value) es) ≡ es
   each_numbered p i [] es none_left = refl
   each_numbered p i (n ∷ ns) es (one_more {v = v} {es = gs} m ms) =

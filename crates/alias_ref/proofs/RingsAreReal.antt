@@ -3,7 +3,7 @@ use Rattle.std.proofs.Common.{◌≡◌, ℕ, ◌+◌, ◌-◌, List, [], ◌∷
 use Rattle.std.specs.Prelude.{nat_le, ◌⊎◌}
 use Rattle.std.specs.Option.{option_or}
 use Rattle.name_path.specs.declared.place.Place.{Place}
-use Rattle.alias_ref.specs.Written.{Step, Tokens, whole, is_misspelled}
+use Rattle.alias_ref.specs.Written.{Step, WrittenPlaces, whole, is_misspelled}
 use Rattle.alias_ref.specs.Visits.{Visit, visit, lost, since, RefBreak, ref_break, most_on_branch, most_visits, break_if, own_break, first_break, walked, walk_break}
 use Rattle.alias_ref.specs.declared.fault.RefRule.{RefRule}
 use Rattle.alias_ref.specs.declared.fault.RefRule.TheVariants as rule
@@ -29,7 +29,7 @@ no_ring false true c p q r h = let e : rule.Big ≡ rule.Cycle = ap (λ o. rule_
 no_ring false false true p q r h = let e : rule.RefSyntax ≡ rule.Cycle = ap (λ o. rule_of o) h in cc
 no_ring false false false p q r h = cc
 
-module _ (T : Tokens) where
+module _ (T : WrittenPlaces) where
   ring_of_visit : (n : ℕ) (b : List Place) (p q : Place) (r : List Place) (o : Option (List Place)) → break_if T n b p o ≡ Some (record { rule = rule.Cycle; place = q; ring = r }) → o ≡ Some r
   ring_of_visit n b p q r (Some k) h = ap (λ x. Some (ring_in x)) h
   ring_of_visit n b p q r None h = absurd (no_ring (nat_le most_on_branch (length b)) (nat_le most_visits n) (is_misspelled (T p)) p q r h)

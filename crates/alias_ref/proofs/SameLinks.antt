@@ -1,7 +1,7 @@
 -- Trees that agree where references lead have the same kinds and links there.
 use Rattle.std.proofs.Common.{◌≡◌, List, [], ◌∷◌, Option, Some, None, sym, ap, ap₂, ◌∙◌}
 use Rattle.name_path.specs.declared.place.Place.{Place}
-use Rattle.alias_ref.specs.Written.{Step, Written, leaf, parts, refers, misspelled, Tokens, whole}
+use Rattle.alias_ref.specs.Written.{Step, Written, leaf, parts, refers, misspelled, WrittenPlaces, whole}
 use Rattle.alias_ref.specs.Kinds.{Kinds, link_token, KindOf, kind_alone, kind_linked, LinksAt, links_leaf, links_steps, links_one, links_parts, LinksEach, each_done, each_more}
 use Rattle.group_inherit.specs.Merging.{either}
 use Rattle.name_path.specs.declared.kind.Kind.{Kind}
@@ -15,7 +15,7 @@ link_is (Some (parts c ss)) u h = cc
 link_is (Some misspelled) u h = cc
 link_is None u h = cc
 
-module _ (T T' : Tokens) (own own' group group' : Kinds) (In : List Step → Type 0) (agree : (p : Place) → In p.token → T p ≡ T' p) (same_own : (t : List Step) → In t → own t ≡ own' t) (same_group : (t : List Step) → In t → group t ≡ group' t) (closed : (p : Place) (u : List Step) (steps : List Step) → In p.token → T' p ≡ Some (refers u steps) → In u) where
+module _ (T T' : WrittenPlaces) (own own' group group' : Kinds) (In : List Step → Type 0) (agree : (p : Place) → In p.token → T p ≡ T' p) (same_own : (t : List Step) → In t → own t ≡ own' t) (same_group : (t : List Step) → In t → group t ≡ group' t) (closed : (p : Place) (u : List Step) (steps : List Step) → In p.token → T' p ≡ Some (refers u steps) → In u) where
   pub kind_same : {t : List Step} {o : Option Kind} → KindOf T own group t o → In t → KindOf T' own' group' t o
   kind_same (kind_alone {token = t} n e) h = kind_alone (ap link_token (sym (agree (whole t) h)) ∙ n) (e ∙ ap₂ either (same_own t h) (same_group t h))
   kind_same (kind_linked {token = t} {other = u} {l = l} n k e) h =

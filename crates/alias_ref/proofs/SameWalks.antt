@@ -4,13 +4,13 @@ use Rattle.std.specs.Prelude.{is_some, nat_le}
 use Rattle.std.specs.Option.{option_or}
 use Rattle.name_path.specs.declared.place.Place.{Place}
 use Rattle.json_span.specs.PlainView.{Value, ValueEntry}
-use Rattle.alias_ref.specs.Written.{Step, Written, leaf, parts, refers, misspelled, Tokens, whole, part, is_reference, is_misspelled, is_written}
+use Rattle.alias_ref.specs.Written.{Step, Written, leaf, parts, refers, misspelled, WrittenPlaces, whole, part, is_reference, is_misspelled, is_written}
 use Rattle.alias_ref.specs.Meaning.{Leads, leads, Goes, arrived, onward, Settles, stays, follows, Means, means_leaf, means_parts, means_target, EachMeans, none_left, one_more}
 use Rattle.alias_ref.specs.Visits.{Visit, visit, lost, Way, ends_at, no_end, after_visits, goes_on, then_go, since, go_if, steps_from, way_of, settled, settle_by, pass_written, unless_stands, pass_visits, visits_each, at_end, walk_written, walk_visits, ref_break, most_on_branch, most_visits, break_if, own_break, first_break, walked, walk_break}
 use Rattle.alias_ref.specs.declared.fault.RefRule.TheVariants as rule
 use Rattle.alias_ref.proofs.BranchesAreChains.{Each, Each-append}
 
-module _ (T T' : Tokens) (In : List Step → Type 0) (agree : (p : Place) → In p.token → T p ≡ T' p) (closed : (p : Place) (u : List Step) (steps : List Step) → In p.token → T' p ≡ Some (refers u steps) → In u) where
+module _ (T T' : WrittenPlaces) (In : List Step → Type 0) (agree : (p : Place) → In p.token → T p ≡ T' p) (closed : (p : Place) (u : List Step) (steps : List Step) → In p.token → T' p ≡ Some (refers u steps) → In u) where
   module _ where
     mutual
       leads_same : {p q : Place} → Leads T p q → In p.token → Leads T' p q × In q.token

@@ -3,7 +3,7 @@ use Rattle.std.proofs.Common.{◌≡◌, ℕ, zero, suc, ◌+◌, ◌<◌, List,
 use Rattle.std.specs.Prelude.{Contains, IfNone, IfSome}
 use Rattle.std.specs.FinMap as flat_map
 use Rattle.name_path.specs.declared.place.Place.{Place}
-use Rattle.alias_ref.specs.Written.{Step, Tokens, whole, is_written, is_misspelled, written_in}
+use Rattle.alias_ref.specs.Written.{Step, WrittenPlaces, whole, is_written, is_misspelled, written_in}
 use Rattle.alias_ref.specs.Visits.{visit, same_place, since, own_break}
 use Rattle.alias_ref.specs.Laws.{Flat}
 use Rattle.alias_ref.specs.inner.Spots.{start_in, HasStarts, IsClear, IsSameBranch}
@@ -24,7 +24,7 @@ no_start f p (q ∷ ps) h =
     ∙ no_start f p ps (λ k. h (suc k.0, omega (arith, k.1), k.2))
 
 -- a visit that finds no such start on the branch, and room, breaks no rule where the place is spelled well
-pub clear_visit : (flat : Flat) (T : Tokens) (t : Trace) (p : Place) (start : ℕ) → IsClear t start → HasStarts flat t → start ≡ start_in flat p → is_misspelled (T p) ≡ false → own_break T t.visits (visit t.places.items p) ≡ None
+pub clear_visit : (flat : Flat) (T : WrittenPlaces) (t : Trace) (p : Place) (start : ℕ) → IsClear t start → HasStarts flat t → start ≡ start_in flat p → is_misspelled (T p) ≡ false → own_break T t.visits (visit t.places.items p) ≡ None
 clear_visit flat T t p start k h e spelled =
     let new = no_start (start_in flat) p t.places.items (λ there.
     k.is_new (subst (λ xs. Contains xs start) (sym h) (subst (Contains (map (start_in flat) t.places.items)) (sym e) there))) in

@@ -5,7 +5,7 @@ use Rattle.group_inherit.specs.Merging.{either}
 use Rattle.name_path.specs.declared.kind.Kind.{Kind}
 use Rattle.name_path.specs.declared.link.Link.{Link}
 use Rattle.name_path.specs.declared.place.Place.{Place}
-use Rattle.alias_ref.specs.Written.{Step, Written, leaf, parts, refers, misspelled, Tokens, whole, part, is_misspelled, is_written}
+use Rattle.alias_ref.specs.Written.{Step, Written, leaf, parts, refers, misspelled, WrittenPlaces, whole, part, is_misspelled, is_written}
 use Rattle.alias_ref.specs.Visits.{Visit, visit, Way, since, way_of, settle_by, pass_visits, visits_each, walk_written, walk_visits, walked, walk_break, most_on_branch}
 use Rattle.alias_ref.specs.Kinds.{Kinds, KindOf, LinksAt, links_leaf, links_parts, LinksEach, each_done, each_more}
 use Rattle.alias_ref.specs.inner.Linking.{lent, link_here}
@@ -14,7 +14,7 @@ use Rattle.alias_ref.proofs.FirstBreaks.{enters}
 use Rattle.alias_ref.proofs.LinksOfParts.{alone, refers_kind, refers_links}
 use Rattle.alias_ref.proofs.UnbrokenMeans.{Ending, clean_front, clean_first, way_end_is, at_end_means, front_of, settle_end, pass_end, more_room, no_room, if_new}
 
-module _ (T : Tokens) (own group : Kinds) where
+module _ (T : WrittenPlaces) (own group : Kinds) where
   -- the kind of the token whose whole value stands at a place, and the links of the place
   pub record Found (p : Place) : Type 0 where
     pub kind : Option Kind

@@ -3,7 +3,7 @@ use Rattle.std.proofs.Common.{◌≡◌, ℕ, zero, suc, ◌+◌, ◌-◌, ◌<�
 use Rattle.std.specs.Prelude.{is_some}
 use Rattle.name_path.specs.declared.place.Place.{Place}
 use Rattle.json_span.specs.PlainView.{Value, ValueEntry}
-use Rattle.alias_ref.specs.Written.{Step, Written, leaf, parts, refers, misspelled, Tokens, whole, part, is_reference, is_misspelled, is_written}
+use Rattle.alias_ref.specs.Written.{Step, Written, leaf, parts, refers, misspelled, WrittenPlaces, whole, part, is_reference, is_misspelled, is_written}
 use Rattle.alias_ref.specs.Meaning.{put_together, Means, means_leaf, means_parts, means_target, EachMeans, none_left, one_more}
 use Rattle.alias_ref.specs.Visits.{Visit, visit, lost, Way, goes_on, then_go, since, go_if, steps_from, way_of, settled, settle_by, pass_written, unless_stands, pass_visits, visits_each, at_end, walk_written, walk_visits, ref_break, own_break, first_break, walked, walk_break, most_on_branch}
 use Rattle.alias_ref.specs.declared.fault.RefRule.TheVariants as rule
@@ -11,7 +11,7 @@ use Rattle.alias_ref.specs.inner.Seen.{Clean, HasParts, AllWritten}
 use Rattle.alias_ref.proofs.FirstBreaks.{first-append, or_none, enters}
 use Rattle.alias_ref.proofs.WaysSettle.{DoSettle, way_of-leads, settle_by-settles, pass_visits-settles}
 
-module _ (T : Tokens) where
+module _ (T : WrittenPlaces) where
   pub clean_front : {n k : ℕ} (xs ys : List Visit) → Clean T n k (xs ++ ys) → (m : ℕ) × Clean T n m xs × Clean T m k ys
   clean_front {n} {k} xs ys c =
       let h = or_none (first_break T n xs) (first_break T (n + length xs) ys) (sym (first-append T n xs ys) ∙ c.unbroken) in

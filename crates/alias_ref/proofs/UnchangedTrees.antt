@@ -4,7 +4,7 @@ use Rattle.std.specs.Prelude.{option_and_then}
 use Rattle.std.specs.FinMap as flat_map
 use Rattle.name_path.specs.declared.place.Place.{Place}
 use Rattle.group_inherit.specs.Flattening.{Flattened}
-use Rattle.alias_ref.specs.Written.{Step, refers, Tokens, written_at, written_in}
+use Rattle.alias_ref.specs.Written.{Step, refers, WrittenPlaces, written_at, written_in}
 use Rattle.alias_ref.specs.Kinds.{own_in, group_in}
 use Rattle.alias_ref.specs.Unchanged.{raw_of, raw_in, Reaches, at_start, by_reference, Unchanged, AreDefinitions}
 use Rattle.alias_ref.specs.Laws.{Flat, AreAlike}
@@ -53,8 +53,8 @@ module _ (old new : Flat) (defs : AreDefinitions old) (defs' : AreDefinitions ne
 
     pub alike : AreAlike old new token
     alike =
-        let T : Tokens = written_in old in
-        let T' : Tokens = written_in new in
+        let T : WrittenPlaces = written_in old in
+        let T' : WrittenPlaces = written_in new in
         record {
           broken = walk_break_same T T' In agree closed token at_start;
           meaning = λ v. (λ m. means_same T T' In agree closed m at_start, λ m. means_same T' T In disagree closed_old m at_start);

@@ -2,7 +2,7 @@
 use Rattle.std.proofs.Common.{◌≡◌, ℕ, ◌+◌, ◌-◌, ◌<◌, ◌≤◌, List, [], ◌∷◌, ◌++◌, true, false, Option, Some, None, length, refl, sym, ap, ◌∙◌, subst, arith, length-append}
 use Rattle.std.specs.Prelude.{is_some}
 use Rattle.name_path.specs.declared.place.Place.{Place}
-use Rattle.alias_ref.specs.Written.{Step, Written, leaf, parts, refers, misspelled, Tokens, whole, part, is_reference, is_misspelled, is_written}
+use Rattle.alias_ref.specs.Written.{Step, Written, leaf, parts, refers, misspelled, WrittenPlaces, whole, part, is_reference, is_misspelled, is_written}
 use Rattle.alias_ref.specs.Meaning.{Leads, leads, Goes, arrived, onward, Settles}
 use Rattle.alias_ref.specs.Visits.{Visit, visit, Way, goes_on, then_go, since, go_if, steps_from, way_of, settle_by, pass_written, visits_each, at_end, walk_written, most_on_branch, walked, passed, walk_break}
 use Rattle.alias_ref.specs.Asking.{Manner, by_walking as walking, by_passing as passing, AsksFor, for_part, for_step, for_target, for_next, Lacks, IsVisited, begins, asked}
@@ -14,7 +14,7 @@ use Rattle.alias_ref.proofs.UnbrokenMeans.{clean_front, clean_first, HasEnd, End
 use Rattle.alias_ref.proofs.WaysSettle.{DoSettle, way_of-leads, settle_by-settles, pass_visits-settles}
 use Rattle.alias_ref.proofs.WalksInTurns.{goes_on-front, settle_passes, way_found}
 
-module _ (T : Tokens) where
+module _ (T : WrittenPlaces) where
   abbrev CleanList : List Visit → Type 0
   CleanList es = (n : ℕ) × (k : ℕ) × Clean T n k es
 

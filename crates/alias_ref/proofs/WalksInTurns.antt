@@ -2,7 +2,7 @@
 use Rattle.std.proofs.Common.{◌≡◌, ℕ, ◌+◌, List, [], ◌∷◌, ◌++◌, Bool, true, false, Option, Some, None, refl, sym, ap, ◌∙◌, subst, append_assoc, append-nil}
 use Rattle.name_path.specs.declared.place.Place.{Place}
 use Rattle.json_span.specs.PlainView.{Value}
-use Rattle.alias_ref.specs.Written.{Step, Written, leaf, refers, Tokens, whole, part, is_reference, is_written}
+use Rattle.alias_ref.specs.Written.{Step, Written, leaf, refers, WrittenPlaces, whole, part, is_reference, is_written}
 use Rattle.alias_ref.specs.Visits.{Visit, visit, lost, Way, ends_at, after_visits, goes_on, go_if, steps_from, way_of, settled, settle_by, pass_written, at_end, walk_written, ref_break, own_break, first_break, walked, passed}
 use Rattle.alias_ref.specs.declared.fault.RefRule.TheVariants as rule
 use Rattle.std.specs.Prelude.{Result, Ok, Err}
@@ -22,7 +22,7 @@ at_end-front xs (Some q) walk = (walk q, refl)
 joined-joined : (xs ys : List Visit) (w : Way) → after_visits xs (after_visits ys w) ≡ after_visits (xs ++ ys) w
 joined-joined xs ys w = let make : List Visit → Way = λ es. record { seen = es; ends = w.ends } in ap make (sym (append_assoc xs ys w.seen))
 
-module _ (T : Tokens) where
+module _ (T : WrittenPlaces) where
   lost_breaks : (n : ℕ) (p : Place) → first_break T n (lost p ∷ []) ≡ Some (ref_break rule.RefTarget p)
   unfolding first_break
   lost_breaks n p = refl

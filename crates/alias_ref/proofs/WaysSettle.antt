@@ -2,7 +2,7 @@
 use Rattle.std.proofs.Common.{◌≡◌, ℕ, zero, suc, List, [], ◌∷◌, ◌++◌, Bool, true, false, Option, Some, None, refl, ap, subst}
 use Rattle.std.specs.Prelude.{is_some}
 use Rattle.name_path.specs.declared.place.Place.{Place}
-use Rattle.alias_ref.specs.Written.{Step, Written, leaf, parts, refers, misspelled, Tokens, whole, part, is_reference, is_written}
+use Rattle.alias_ref.specs.Written.{Step, Written, leaf, parts, refers, misspelled, WrittenPlaces, whole, part, is_reference, is_written}
 use Rattle.alias_ref.specs.Meaning.{Leads, leads, Goes, arrived, onward, Settles, stays, follows}
 use Rattle.alias_ref.specs.Visits.{Visit, Way, goes_on, since, go_if, steps_from, way_of, settled, settle_by, pass_written, unless_stands, pass_visits}
 
@@ -14,7 +14,7 @@ pub go_if_ends : (b : Bool) (home : Place) (w : Way) {r : Place} → (go_if b ho
 go_if_ends true home w h = (refl, h)
 go_if_ends false home w h = cc
 
-module _ (T : Tokens) where
+module _ (T : WrittenPlaces) where
   -- each way that has an end settles there
   abbrev pub DoSettle : (Place → Way) → Type 0
   DoSettle settle = (x y : Place) → (settle x).ends ≡ Some y → Settles T x y

@@ -1,7 +1,7 @@
 -- What a token comes to, or the first rule that it breaks.
 use Rattle.std.specs.Prelude.{◌≡◌, ◌≢◌, List, [], Some, None}
 use Rattle.json_span.specs.PlainView.{plain_view}
-use Rattle.alias_ref.specs.Written.{Step, Tokens, whole, written_in}
+use Rattle.alias_ref.specs.Written.{Step, WrittenPlaces, whole, written_in}
 use Rattle.alias_ref.specs.Meaning.{Means}
 use Rattle.alias_ref.specs.Visits.{RefBreak, ref_break, walk_break}
 use Rattle.alias_ref.specs.Asking.{IsRingOfPlaces}
@@ -30,7 +30,7 @@ IsRefBreak flat token (faults.Broken r p ring) = IsFirstBreak flat token (record
 IsRefBreak flat token faults.NoMemory = Unit {0}
 
 -- a ring that is told of is one, and other rules tell of none
-abbrev pub HasRealRing : Tokens → RefFault → Type 0
+abbrev pub HasRealRing : WrittenPlaces → RefFault → Type 0
 HasRealRing T (faults.Broken r p ring) = (r ≡ rule.Cycle → IsRingOfPlaces T ring) × (r ≢ rule.Cycle → ring ≡ [])
 HasRealRing T faults.NoMemory = Unit {0}
 

@@ -16,7 +16,7 @@ use Rattle.token_tree.specs.Tree.{Definition}
 use Rattle.token_tree.specs.Promise.{IsDefinition}
 use Rattle.group_inherit.specs.Flattening.{Flattened}
 use Rattle.alias_ref.specs.References.{alias_named, place_named}
-use Rattle.alias_ref.specs.Written.{Step, refers, misspelled, Tokens, whole, is_reference, is_misspelled, is_written, Role, written_as, written_at, written_in}
+use Rattle.alias_ref.specs.Written.{Step, refers, misspelled, WrittenPlaces, whole, is_reference, is_misspelled, is_written, Role, written_as, written_at, written_in}
 use Rattle.alias_ref.specs.Meaning.{Leads, Settles, Means}
 use Rattle.alias_ref.specs.Visits.{RefBreak, most_on_branch, walk_break}
 use Rattle.alias_ref.specs.Asking.{Manner, Lacks, IsRingOfPlaces, IsVisited}
@@ -39,32 +39,32 @@ PointersNamed = (text : List ℕ) (place : Place) → (place_named text ≡ Some
 
 -- a place has one lead, one end, one meaning, one kind and one list of links
 abbrev pub OneLead : Type 0
-OneLead = (T : Tokens) (p q r : Place) → Leads T p q → Leads T p r → q ≡ r
+OneLead = (T : WrittenPlaces) (p q r : Place) → Leads T p q → Leads T p r → q ≡ r
 
 abbrev pub OneEnd : Type 0
-OneEnd = (T : Tokens) (p q r : Place) → Settles T p q → Settles T p r → q ≡ r
+OneEnd = (T : WrittenPlaces) (p q r : Place) → Settles T p q → Settles T p r → q ≡ r
 
 abbrev pub OneMeaning : Type 0
-OneMeaning = (T : Tokens) (p : Place) (v w : Value) → Means T p v → Means T p w → v ≡ w
+OneMeaning = (T : WrittenPlaces) (p : Place) (v w : Value) → Means T p v → Means T p w → v ≡ w
 
 abbrev pub OneKind : Type 0
-OneKind = (T : Tokens) (own group : Kinds) (token : List Step) (k l : Option Kind) → KindOf T own group token k → KindOf T own group token l → k ≡ l
+OneKind = (T : WrittenPlaces) (own group : Kinds) (token : List Step) (k l : Option Kind) → KindOf T own group token k → KindOf T own group token l → k ≡ l
 
 abbrev pub OneLinks : Type 0
-OneLinks = (T : Tokens) (own group : Kinds) (p : Place) (ls ms : List Link) → LinksAt T own group p ls → LinksAt T own group p ms → ls ≡ ms
+OneLinks = (T : WrittenPlaces) (own group : Kinds) (p : Place) (ls ms : List Link) → LinksAt T own group p ls → LinksAt T own group p ms → ls ≡ ms
 
 -- a ring that is told of is one, from its first place on
 abbrev pub RingsAreReal : Type 0
-RingsAreReal = (T : Tokens) (token : List Step) (p : Place) (ring : List Place) → walk_break T token ≡ Some (record { rule = rule.Cycle; place = p; ring = ring }) → IsRingOfPlaces T ring
+RingsAreReal = (T : WrittenPlaces) (token : List Step) (p : Place) (ring : List Place) → walk_break T token ≡ Some (record { rule = rule.Cycle; place = p; ring = ring }) → IsRingOfPlaces T ring
 
 -- what is told of a wrong spelling or of a lost target holds at the place that is told
-pub record IsTold (T : Tokens) (b : RefBreak) : Type 0 where
+pub record IsTold (T : WrittenPlaces) (b : RefBreak) : Type 0 where
   pub syntax : b.rule ≡ rule.RefSyntax → T b.place ≡ Some misspelled
   pub target : b.rule ≡ rule.RefTarget → (is_reference (T b.place) ≡ true) × ((q : Place) → Leads T b.place q → ⊥)
   pub ring : b.rule ≢ rule.Cycle → b.ring ≡ []
 
 abbrev pub BreaksAreReal : Type 0
-BreaksAreReal = (T : Tokens) (token : List Step) (b : RefBreak) → walk_break T token ≡ Some b → IsTold T b
+BreaksAreReal = (T : WrittenPlaces) (token : List Step) (b : RefBreak) → walk_break T token ≡ Some b → IsTold T b
 
 -- a token without a break means something
 abbrev pub UnbrokenMeans : Type 0
@@ -72,7 +72,7 @@ UnbrokenMeans = (flat : Flat) (token : List Step) → is_written (written_in fla
 
 -- .. and whatever its walk visits is new on its branch, stands after few places, is spelled well, and leads somewhere where it is a reference: a token
 -- whose walk comes to a wrong spelling, to a lost target or back to a place on its branch has a break
-pub record IsSoundVisit (T : Tokens) (b : List Place) (p : Place) : Type 0 where
+pub record IsSoundVisit (T : WrittenPlaces) (b : List Place) (p : Place) : Type 0 where
   pub is_new : Lacks p b
   pub room : length b < most_on_branch
   pub spelling : is_misspelled (T p) ≡ false
@@ -109,10 +109,10 @@ PartsMean = (flat : Flat) (p q : Place) (trail : List Step) (v : Value) → Belo
 
 -- each link is real, and each reference without steps among the parts of a place is one of its links
 abbrev pub LinksAreReal : Type 0
-LinksAreReal = (T : Tokens) (own group : Kinds) (p : Place) (ls : List Link) → LinksAt T own group p ls → (l : Link) → In l ls → IsLink T own group p.token l
+LinksAreReal = (T : WrittenPlaces) (own group : Kinds) (p : Place) (ls : List Link) → LinksAt T own group p ls → (l : Link) → In l ls → IsLink T own group p.token l
 
 abbrev pub LinksAreAll : Type 0
-LinksAreAll = (T : Tokens) (own group : Kinds) (p q : Place) (trail target : List Step) (ls : List Link) → LinksAt T own group p ls → Below T p trail q → T q ≡ Some (refers target []) → (l : Link) × In l ls × (l.trail ≡ q.trail) × (l.target ≡ target)
+LinksAreAll = (T : WrittenPlaces) (own group : Kinds) (p q : Place) (trail target : List Step) (ls : List Link) → LinksAt T own group p ls → Below T p trail q → T q ≡ Some (refers target []) → (l : Link) × In l ls × (l.trail ≡ q.trail) × (l.target ≡ target)
 
 -- what is written in a token is decided by its source
 abbrev pub SourceDecides : Type 0

@@ -6,7 +6,7 @@ use Rattle.ring.specs.Lists.{In}
 use Rattle.name_path.specs.declared.place.Place.{Place}
 use Rattle.json_span.specs.Plain.{plain_null, plain_boolean, plain_number, plain_string, plain_array, plain_object, plains_in, plain_entries_in}
 use Rattle.json_span.specs.PlainView.{Value, ValueEntry}
-use Rattle.alias_ref.specs.Written.{Step, Container, parts, Tokens, part}
+use Rattle.alias_ref.specs.Written.{Step, Container, parts, WrittenPlaces, part}
 
 -- items under their indices in decimal digits, from this index on
 abbrev pub plain_numbered : ℕ → List Value → List ValueEntry
@@ -32,6 +32,6 @@ plain_at v [] = Some v
 plain_at v (s ∷ trail) = option_and_then (λ w. plain_at w trail) (plain_under s (plain_parts v))
 
 -- the steps lead from the first place to the second through written parts alone
-pub data Below (T : Tokens) : Place → List Step → Place → Type 0 where
+pub data Below (T : WrittenPlaces) : Place → List Step → Place → Type 0 where
   below_here : {p : Place} → Below T p [] p
   below_part : {p q : Place} {c : Container} {steps trail : List Step} (s : Step) → T p ≡ Some (parts c steps) → In s steps → Below T (part p s) trail q → Below T p (s ∷ trail) q

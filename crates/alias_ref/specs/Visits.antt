@@ -6,7 +6,7 @@ use Rattle.std.specs.Option.{option_or}
 use Rattle.name_path.specs.declared.place.Place.{Place}
 use Rattle.alias_ref.specs.declared.fault.RefRule.{RefRule}
 use Rattle.alias_ref.specs.declared.fault.RefRule.TheVariants as rule
-use Rattle.alias_ref.specs.Written.{Step, Written, leaf, parts, refers, misspelled, Tokens, whole, part, is_reference, is_misspelled, is_written}
+use Rattle.alias_ref.specs.Written.{Step, Written, leaf, parts, refers, misspelled, WrittenPlaces, whole, part, is_reference, is_misspelled, is_written}
 
 -- A visit: a place that is walked or passed, with its branch, the places from the beginning down to the one before it; or a
 -- reference whose way ends where nothing is written.
@@ -50,13 +50,13 @@ go_if true home next = next
 go_if false home next = record { seen = lost home ∷ []; ends = None }
 
 -- the way of a reference's steps
-unfoldable pub steps_from : Tokens → (Place → Way) → Place → Place → List Step → Way
+unfoldable pub steps_from : WrittenPlaces → (Place → Way) → Place → Place → List Step → Way
 steps_from T settle home p [] = ends_at p
 steps_from T settle home p (s ∷ steps) =
     then_go (settle p) (λ q. go_if (is_written (T (part q s))) home (steps_from T settle home (part q s) steps))
 
 -- the way of a reference, whole
-abbrev pub way_of : Tokens → (Place → Way) → Place → List Step → List Step → Way
+abbrev pub way_of : WrittenPlaces → (Place → Way) → Place → List Step → List Step → Way
 way_of T settle home token steps = go_if (is_written (T (whole token))) home (steps_from T settle home (whole token) steps)
 
 -- passes a reference, and stays at any other place
@@ -64,10 +64,10 @@ abbrev pub settled : Bool → (Place → Way) → Place → Way
 settled true pass p = pass p
 settled false pass p = ends_at p
 
-abbrev pub settle_by : Tokens → (Place → Way) → Place → Way
+abbrev pub settle_by : WrittenPlaces → (Place → Way) → Place → Way
 settle_by T pass p = settled (is_reference (T p)) pass p
 
-abbrev pub pass_written : Tokens → (Place → Way) → Place → Option Written → Way
+abbrev pub pass_written : WrittenPlaces → (Place → Way) → Place → Option Written → Way
 pass_written T settle p (Some (refers token steps)) = then_go (way_of T settle p token steps) settle
 pass_written T settle p (Some misspelled) = no_end
 pass_written T settle p (Some (leaf v)) = ends_at p
@@ -80,7 +80,7 @@ unless_stands true w = no_end
 unless_stands false w = w
 
 -- The visits of passing p, below this branch. At most n further places stand on a branch.
-unfoldable pub pass_visits : Tokens → ℕ → List Place → Place → Way
+unfoldable pub pass_visits : WrittenPlaces → ℕ → List Place → Place → Way
 pass_visits T zero b p = record { seen = visit b p ∷ []; ends = None }
 pass_visits T (suc n) b p =
     after_visits (visit b p ∷ []) (unless_stands (is_some (since p b)) (pass_written T (settle_by T (pass_visits T n (b ++ p ∷ []))) p (T p)))
@@ -94,7 +94,7 @@ abbrev pub at_end : List Visit → Option Place → (Place → List Visit) → L
 at_end xs None walk = xs
 at_end xs (Some q) walk = xs ++ walk q
 
-abbrev pub walk_written : Tokens → (Place → Way) → (Place → List Visit) → Place → Option Written → List Visit
+abbrev pub walk_written : WrittenPlaces → (Place → Way) → (Place → List Visit) → Place → Option Written → List Visit
 walk_written T settle walk p (Some (refers token steps)) = let w = way_of T settle p token steps in at_end w.seen w.ends walk
 walk_written T settle walk p (Some misspelled) = []
 walk_written T settle walk p (Some (leaf v)) = []
@@ -102,7 +102,7 @@ walk_written T settle walk p (Some (parts c steps)) = visits_each walk p steps
 walk_written T settle walk p None = []
 
 -- The visits of walking p, below this branch. At most n further places stand on a branch.
-unfoldable pub walk_visits : Tokens → ℕ → List Place → Place → List Visit
+unfoldable pub walk_visits : WrittenPlaces → ℕ → List Place → Place → List Visit
 walk_visits T zero b p = visit b p ∷ []
 walk_visits T (suc n) b p =
     visit b p ∷ (if is_some (since p b) then [] else walk_written T (settle_by T (pass_visits T n (b ++ p ∷ []))) (walk_visits T n (b ++ p ∷ [])) p (T p))
@@ -125,7 +125,7 @@ abbrev pub most_visits : ℕ
 most_visits = 1024
 
 -- The break of a visit that has n visits before it and this ring on its branch.
-abbrev pub break_if : Tokens → ℕ → List Place → Place → Option (List Place) → Option RefBreak
+abbrev pub break_if : WrittenPlaces → ℕ → List Place → Place → Option (List Place) → Option RefBreak
 break_if T n b p (Some ring) = Some (record { rule = rule.Cycle; place = p; ring = ring })
 break_if T n b p None =
     if nat_le most_on_branch (length b) then Some (ref_break rule.Deep p)
@@ -134,22 +134,22 @@ break_if T n b p None =
     else None
 
 -- the break of a visit that has n visits before it
-abbrev pub own_break : Tokens → ℕ → Visit → Option RefBreak
+abbrev pub own_break : WrittenPlaces → ℕ → Visit → Option RefBreak
 own_break T n (visit b p) = break_if T n b p (since p b)
 own_break T n (lost p) = Some (ref_break rule.RefTarget p)
 
 -- the first break, where n visits come before these
-unfoldable pub first_break : Tokens → ℕ → List Visit → Option RefBreak
+unfoldable pub first_break : WrittenPlaces → ℕ → List Visit → Option RefBreak
 first_break T n [] = None
 first_break T n (e ∷ es) = option_or (own_break T n e) (first_break T (n + 1) es)
 
 -- the visits of walking and of passing a place, below this branch
-unfoldable pub walked : Tokens → List Place → Place → List Visit
+unfoldable pub walked : WrittenPlaces → List Place → Place → List Visit
 walked T b p = walk_visits T (most_on_branch - length b) b p
 
-unfoldable pub passed : Tokens → List Place → Place → Way
+unfoldable pub passed : WrittenPlaces → List Place → Place → Way
 passed T b p = pass_visits T (most_on_branch - length b) b p
 
 -- the first break of a token's walk
-abbrev pub walk_break : Tokens → List Step → Option RefBreak
+abbrev pub walk_break : WrittenPlaces → List Step → Option RefBreak
 walk_break T token = first_break T 0 (walked T [] (whole token))

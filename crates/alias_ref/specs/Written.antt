@@ -34,8 +34,8 @@ pub data Written : Type 0 where
   misspelled : Written
 
 -- The tokens of a flat tree, as what is written at each place; none where the place is not written.
-abbrev pub Tokens : Type 0
-Tokens = Place → Option Written
+abbrev pub WrittenPlaces : Type 0
+WrittenPlaces = Place → Option Written
 
 -- the place of a token's whole value
 abbrev pub whole : List Step → Place
@@ -169,5 +169,5 @@ unfoldable pub written_at : Definition → List Step → Option Written
 written_at d trail = option_map (λ n. written_as (role_at d.by_ref trail) (tree_of n)) (value_at d.value trail)
 
 -- What is written at a place of a flat tree: its token has to be there, and its steps have to lead to a written value.
-unfoldable pub written_in : flat_map.FinMap names_cmp Flattened → Tokens
+unfoldable pub written_in : flat_map.FinMap names_cmp Flattened → WrittenPlaces
 written_in flat p = option_and_then (λ f. written_at f.def p.trail) (flat_map.get flat p.token)

@@ -3,7 +3,7 @@
 ghost use Rattle.std.specs.Prelude.{◌≡◌, ◌≤◌, ◌+◌, ◌∷◌, ◌++◌, [], ℕ, List, Contains, length, drop};
 ghost use Rattle.std.specs.Prelude.{◌<◌, map, Some, IfOk, OnOk, IsTrue, false};
 ghost use Rattle.name_path.specs.declared.place.Place.{Place};
-ghost use Rattle.alias_ref.specs.Written.{Tokens, leaf, part, is_misspelled};
+ghost use Rattle.alias_ref.specs.Written.{WrittenPlaces, leaf, part, is_misspelled};
 ghost use Rattle.json_span.specs.PlainView.{Value};
 ghost use Rattle.alias_ref.specs.Visits.{visit, since, ref_break, most_visits};
 ghost use Rattle.alias_ref.specs.inner.Contents.{content_view};
@@ -115,7 +115,7 @@ impl<'s> Trace<'s> {
         start: usize,
         misspelled: bool,
     ) -> Result<(), RefFault<'s>>
-        ensures broken { (flat : Flat) (T : Tokens) → HasStarts flat self.now
+        ensures broken { (flat : Flat) (T : WrittenPlaces) → HasStarts flat self.now
             → start ≡ start_in flat place.now → misspelled ≡ is_misspelled (T place.now)
             → HasBegun T self.now.visits (visit self.now.places.items place.now) result }
         ensures few { OnOk result (self.now.visits < most_visits) }
@@ -142,7 +142,7 @@ impl<'s> Trace<'s> {
 
     /// Begins a visit, unless it breaks a rule.
     pub(crate) fn enter(&mut self, alloc: Global, spot: &Spot<'_, 's>) -> Result<(), RefFault<'s>>
-        ensures broken { (flat : Flat) (T : Tokens) → HasStarts flat self.old
+        ensures broken { (flat : Flat) (T : WrittenPlaces) → HasStarts flat self.old
             → spot.now.start ≡ start_in flat spot.now.place
             → T spot.now.place ≡ Some (content_view spot.now.content)
             → HasBegun T self.old.visits (visit self.old.places.items spot.now.place) result }
@@ -177,7 +177,7 @@ impl<'s> Trace<'s> {
         step: &Text<'s>,
         start: usize,
     ) -> Result<(), RefFault<'s>>
-        ensures broken { (flat : Flat) (T : Tokens) (v : Value) → HasStarts flat self.now
+        ensures broken { (flat : Flat) (T : WrittenPlaces) (v : Value) → HasStarts flat self.now
             → start ≡ start_in flat (part place.now step.now)
             → T (part place.now step.now) ≡ Some (leaf v)
             → HasBegun T self.now.visits
@@ -200,7 +200,7 @@ impl<'s> Trace<'s> {
         step: &Text<'s>,
         start: usize,
     ) -> Result<(), RefFault<'s>>
-        ensures broken { (flat : Flat) (T : Tokens) (v : Value) → HasStarts flat self.old
+        ensures broken { (flat : Flat) (T : WrittenPlaces) (v : Value) → HasStarts flat self.old
             → start ≡ start_in flat (part place.now step.now)
             → T (part place.now step.now) ≡ Some (leaf v)
             → HasBegun T self.old.visits

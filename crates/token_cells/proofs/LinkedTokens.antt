@@ -15,14 +15,14 @@ use Rattle.alias_ref.specs.Kinds.{Kinds, KindOf, LinksAt, links_leaf, links_step
 use Rattle.alias_ref.specs.Laws.{Flat}
 use Rattle.alias_ref.specs.Meaning.{Leads, leads, Goes, arrived, Means, means_leaf, means_parts, means_target}
 use Rattle.alias_ref.specs.PlainParts.{Below, below_here, below_part}
-use Rattle.alias_ref.specs.Written.{Step, Container, Written, parts, refers, Tokens, whole, part, is_written, value_at, written_at, written_in}
+use Rattle.alias_ref.specs.Written.{Step, Container, Written, parts, refers, WrittenPlaces, whole, part, is_written, value_at, written_at, written_in}
 
 in_either : {A : Type 0} (x : A) (xs ys : List A) → In x (xs ++ ys) → In x xs ⊎ In x ys
 in_either x [] ys i = inr i
 in_either x (y ∷ xs) ys (inl same) = inl (inl same)
 in_either x (y ∷ xs) ys (inr i) = elim (in_either x xs ys i) as (λ _. In x (y ∷ xs) ⊎ In x ys) [ inl a ↦ inl (inr a) | inr b ↦ inr b ]
 
-module _ (T : Tokens) (own group : Kinds) where
+module _ (T : WrittenPlaces) (own group : Kinds) where
   -- a link below a place: the steps from there, what is written at their end, the kind, and how many links may follow it
   pub record Stands (k : ℕ) (p : Place) (l : Link) : Type 0 where
     pub steps : List Step

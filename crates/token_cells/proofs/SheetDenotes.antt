@@ -22,7 +22,7 @@ use Rattle.alias_ref.specs.Kinds.{own_in, group_in}
 use Rattle.alias_ref.specs.Laws.{Flat, OneMeaning, OneKind, PartsMean, UnbrokenDepth}
 use Rattle.alias_ref.specs.Meaning.{Means}
 use Rattle.alias_ref.specs.PlainParts.{plain_at}
-use Rattle.alias_ref.specs.Written.{Tokens, whole, is_written, written_in}
+use Rattle.alias_ref.specs.Written.{WrittenPlaces, whole, is_written, written_in}
 use Rattle.type_rules.specs.Trails.{plain_at as type_plain_at}
 use Rattle.type_rules.specs.Checked.{Checked}
 use Rattle.composite_rules.specs.Laws.{ValuesKeep, PartsAreTyped}
@@ -197,7 +197,7 @@ written_token flat t i =
     token_written flat t.0 s (finite.get-entries flat t.0 ∙ found)
 
 module _ (laws : Laws) (flat : Flat) (settings : Settings) (sheet : List Cell) (have : AllZip (Has flat settings) (finite.entries flat) sheet) where
-  abbrev T : Tokens
+  abbrev T : WrittenPlaces
   T = written_in flat
 
   abbrev Pl : List (List ℕ) → List (List ℕ) → Place

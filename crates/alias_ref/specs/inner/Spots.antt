@@ -6,7 +6,7 @@ use Rattle.name_path.specs.declared.place.Place.{Place}
 use Rattle.json_span.specs.Tree.{Tree, a_null, a_boolean, a_number, a_string, an_array, an_object, Placed, placed, Elements, no_elements, an_element, Members, no_members, a_member, tree_of, start_of, elements_in, entries_in}
 use Rattle.json_span.specs.Flaw.{flaw_in}
 use Rattle.group_inherit.specs.Flattening.{Flattened}
-use Rattle.alias_ref.specs.Written.{Step, of_value, Tokens, Parts, parts_of, part_behind, value_at, is_reference, written_as, role_behind, role_at}
+use Rattle.alias_ref.specs.Written.{Step, of_value, WrittenPlaces, Parts, parts_of, part_behind, value_at, is_reference, written_as, role_behind, role_at}
 use Rattle.alias_ref.specs.Visits.{most_on_branch, most_visits}
 use Rattle.alias_ref.specs.Kinds.{Kinds, LinksAt, LinksEach}
 use Rattle.alias_ref.specs.Laws.{Flat}
@@ -89,10 +89,10 @@ abbrev pub IsSameBranch : Trace → Trace → Type 0
 IsSameBranch old new = (new.places.items ≡ old.places.items) × (new.starts.items ≡ old.starts.items)
 
 -- the links of a place were added where the value is the token's own
-abbrev pub HasGrown : Bool → Tokens → Kinds → Kinds → Place → List Link → List Link → Type 0
+abbrev pub HasGrown : Bool → WrittenPlaces → Kinds → Kinds → Place → List Link → List Link → Type 0
 HasGrown true T own group p old new = (ls : List Link) × LinksAt T own group p ls × (new ≡ old ++ ls)
 HasGrown false T own group p old new = new ≡ old
 
-abbrev pub HasGrownEach : Bool → Tokens → Kinds → Kinds → Place → List Step → List Link → List Link → Type 0
+abbrev pub HasGrownEach : Bool → WrittenPlaces → Kinds → Kinds → Place → List Step → List Link → List Link → Type 0
 HasGrownEach true T own group p steps old new = (ls : List Link) × LinksEach T own group p steps ls × (new ≡ old ++ ls)
 HasGrownEach false T own group p steps old new = new ≡ old

@@ -10,7 +10,7 @@ use Rattle.json_span.specs.declared.items.Items.{Items}
 use Rattle.json_span.specs.declared.plain.Plain.{Plain}
 use Rattle.json_span.specs.declared.plain.PlainFields.{PlainFields}
 use Rattle.json_span.specs.declared.plain.PlainItems.{PlainItems}
-use Rattle.alias_ref.specs.Written.{Tokens, Parts, parts_by_index, parts_by_name, steps_of, written_in}
+use Rattle.alias_ref.specs.Written.{WrittenPlaces, Parts, parts_by_index, parts_by_name, steps_of, written_in}
 use Rattle.alias_ref.specs.Meaning.{Means, EachMeans}
 use Rattle.alias_ref.specs.Visits.{Visit, Way, way_of, settle_by, pass_written, passed, visits_each, walk_written, walked}
 use Rattle.alias_ref.specs.Kinds.{KindOf, own_in, group_in}
@@ -24,10 +24,10 @@ use Rattle.alias_ref.specs.inner.Spots.{HasGrown, HasGrownEach}
 
 -- visits and ways below a branch
 abbrev pub Visiting : Type 0
-Visiting = Tokens → List Place → List Visit
+Visiting = WrittenPlaces → List Place → List Visit
 
 abbrev pub Going : Type 0
-Going = Tokens → List Place → Way
+Going = WrittenPlaces → List Place → Way
 
 -- of a place that is settled or passed, of a reference at a place, and of a place once it stands on the branch
 abbrev pub settling : Place → Going
