@@ -5,7 +5,7 @@ use Rattle.std.specs.FinMap as finite
 use Rattle.std.specs.Option.{option_or}
 use Rattle.std.specs.Prelude.{AllPairs, Contains}
 use Rattle.tk_io.specs.Order.{text_cmp}
-use Rattle.transforms.specs.Clash.{Taken, first_taken, with_names, is_among, ShareNoName, NamesAreApart}
+use Rattle.transforms.specs.Clash.{Taken, first_taken, with_names, is_among, ShareNoName, TokenNamesApart}
 use Rattle.transforms.specs.declared.platform.Platform.{Platform}
 use Rattle.transforms.proofs.Taken.{get-with_names, same_name}
 use Rattle.ring.specs.Lists.{In}
@@ -62,7 +62,7 @@ some_other e = cc
 some_same : {A : Type 0} (x y : A) → Some x ≡ Some y → x ≡ y
 some_same x y e = cc
 
-among_in : (names : List (List ℕ)) (q : List ℕ) → is_among q names ≡ true → In q names
+pub among_in : (names : List (List ℕ)) (q : List ℕ) → is_among q names ≡ true → In q names
 among_in [] q e = cc
 among_in (n ∷ names) q e = at (is_at (text_cmp n) q) refl (among_in names q)
   where
@@ -156,7 +156,7 @@ clashes_real platform es r c = real platform es r (in_at r (clashes_on platform 
 pub apart_unclashed : ApartAreUnclashed
 apart_unclashed platform es apart = none_told platform es apart (clashes_on platform es) refl
 
-pub unclashed_apart : NamesAreApart → UnclashedAreApart
+pub unclashed_apart : TokenNamesApart → UnclashedAreApart
 unclashed_apart apart platform es none =
     let (after, all) = added platform (names_on platform) finite.empty es none in
     apart (map (named_on platform) es) after all

@@ -30,7 +30,7 @@ use Rattle.composite_rules.specs.Parts.{part_at}
 use Rattle.composite_rules.specs.Sound.{kind_of}
 use Rattle.composite_rules.specs.Value.{value_of}
 use Rattle.composite_rules.specs.declared.typed.Typed.{Typed}
-use Rattle.transforms.specs.Clash.{Taken, NamedToken, AllAdded, ShareNoName, NamesAreApart, first_taken, with_names}
+use Rattle.transforms.specs.Clash.{Taken, NamedToken, AllAdded, ShareNoName, TokenNamesApart, first_taken, with_names}
 use Rattle.transforms.specs.Config.{Settings}
 use Rattle.transforms.specs.PlatformName.{is_property}
 use Rattle.transforms.specs.Sheet.{sheet_text}
@@ -58,7 +58,7 @@ pub record Laws : Type 0 where
   pub depth : UnbrokenDepth
   pub keeps : ValuesKeep
   pub typed : PartsAreTyped
-  pub apart : NamesAreApart
+  pub apart : TokenNamesApart
   pub denote : SheetsDenote
   pub references : ReferencesDenote
 

@@ -7,7 +7,7 @@ use Rattle.name_path.specs.Names.{IsTokenPath}
 use Rattle.group_inherit.specs.Flattening.{TokenAt}
 use Rattle.alias_ref.specs.Laws.{Flat}
 use Rattle.composite_rules.specs.Laws.{ValuesKeep}
-use Rattle.transforms.specs.Clash.{NamedToken, ShareNoName, NamesAreApart}
+use Rattle.transforms.specs.Clash.{NamedToken, ShareNoName, TokenNamesApart}
 use Rattle.transforms.specs.Config.{Settings}
 use Rattle.transforms.specs.PlatformName.{is_identifier}
 use Rattle.transforms.specs.Sheet.{sheet_text}
@@ -53,7 +53,7 @@ module _ (flat : Flat) (settings : Settings) where
         names = ap₂ (λ (ns : List (List ℕ)) (xs : List NamedToken). record { path = t.0; names = ns } ∷ xs) here.gives.ios_of.names rest.names;
       }
 
-pub swift_denotes : ValuesKeep → NamesAreApart → SheetsDenote → SwiftCellsDenote
+pub swift_denotes : ValuesKeep → TokenNamesApart → SheetsDenote → SwiftCellsDenote
 swift_denotes keeps names_apart denote flat settings cells base (found, none) paths =
     let es = zip (finite.entries flat) cells in
     let clean = name_clashes_none (flat_map (cell_reports flat) es) es none in

@@ -8,7 +8,7 @@ use Rattle.std.proofs.lemmas.Cmp.{tied_itself}
 use Rattle.std.proofs.lemmas.List.Kept.{AllPairs-cons}
 use Rattle.std.proofs.lemmas.List.{get_or_default}
 use Rattle.tk_io.specs.Order.{text_cmp}
-use Rattle.transforms.specs.Clash.{Taken, with_names, is_among, NamedToken, AllAdded, ShareNoName, HasName, NamesAreApart, NamesAreThere, NamesComeFromTokens}
+use Rattle.transforms.specs.Clash.{Taken, with_names, is_among, NamedToken, AllAdded, ShareNoName, HasName, TokenNamesApart, NamesAreThere, NamesComeFromTokens}
 use Rattle.transforms.proofs.Taken.{get-with_names, absent, same_name}
 
 -- an element is the first, or one of the others
@@ -118,7 +118,7 @@ comes (token ∷ tokens) before after added name path there =
     at (inl found) = here (is_among name token.names) refl found
     at (inr is) = inr (record { token = is.token; there = a_later token tokens is.token is.there; path_is = is.path_is; has_name = is.has_name })
 
-pub names_apart : NamesAreApart
+pub names_apart : TokenNamesApart
 names_apart tokens taken added = apart tokens map.empty taken added
 
 pub names_there : NamesAreThere

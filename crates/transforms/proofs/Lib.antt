@@ -1,6 +1,5 @@
 pub mod Spelled
 mod Names
-mod TwoMaps
 pub mod Taken
 mod FirstRefused
 mod Added
@@ -14,3 +13,4 @@ pub mod PlainFramesJoin
 pub mod QuotedReadsBack
 pub mod RunsAreFirst
 pub mod ScaledAreWritten
+mod SortedNames

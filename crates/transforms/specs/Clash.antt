@@ -1,5 +1,5 @@
 -- Names that tokens have, and the first token that has a name.
-use Rattle.std.specs.Prelude.{◌≡◌, ℕ, Bool, cond, List, [], ◌∷◌, ◌++◌, Option, Some, None, Contains, AllPairs}
+use Rattle.std.specs.Prelude.{◌≡◌, ℕ, Bool, cond, List, [], ◌∷◌, Option, Some, None, Contains, AllPairs}
 use Rattle.std.specs.BTreeMap.{is_at}
 use Rattle.std.specs.FinMap as map
 use Rattle.std.specs.List.{flat_map, list_any}
@@ -10,10 +10,6 @@ use Rattle.tk_io.specs.Order.{text_cmp}
 -- the path under which each name was added
 abbrev pub Taken : Type 0
 Taken = map.FinMap text_cmp (List (List ℕ))
-
--- what stands in two maps; a name that is in both stands under the path that the first has
-abbrev pub names_of_both : Taken → Taken → Taken
-names_of_both first second = map.from_entries (map.entries first ++ map.entries second)
 
 -- the path under which the first of the names that is there was added
 abbrev pub first_taken : Taken → List (List ℕ) → Option (List (List ℕ))
@@ -62,8 +58,8 @@ pub record HasName (tokens : List NamedToken) (name : List ℕ) (path : List (Li
   pub has_name : Contains token.names name
 
 -- no token has a name of an earlier one
-abbrev pub NamesAreApart : Type 0
-NamesAreApart = (tokens : List NamedToken) (taken : Taken) → AllAdded map.empty tokens taken
+abbrev pub TokenNamesApart : Type 0
+TokenNamesApart = (tokens : List NamedToken) (taken : Taken) → AllAdded map.empty tokens taken
     → AllPairs ShareNoName tokens
 
 -- each name of a token is there, under the token's path

@@ -1,5 +1,4 @@
 pub mod Joined
-pub mod Rising
 pub mod Growing
 pub mod Elsewhere
 pub mod Unread

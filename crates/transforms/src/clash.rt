@@ -8,19 +8,17 @@ ghost use Rattle.transforms.specs.inner.Elsewhere.{PutsName, SameElsewhere, Remo
 ghost use Rattle.transforms.specs.inner.Elsewhere.{RemovesNames};
 
 use crate::Names;
-use crate::rising::RisingNames;
-use crate::scattered::ScatteredNames;
 use name_path::Path;
 use std::alloc::Global;
+use std::collections::BTreeMap;
 use std::marker::Model;
 use tk_io::{Bytes, NoMemory};
 
-/// The names that tokens have on one platform, seen as a finite map from each name to the path of its token. Tokens come
-/// in path order, so that most names come in byte order too: those are kept in a list, and only the others in a tree.
+/// The names that tokens have on one platform, seen as a finite map from each name to the path of its token.
 #[derive(Debug, Drop)]
 pub struct Clash<'s> {
-    rising: RisingNames<'s>,
-    scattered: ScatteredNames<'s>,
+    alloc: Global,
+    paths: BTreeMap<Vec<u8>, Path<'s>>,
 }
 
 impl<'s> Model for Clash<'s> {
@@ -28,13 +26,14 @@ impl<'s> Model for Clash<'s> {
     ghost use Rattle.std.specs.FinMap as map;
     ghost use Rattle.std.specs.Coded.{coded_list, coded_ℕ};
     ghost use Rattle.tk_io.specs.Order.{text_cmp};
-    ghost use Rattle.transforms.specs.Clash.{names_of_both};
+    ghost use Rattle.tk_io.specs.View.{entries_view};
 
     ghost Value = { map.FinMap text_cmp (List (List ℕ)) };
 
     ghost coded = { map.code (coded_list coded_ℕ) (coded_list (coded_list coded_ℕ)) };
 
-    ghost view = { λ c. names_of_both c.rising c.scattered };
+    ghost view = { λ c. map.from_entries
+        (entries_view (λ name. name.items) (λ path. path) c.paths.entries) };
 }
 
 impl<'s> Clash<'s> {
@@ -43,8 +42,8 @@ impl<'s> Clash<'s> {
         ensures { result ≡ map.empty }
     {
         Clash {
-            rising: RisingNames::new(alloc),
-            scattered: ScatteredNames::new(alloc),
+            alloc,
+            paths: BTreeMap::new(alloc),
         }
     }
 
@@ -71,10 +70,7 @@ impl<'s> Clash<'s> {
     fn get(&self, name: &[u8]) -> Option<&Path<'s>>
         ensures { option_copied result ≡ map.get self.now name.now }
     {
-        match self.rising.get(name) {
-            Some(path) => Some(path),
-            None => self.scattered.get(name),
-        }
+        self.paths.get(name)
     }
 
     fn first_taken(&self, names: &[Bytes]) -> Option<&Path<'s>>
@@ -93,11 +89,10 @@ impl<'s> Clash<'s> {
         ensures at { OnOk result (PutsName self.old self.new name.now path.now) }
         ensures err { OnErr result (self.new ≡ self.old) }
     {
-        let is_put = self.rising.put(name, path)?;
-        if is_put {
-            return Ok(());
-        }
-        self.scattered.put(name, path)?;
+        let mut key = Vec::new(self.alloc);
+        key.extend_from_slice(name)?;
+        let path = path.copy()?;
+        self.paths.insert(key, path)?;
         Ok(())
     }
 
@@ -115,8 +110,7 @@ impl<'s> Clash<'s> {
     fn remove(&mut self, name: &[u8])
         ensures { RemovesName self.old self.new name.now }
     {
-        self.rising.remove(name);
-        self.scattered.remove(name);
+        let _ = self.paths.remove(name);
     }
 
     fn remove_all(&mut self, names: &[Bytes])

@@ -1,6 +1,6 @@
 // Laws of the definitions alone, for the layers above.
 
-ghost use Rattle.transforms.specs.Clash.{AllNamesApart, NamesAreApart, NamesAreThere};
+ghost use Rattle.transforms.specs.Clash.{AllNamesApart, TokenNamesApart, NamesAreThere};
 ghost use Rattle.transforms.specs.Clash.{NamesComeFromTokens};
 ghost use Rattle.transforms.specs.Config.{plain, AreAllowed, TextsSayAllowed};
 ghost use Rattle.transforms.specs.FiveNames.{FiveNamesDiffer};
@@ -15,7 +15,7 @@ ghost use Rattle.transforms.specs.Sheet.{PlainFramesJoin};
 /// then are the names of the tokens, each under the path of its token. All names are apart, where the names of each token
 /// are and no two tokens share one.
 pub fn clash_laws()
-    ensures apart { NamesAreApart }
+    ensures apart { TokenNamesApart }
     ensures there { NamesAreThere }
     ensures tokens { NamesComeFromTokens }
     ensures all { AllNamesApart }

@@ -5,6 +5,7 @@
 //! paths may have one name: `Clash` finds the first that has it. A sheet is written in one buffer, fragment by fragment.
 #![tactic(auto)]
 
+mod apart;
 mod clash;
 mod config;
 mod hexadecimal;
@@ -12,13 +13,12 @@ mod laws;
 mod name;
 mod platform;
 mod quoted;
-mod rising;
 mod scaling;
-mod scattered;
 mod sheet;
 #[cfg(test)]
 mod tests;
 
+pub use apart::are_apart;
 pub use clash::Clash;
 pub use config::{Config, ConfigFault, read_config};
 pub use hexadecimal::hex8;

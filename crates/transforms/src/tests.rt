@@ -1,7 +1,7 @@
 // Configurations, names, sheets and clashes, and each call once.
 use crate::{
-    Clash, Config, ConfigFault, Frag, Frame, Names, Platform, Sheet, hex8, name_for, read_config,
-    scale_rem,
+    Clash, Config, ConfigFault, Frag, Frame, Names, Platform, Sheet, are_apart, hex8, name_for,
+    read_config, scale_rem,
 };
 use dec_fix::Dec;
 use name_path::Path;
@@ -179,6 +179,32 @@ fn clashes_name_the_first(rt: HostRuntime) -> Result<(), Fail> {
     let mut clash = Clash::new(rt.alloc());
     for row in &TOKENS {
         assert!(rt; answers(rt.alloc(), &mut clash, row)?, "{}", row.0);
+    }
+    Ok(())
+}
+
+/// Lists of names, and whether no name stands twice: in order, in two runs, and a prefix of another.
+const LISTS: [(&[&str], bool); 6] = [
+    (&[], true),
+    (&["a", "a-b", "b"], true),
+    (&["a", "c", "b", "d"], true),
+    (&["a", "b", "b"], false),
+    (&["a", "c", "a", "b"], false),
+    (&["b", "a", "c", "a"], false),
+];
+
+fn is_told_apart(alloc: Global, names: &[&'static str]) -> Result<bool, NoMemory> {
+    let mut list = Vec::new(alloc);
+    for name in names {
+        list.push(name.as_bytes())?;
+    }
+    are_apart(list)
+}
+
+#[test]
+fn equal_names_are_found(rt: HostRuntime) -> Result<(), Fail> {
+    for (names, wanted) in LISTS {
+        assert_eq!(rt; is_told_apart(rt.alloc(), names)?, wanted);
     }
     Ok(())
 }
