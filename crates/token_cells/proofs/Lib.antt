@@ -1,4 +1,5 @@
 mod AndroidDenotes
+mod ApartCells
 mod Beside
 mod Bodies
 mod CellsExist

@@ -4,6 +4,7 @@
 mod cells;
 mod format;
 mod laws;
+mod names;
 mod shared_cell;
 mod sheet;
 #[cfg(test)]

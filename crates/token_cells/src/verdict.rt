@@ -8,6 +8,7 @@ ghost use Rattle.token_cells.specs.Breaks.{place_span, token_report, cell_report
 ghost use Rattle.token_cells.specs.View.{cells_view};
 ghost use Rattle.transforms.specs.Clash.{first_taken, Leaves};
 
+use crate::names::{all_names, names_on};
 use crate::shared_cell::SharedCell;
 use crate::token_cell::TokenCell;
 use alias_ref::span_of;
@@ -20,7 +21,7 @@ use refusals::{
 };
 use std::alloc::Global;
 use tk_io::{Bytes, NoMemory};
-use transforms::{Clash, Platform};
+use transforms::{Clash, Platform, are_apart};
 
 // Where the place stands in the file of its token's definition.
 fn place_span<'s>(flat: &Flat<'s>, place: &Place<'s>) -> FileSpan<'s>
@@ -94,18 +95,9 @@ fn add_names<'s>(
     ensures leaves { IfOk result
         (Leaves clash.old (names_on platform cell.now) path.now clash.new) }
 {
-    match cell {
-        TokenCell::Made {
-            css,
-            android,
-            ios,
-            ..
-        } => match platform {
-            Platform::Css => clash.add(path, &css.names),
-            Platform::Android => clash.add(path, &android.names),
-            Platform::Swift => clash.add(path, &ios.names),
-        },
-        TokenCell::Refused { .. } => Ok(None),
+    match names_on(platform, cell) {
+        Some(names) => clash.add(path, names),
+        None => Ok(None),
     }
 }
 
@@ -137,8 +129,8 @@ fn clash_text<'s>(
     Ok(out)
 }
 
-// What is printed of the first token that has a name of an earlier one on the platform.
-fn first_clash<'s>(
+// What is printed of the first token that has a name of an earlier one on the platform, by the names of all before it.
+fn told_clash<'s>(
     alloc: Global,
     files: &Files<'s>,
     platform: Platform,
@@ -156,6 +148,24 @@ fn first_clash<'s>(
         }
     }
     Ok(None)
+}
+
+// The same, which looks for an earlier token only where a name stands twice.
+fn first_clash<'s>(
+    alloc: Global,
+    files: &Files<'s>,
+    platform: Platform,
+    tokens: &[(Path<'s>, Entry<'s>)],
+    cells: &[SharedCell<'s>],
+) -> Result<Option<Bytes>, NoMemory>
+    ensures { IfOk result (λ text. text ≡ verdict_text files.now
+        (clashes_on platform (zip tokens.now (cells_view cells.now)))) }
+{
+    let names = all_names(alloc, platform, cells)?;
+    if are_apart(names)? {
+        return Ok(None);
+    }
+    told_clash(alloc, files, platform, tokens, cells)
 }
 
 // The same on CSS, then on Android, then in Swift.

@@ -1,13 +1,10 @@
-use Rattle.std.proofs.Common.{refl}
-use Rattle.std.proofs.lemmas.Slice.Zip.{either_empty_from_Zip}
-use Rattle.std.specs.Iterator.Adapters.{zip_first, zip_second}
-use Rattle.std.specs.Slice.Iter.{iter_rest}
-use Rattle.token_cells.specs.Breaks.{clashes_from, names_on}
-use Rattle.refusals.specs.Refusal.{report_text}
-use Rattle.token_cells.proofs.Sides.{none_left}
+use Rattle.std.proofs.Common.{sym, ap, subst}
+use Rattle.ring.specs.Lists.{AreApart}
+use Rattle.token_cells.specs.Breaks.{verdict_text}
+use Rattle.token_cells.proofs.ApartCells.{apart_untold}
 use Rattle.token_cells.proofs.verdict.first_clash.Goals as goal
 
-pub returns : goal.returns
-returns c =
-    none_left (report_text c.args.files.now) (clashes_from c.args.platform (names_on c.args.platform) c.loop-token.clash) (iter_rest (zip_first c.loop-token.token-iterator)) (iter_rest (zip_second c.loop-token.token-iterator)) _ refl
-    c.loop-token.invariant (either_empty_from_Zip _ c.next.new.self _ c.in-None.is c.next.ensures.steps)
+pub returns-then-branch : goal.returns-then-branch
+returns-then-branch c =
+    let apart = subst AreApart c.in_ok-names.ensures (c.in_ok-are_apart.ensures.0 c.if-branch.true) in
+    ap (verdict_text c.args.files.now) (sym (apart_untold c.args.platform c.args.tokens.now c.args.cells.now apart))

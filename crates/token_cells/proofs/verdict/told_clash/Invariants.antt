@@ -4,7 +4,7 @@ use Rattle.std.specs.Iterator.Adapters.{zip_first, zip_second}
 use Rattle.std.specs.List.{zip}
 use Rattle.std.specs.Slice.Iter.{iter_rest}
 use Rattle.token_cells.specs.Breaks.{clashes_from, names_on, clashes_on}
-use Rattle.token_cells.proofs.verdict.first_clash.Given as goal
+use Rattle.token_cells.proofs.verdict.told_clash.Given as goal
 
 abbrev pub invariant-loop-token : goal.invariant-loop-token
 invariant-loop-token l =
