@@ -156,7 +156,7 @@ module _ (laws : Laws) (flat : Flat) (settings : Settings) (defined : AreDefined
   tree_cells : (cells : List TokenCell) × AreCells flat settings (finite.entries flat) cells
   tree_cells =
       all_cells (finite.entries flat) (λ i token within at.
-      let (f, found) = stands_there flat i token within at in one_cell token.0 f found)
+      one_cell token.0 token.1 (stands_there flat i token within at))
 
 pub each_cell : Laws → EachCell
 each_cell laws flat settings defined allowed path entry there =

@@ -5,7 +5,7 @@ ghost use Rattle.token_cells.specs.Cell.{AreCells};
 ghost use Rattle.token_cells.specs.View.{cells_view};
 
 use crate::shared_cell::SharedCell;
-use crate::token_cell::cell;
+use crate::token_cell::cell_of_entry;
 use group_inherit::Flat;
 use std::alloc::Global;
 use std::sync::ledger::Ledger;
@@ -30,7 +30,7 @@ pub fn cells_of<'s, N: Ledger>(
 {
     let mut cells = Cells::new(alloc);
     for token in flat.as_slice() {
-        let cell = cell(alloc, flat, &token.0, cfg, evals)?;
+        let cell = cell_of_entry(alloc, flat, &token.0, &token.1, cfg, evals)?;
         let shared = SharedCell::new(alloc, cell)?;
         cells.push(shared)?;
     }

@@ -12,7 +12,7 @@ ghost use Rattle.alias_ref.specs.Laws.{Flat as FlatTree};
 ghost use Rattle.token_cells.specs.Cell.{IsCell, extras_of};
 ghost use Rattle.token_cells.specs.inner.Making.{IsMadeOf};
 
-use alias_ref::{RefFault, Resolved, evaluate};
+use alias_ref::{RefFault, Resolved, evaluate_entry};
 use composite_rules::{Typed, check, value_laws};
 use group_inherit::{Entry, Flat};
 use json_out::Extras;
@@ -140,6 +140,30 @@ fn resolved_cell<'s>(
     }
 }
 
+/// What a token comes to that is at hand: the flat tree holds it under the path. Else as [`cell`].
+pub(crate) fn cell_of_entry<'s, N: Ledger>(
+    alloc: Global,
+    flat: &Flat<'s>,
+    path: &Path<'s>,
+    entry: &Entry<'s>,
+    cfg: &Config,
+    evals: &mut Steps<N>,
+) -> Result<TokenCell<'s>, NoMemory>
+    requires token { map.get flat.now path.now ≡ Some entry.now }
+    ensures step { evals.new ≡ evals.old + 1 }
+    ensures cell { IfOk result (IsCell flat.now cfg.now path.now) }
+{
+    match evaluate_entry(alloc, flat, path, entry, evals) {
+        Ok(resolved) => resolved_cell(alloc, path, entry, &resolved, cfg),
+        Err(RefFault::Broken { rule, place, ring }) => Ok(TokenCell::Refused {
+            rule: CellRule::Ref(rule),
+            place,
+            ring,
+        }),
+        Err(RefFault::NoMemory) => Err(NoMemory),
+    }
+}
+
 /// What the token of a path comes to under a configuration: what it gives to each platform, or the first rule that it
 /// breaks, of its references, then of its kind, then of its value. The flat tree holds the path. One step of `evals`.
 pub fn cell<'s, N: Ledger>(
@@ -156,13 +180,5 @@ pub fn cell<'s, N: Ledger>(
     let Some(entry) = flat.get(path) else {
         unreachable!();
     };
-    match evaluate(alloc, flat, path, evals) {
-        Ok(resolved) => resolved_cell(alloc, path, entry, &resolved, cfg),
-        Err(RefFault::Broken { rule, place, ring }) => Ok(TokenCell::Refused {
-            rule: CellRule::Ref(rule),
-            place,
-            ring,
-        }),
-        Err(RefFault::NoMemory) => Err(NoMemory),
-    }
+    cell_of_entry(alloc, flat, path, entry, cfg, evals)
 }

@@ -5,8 +5,8 @@ use Rattle.token_cells.proofs.Comes.{more_cells}
 use Rattle.token_cells.proofs.Entries.{stands_there}
 use Rattle.token_cells.proofs.cells.cells_of.Goals as goal
 
-pub cell-requires : goal.cell-requires
-cell-requires g c =
+pub cell_of_entry-requires : goal.cell_of_entry-requires
+cell_of_entry-requires g c =
     let i = c.loop-token.token-index in
     let token = c.token-item.result in
     let same = c.as_slice-token-items.ensures.entries in
@@ -16,5 +16,5 @@ pub loop-token-preserved : goal.loop-token-preserved
 loop-token-preserved g c = (
   more_cells c.args.flat.now c.args.cfg.now c.as_slice-token-items.result.now c.loop-token.token-index c.token-item.result c.loop-token.cells c.push.new.self c.in_ok-shared.shared
       c.loop-token.invariant.0 c.loop-token-test.true c.token-item.is (subst (IsCell c.args.flat.now c.args.cfg.now c.token-item.result.0) (sym c.in_ok-shared.ensures) c.in_ok-cell.ensures.cell) c.in_ok-push.ensures.ok,
-  omega (arith, c.cell.ensures.step, c.loop-token.invariant.1),
+  omega (arith, c.cell_of_entry.ensures.step, c.loop-token.invariant.1),
 )

@@ -1,5 +1,5 @@
 use Rattle.token_cells.proofs.Comes.{broken_reference}
-use Rattle.token_cells.proofs.token_cell.cell.Goals as goal
+use Rattle.token_cells.proofs.token_cell.cell_of_entry.Goals as goal
 
 pub returns-in-Err-Broken-clause-cell : goal.returns-in-Err-Broken-clause-cell
 returns-in-Err-Broken-clause-cell g c =
