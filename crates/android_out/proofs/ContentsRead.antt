@@ -1,7 +1,6 @@
 -- Contents are read as they are spelled.
-use Rattle.std.proofs.Common.{◌≡◌, ℕ, zero, suc, ◌/◌, ◌%◌, ◌^◌, ◌<◌, ◌==◌, ◌&&◌, Bool, true, false, List, [], ◌∷◌, ◌++◌, length, refl, ◌∙◌, ap, subst, append_assoc, append-nil, Option, Some, arith, ℤ, pos, negsuc, unsigned_abs}
-use Rattle.std.specs.Prelude.{if◌then◌else◌}
-use Rattle.std.specs.Char.{is_ascii_alphabetic, is_ascii_digit, is_ascii_hexdigit, digit_char, digit_value, to_ascii_uppercase}
+use Rattle.std.proofs.Common.{◌≡◌, ℕ, zero, suc, ◌/◌, ◌%◌, ◌<◌, ◌==◌, true, List, [], ◌∷◌, ◌++◌, refl, ◌∙◌, ap, subst, append-nil, Option, Some, arith}
+use Rattle.std.specs.Char.{is_ascii_alphabetic, is_ascii_hexdigit, digit_char, digit_value, to_ascii_uppercase}
 use Rattle.std.specs.List.{list_all}
 use Rattle.dec_fix.specs.Decimal.{Decimal, IsDec}
 use Rattle.dec_fix.specs.Following.{ends_number}

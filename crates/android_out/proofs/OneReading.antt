@@ -1,5 +1,5 @@
 -- A text and a file have one reading at most.
-use Rattle.std.proofs.Common.{◌≡◌, ◌==◌, ◌&&◌, nat_lt, length, ℕ, Bool, true, false, not, List, [], ◌∷◌, ◌++◌, refl, sym, ◌∙◌, ap, subst, append_assoc, codes, Option, Some, None}
+use Rattle.std.proofs.Common.{◌≡◌, ◌==◌, ℕ, Bool, true, false, List, [], ◌∷◌, ◌++◌, refl, sym, ◌∙◌, ap, subst, append_assoc, codes, Option, Some, None}
 use Rattle.std.specs.Prelude.{if◌then◌else◌}
 use Rattle.std.specs.List.{list_all}
 use Rattle.std.proofs.lemmas.List.{append_cancel_left, append_cancel_right}

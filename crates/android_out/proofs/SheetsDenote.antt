@@ -1,5 +1,5 @@
 -- A file denotes the values of its tokens.
-use Rattle.std.proofs.Common.{◌≡◌, ℕ, ◌<◌, ◌^◌, true, List, [], ◌∷◌, ◌++◌, flat_map, refl, sym, subst, inl, inr}
+use Rattle.std.proofs.Common.{◌≡◌, ℕ, ◌<◌, ◌^◌, true, List, [], ◌∷◌, flat_map, refl, sym, subst, inl, inr}
 use Rattle.ring.specs.Lists.{In, AreApart, Each}
 use Rattle.transforms.specs.Config.{Settings}
 use Rattle.transforms.specs.PlatformName.{is_identifier}

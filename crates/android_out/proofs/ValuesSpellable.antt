@@ -1,5 +1,5 @@
 -- What a token is to have can be spelled.
-use Rattle.std.proofs.Common.{◌≡◌, ◌≢◌, ℕ, zero, suc, ◌+◌, ◌*◌, ◌/◌, ◌%◌, ◌^◌, ◌<◌, ◌≤◌, ◌==◌, ◌&&◌, Bool, true, false, cond, List, [], ◌∷◌, ◌++◌, refl, sym, ◌∙◌, subst, codes, Option, Some, None, arith, nat_lt, ℤ, pos, negsuc, unsigned_abs}
+use Rattle.std.proofs.Common.{◌≡◌, ◌≢◌, ℕ, ◌+◌, ◌*◌, ◌/◌, ◌^◌, ◌<◌, ◌≤◌, ◌==◌, ◌&&◌, Bool, true, false, cond, List, [], ◌∷◌, ◌++◌, refl, sym, ◌∙◌, subst, codes, Option, Some, None, arith, nat_lt, ℤ, pos, negsuc, unsigned_abs}
 use Rattle.std.specs.Prelude.{if◌then◌else◌, IfSome, option_and_then, option_map, is_some}
 use Rattle.std.specs.Char.{digit_value}
 use Rattle.std.specs.List.{list_all, AllByRecursion}
@@ -9,7 +9,7 @@ use Rattle.std.specs.declared.cmp.Ordering.TheVariants.{Less, Equal, Greater}
 use Rattle.std.proofs.Math.Nat.{div-lt_iff_lt-mul}
 use Rattle.std.proofs.lemmas.Bool.Decides.{nat_tests}
 use Rattle.dec_fix.specs.Decimal.{Decimal, IsDec, IsExact}
-use Rattle.dec_fix.specs.Arithmetic.{IsFromZeroToOne, times, whole_of, byte_of}
+use Rattle.dec_fix.specs.Arithmetic.{IsFromZeroToOne, whole_of, byte_of}
 use Rattle.dec_fix.proofs.Again.{both}
 use Rattle.dec_fix.proofs.SameNumber.{ten_above}
 use Rattle.transforms.specs.Config.{Settings}

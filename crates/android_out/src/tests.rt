@@ -75,6 +75,13 @@ fn has_lines(alloc: Global, frag: &Frag, lines: &str) -> Result<bool, NoMemory> 
     Ok(frag.body.as_slice() == body.as_slice() && declared.as_slice() == names.as_slice())
 }
 
+/// A draft in which other lines were made.
+fn used_draft(alloc: Global) -> Result<Bytes, NoMemory> {
+    let mut draft = Bytes::new(alloc);
+    draft.append(b"  other: lines;\n")?;
+    Ok(draft)
+}
+
 /// Whether the value has the lines.
 fn is_written(
     alloc: Global,
@@ -89,7 +96,8 @@ fn is_written(
     let value = plain(alloc, text)?;
     match typed(alloc, kind, &value) {
         Ok(typed) => {
-            let frag = fragment(alloc, path, &typed, config)?;
+            let mut draft = used_draft(alloc)?;
+            let frag = fragment(alloc, &mut draft, path, &typed, config)?;
             has_lines(alloc, &frag, lines)
         }
         Err(ValueFault::Broken { .. }) => Ok(false),
@@ -159,12 +167,13 @@ fn tokens_have_their_lines(rt: HostRuntime) -> Result<(), Fail> {
 fn file_has_its_frame(rt: HostRuntime) -> Result<(), Fail> {
     let alloc = rt.alloc();
     let config = Config::plain(alloc);
+    let mut draft = Bytes::new(alloc);
     let mut sheet = Sheet::start(alloc, FRAME)?;
     for name in ["a", "b"] {
         let path = path(alloc, name)?;
         let value = Plain::Num("1");
         if let Ok(typed) = typed(alloc, Kind::FontWeight, &value) {
-            sheet.add(&fragment(alloc, &path, &typed, &config)?)?;
+            sheet.add(&fragment(alloc, &mut draft, &path, &typed, &config)?)?;
         }
     }
     let text = sheet.finish()?;

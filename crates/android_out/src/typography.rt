@@ -10,31 +10,33 @@ ghost use Rattle.android_out.specs.inner.Written.{IsFragment};
 use crate::content::{Content, size_content};
 use composite_rules::Typography;
 use std::alloc::Global;
-use tk_io::{Bytes, NoMemory};
+use tk_io::{Bytes, NoMemory, Sequence};
 use transforms::{Config, Frag, Names, name_with_ending};
 
 // Adds the element of the name with this ending.
 fn add(
     alloc: Global,
-    lines: &mut Frag,
+    names: &mut Sequence<Bytes>,
+    draft: &mut Bytes,
     name: &[u8],
     ending: &str,
     content: &Content<'_>,
 ) -> Result<(), NoMemory>
-    ensures names { OnOk result (lines.new.names
-        ≡ lines.old.names ++ (name.now ++ ending.now) ∷ []) }
-    ensures body { OnOk result (lines.new.body
-        ≡ lines.old.body ++ line_text (name.now ++ ending.now, content_view content.now)) }
+    ensures names { OnOk result (names.new
+        ≡ names.old ++ (name.now ++ ending.now) ∷ []) }
+    ensures body { OnOk result (draft.new
+        ≡ draft.old ++ line_text (name.now ++ ending.now, content_view content.now)) }
 {
     let name = name_with_ending(alloc, name, ending)?;
-    content.append_line(name.as_slice(), &mut lines.body)?;
-    lines.names.push(name)?;
+    content.append_line(name.as_slice(), draft)?;
+    names.push(name)?;
     Ok(())
 }
 
 /// The five names and elements; the family and the weight are those that are given.
 pub(crate) fn typography_fragment(
     alloc: Global,
+    draft: &mut Bytes,
     cfg: &Config,
     name: &[u8],
     value: &Typography<'_>,
@@ -46,17 +48,16 @@ pub(crate) fn typography_fragment(
         (five_values cfg.now name.now value.now
         (content_view family.now) (content_view weight.now))) }
 {
-    let mut lines = Frag {
-        names: Names::new(alloc),
-        body: Bytes::new(alloc),
-    };
+    let mut names = Sequence::new(alloc);
+    draft.truncate(0);
     let size = size_content(cfg, "sp", &value.size);
     let spacing = size_content(cfg, "dp", &value.spacing);
     let height = Content::Item(value.line_height);
-    add(alloc, &mut lines, name, "_font_family", family)?;
-    add(alloc, &mut lines, name, "_font_size", &size)?;
-    add(alloc, &mut lines, name, "_font_weight", weight)?;
-    add(alloc, &mut lines, name, "_letter_spacing", &spacing)?;
-    add(alloc, &mut lines, name, "_line_height", &height)?;
+    add(alloc, &mut names, draft, name, "_font_family", family)?;
+    add(alloc, &mut names, draft, name, "_font_size", &size)?;
+    add(alloc, &mut names, draft, name, "_font_weight", weight)?;
+    add(alloc, &mut names, draft, name, "_letter_spacing", &spacing)?;
+    add(alloc, &mut names, draft, name, "_line_height", &height)?;
+    let lines = Frag::of_draft(alloc, Names::several(names), draft)?;
     Ok(lines)
 }

@@ -34,31 +34,34 @@ pub fn frame() -> Frame
     FRAME
 }
 
-fn omitted(alloc: Global, name: &[u8]) -> Result<Frag, NoMemory>
+fn omitted(alloc: Global, draft: &mut Bytes, name: &[u8]) -> Result<Frag, NoMemory>
     ensures { IfOk result (IsFragment name.now []) }
 {
-    let mut body = Bytes::new(alloc);
-    body.append(b"  <!-- omitted ")?;
-    body.append(name)?;
-    body.append(b" -->\n")?;
-    Ok(Frag {
-        names: Names::new(alloc),
-        body,
-    })
+    draft.truncate(0);
+    draft.append(b"  <!-- omitted ")?;
+    draft.append(name)?;
+    draft.append(b" -->\n")?;
+    let comment = Frag::of_draft(alloc, Names::none(), draft)?;
+    Ok(comment)
 }
 
-fn one_line(alloc: Global, name: Bytes, content: &Content<'_>) -> Result<Frag, NoMemory>
+fn one_line(
+    alloc: Global,
+    draft: &mut Bytes,
+    name: Bytes,
+    content: &Content<'_>,
+) -> Result<Frag, NoMemory>
     ensures { IfOk result (IsFragment name ((name, content_view content.now) ∷ [])) }
 {
-    let mut body = Bytes::new(alloc);
-    content.append_line(name.as_slice(), &mut body)?;
-    let mut names = Names::new(alloc);
-    names.push(name)?;
-    Ok(Frag { names, body })
+    draft.truncate(0);
+    content.append_line(name.as_slice(), draft)?;
+    let line = Frag::of_draft(alloc, Names::one(name), draft)?;
+    Ok(line)
 }
 
 fn five_lines(
     alloc: Global,
+    draft: &mut Bytes,
     cfg: &Config,
     name: &[u8],
     value: &Typography<'_>,
@@ -68,12 +71,12 @@ fn five_lines(
         (family_content value.now.family) (whole_content value.now.weight))) }
 {
     let Some(family) = family_content(value.family.as_slice()) else {
-        return omitted(alloc, name);
+        return omitted(alloc, draft, name);
     };
     let Some(weight) = whole_content(&value.weight) else {
-        return omitted(alloc, name);
+        return omitted(alloc, draft, name);
     };
-    typography_fragment(alloc, cfg, name, value, &family, &weight)
+    typography_fragment(alloc, draft, cfg, name, value, &family, &weight)
 }
 
 // The pixels of a rem are held in a byte.
@@ -83,21 +86,27 @@ fn has_base(cfg: &Config)
     let _base = cfg.rem_base;
 }
 
-fn written(alloc: Global, cfg: &Config, name: Bytes, typed: &Typed<'_>) -> Result<Frag, NoMemory>
+fn written(
+    alloc: Global,
+    draft: &mut Bytes,
+    cfg: &Config,
+    name: Bytes,
+    typed: &Typed<'_>,
+) -> Result<Frag, NoMemory>
     requires { IsTyped typed.now }
     ensures { IfOk result (IsFragment name (android_values cfg.now name typed.now)) }
 {
     match typed {
         Typed::Simple(simple) => match simple_content(cfg, simple) {
-            Some(content) => one_line(alloc, name, &content),
-            None => omitted(alloc, name.as_slice()),
+            Some(content) => one_line(alloc, draft, name, &content),
+            None => omitted(alloc, draft, name.as_slice()),
         },
-        Typed::Typography(value) => five_lines(alloc, cfg, name.as_slice(), value),
+        Typed::Typography(value) => five_lines(alloc, draft, cfg, name.as_slice(), value),
         Typed::StrokeStyle(_)
         | Typed::Border(_)
         | Typed::Transition(_)
         | Typed::Shadow(_)
-        | Typed::Gradient(_) => omitted(alloc, name.as_slice()),
+        | Typed::Gradient(_) => omitted(alloc, draft, name.as_slice()),
     }
 }
 
@@ -105,10 +114,11 @@ fn written(alloc: Global, cfg: &Config, name: Bytes, typed: &Typed<'_>) -> Resul
 /// such resource gives no name and a comment: a colour without bytes, a duration that is no whole number of milliseconds
 /// within 32 bits, a weight that is not whole, a family that is not plain words, and the kinds without elements.
 ///
-/// The value is one that a token can have. The text is read as the elements of the names where the path is one that a token
+/// The lines are made in the draft, whatever it holds. The value is one that a token can have. The text is read as the elements of the names where the path is one that a token
 /// can have.
 pub fn fragment(
     alloc: Global,
+    draft: &mut Bytes,
     path: &Path<'_>,
     typed: &Typed<'_>,
     cfg: &Config,
@@ -122,6 +132,6 @@ pub fn fragment(
 {
     has_base(cfg);
     let name = name_for(alloc, Platform::Android, path, cfg)?;
-    let fragment = written(alloc, cfg, name, typed)?;
+    let fragment = written(alloc, draft, cfg, name, typed)?;
     Ok(fragment)
 }

@@ -1,14 +1,12 @@
 -- The lines of a token can be spelled: each piece is one that is read as it is spelled, and each function is closed.
-use Rattle.std.proofs.Common.{◌≡◌, ℕ, zero, suc, ◌+◌, ◌*◌, ◌/◌, ◌%◌, ◌^◌, ◌<◌, ◌≤◌, ◌==◌, Bool, true, false, List, [], ◌∷◌, ◌++◌, map, flat_map, refl, ◌∙◌, ap, subst, append_assoc, append-nil, Option, Some, None, option_map, codes, arith, unsigned_abs}
+use Rattle.std.proofs.Common.{◌≡◌, ℕ, suc, ◌+◌, Bool, true, false, List, [], ◌∷◌, ◌++◌, map, flat_map, refl, ◌∙◌, ap, subst, append_assoc, append-nil, Option, Some, None, option_map, codes, arith}
 use Rattle.std.specs.Prelude.{if◌then◌else◌, IfSome}
 use Rattle.std.specs.Fmt.{decimal}
 use Rattle.std.specs.List.{list_all, AllByRecursion}
 use Rattle.std.specs.Option.{option_or}
 use Rattle.std.specs.Ordering.{is_eq}
-use Rattle.std.proofs.Math.Nat.{div-le_self}
-use Rattle.dec_fix.specs.Arithmetic.{order_with, times}
-use Rattle.dec_fix.specs.Decimal.{Decimal, IsDec, IsExact, is_negative, signed, shortest, decimal_of}
-use Rattle.dec_fix.proofs.OneShortest.{shortest-short}
+use Rattle.dec_fix.specs.Arithmetic.{order_with}
+use Rattle.dec_fix.specs.Decimal.{Decimal, IsExact}
 use Rattle.name_path.specs.declared.kind.Kind.{Kind}
 use Rattle.name_path.specs.declared.kind.Kind.TheVariants as kind
 use Rattle.name_path.specs.declared.link.Link.{Link}

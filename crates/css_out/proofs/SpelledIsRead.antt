@@ -1,5 +1,5 @@
 -- What is spelled is read as it is.
-use Rattle.std.proofs.Common.{◌≡◌, ℕ, suc, ◌<◌, ◌/◌, ◌^◌, ◌==◌, ◌&&◌, ◌||◌, not, Bool, true, false, List, [], ◌∷◌, ◌++◌, flat_map, length, refl, sym, ◌∙◌, ap, subst, append_assoc, append-nil, Some, codes, arith, ℤ, pos, negsuc, nat_eq, nat_lt, unsigned_abs}
+use Rattle.std.proofs.Common.{◌≡◌, ℕ, ◌==◌, ◌&&◌, ◌||◌, not, Bool, true, false, List, [], ◌∷◌, ◌++◌, flat_map, length, refl, sym, ◌∙◌, ap, subst, append_assoc, append-nil, Some, codes, arith, nat_eq, nat_lt}
 use Rattle.std.specs.Prelude.{if◌then◌else◌}
 use Rattle.std.specs.Char.{is_ascii_alphabetic, is_ascii_digit}
 use Rattle.std.specs.List.{list_all, starts_with, AllByRecursion}
@@ -11,7 +11,7 @@ use Rattle.dec_fix.proofs.Again.{both, number_again}
 use Rattle.transforms.specs.PlatformName.{is_kept, is_property}
 use Rattle.transforms.specs.declared.platform.Platform.TheVariants.{Css}
 use Rattle.transforms.specs.Quoted.{escaped_character}
-use Rattle.transforms.specs.Runs.{first_run, behind_run, ends_run, starts_digit, starts_number}
+use Rattle.transforms.specs.Runs.{ends_run, starts_digit, starts_number}
 use Rattle.transforms.proofs.QuotedReadsBack.{string_again}
 use Rattle.transforms.proofs.RunsAreFirst.{first_run-append, behind_run-append, numbers_start}
 use Rattle.css_out.specs.Piece.{Piece, mark, var, number, percent, unit, string, word, opens, closes, comma, slash, is_opening}

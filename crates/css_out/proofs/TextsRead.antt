@@ -1,5 +1,5 @@
 -- Between its head and foot a sheet declares what its texts declare.
-use Rattle.std.proofs.Common.{◌≡◌, ℕ, List, [], ◌∷◌, ◌++◌, map, flat_map, refl, ap}
+use Rattle.std.proofs.Common.{ℕ, List, [], ◌∷◌, map, flat_map, refl}
 use Rattle.std.specs.List.{AllByRecursion}
 use Rattle.transforms.specs.Sheet.{sheet_text}
 use Rattle.transforms.proofs.PlainFramesJoin.{framed}

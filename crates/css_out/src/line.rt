@@ -7,6 +7,7 @@ ghost use Rattle.css_out.specs.inner.Added.{gap, with_piece, started};
 
 use dec_fix::Dec;
 use std::alloc::Global;
+use std::mem;
 use tk_io::{Bytes, NoMemory};
 use transforms::append_escaped;
 
@@ -18,12 +19,14 @@ pub(crate) struct Line {
 }
 
 impl Line {
-    /// No line.
-    pub(crate) fn new(alloc: Global) -> Line
+    /// No line, in the memory of the draft, which is left without bytes.
+    pub(crate) fn over(alloc: Global, draft: &mut Bytes) -> Line
         ensures text { result.text ≡ [] }
     {
+        let mut text = mem::replace(draft, Bytes::new(alloc));
+        text.truncate(0);
         Line {
-            text: Bytes::new(alloc),
+            text,
             is_tight: true,
         }
     }

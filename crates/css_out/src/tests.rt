@@ -97,6 +97,13 @@ fn has_lines(alloc: Global, frag: &Frag, lines: &str) -> Result<bool, NoMemory> 
     Ok(frag.body.as_slice() == body.as_slice() && declared.as_slice() == names.as_slice())
 }
 
+/// A draft in which other lines were made.
+fn used_draft(alloc: Global) -> Result<Bytes, NoMemory> {
+    let mut draft = Bytes::new(alloc);
+    draft.append(b"  other: lines;\n")?;
+    Ok(draft)
+}
+
 /// Whether the value with the links has the lines.
 fn is_written(
     alloc: Global,
@@ -113,7 +120,8 @@ fn is_written(
     let value = plain(alloc, text)?;
     match typed(alloc, kind, &value) {
         Ok(typed) => {
-            let frag = fragment(alloc, path, &typed, &links, config)?;
+            let mut draft = used_draft(alloc)?;
+            let frag = fragment(alloc, &mut draft, path, &typed, &links, config)?;
             has_lines(alloc, &frag, lines)
         }
         Err(ValueFault::Broken { .. }) => Ok(false),
@@ -218,7 +226,15 @@ fn is_family_written(alloc: Global, family: &'static str, lines: &str) -> Result
     let value = Plain::Str(Text::of(family));
     match typed(alloc, Kind::FontFamily, &value) {
         Ok(typed) => {
-            let frag = fragment(alloc, &path, &typed, &Links::new(alloc), &config)?;
+            let mut draft = used_draft(alloc)?;
+            let frag = fragment(
+                alloc,
+                &mut draft,
+                &path,
+                &typed,
+                &Links::new(alloc),
+                &config,
+            )?;
             Ok(has_lines(alloc, &frag, lines)?)
         }
         Err(_) => Ok(false),
@@ -245,7 +261,15 @@ fn later_families_are_looked_at(rt: HostRuntime) -> Result<(), Fail> {
     let config = Config::plain(alloc);
     match typed(alloc, Kind::FontFamily, &value) {
         Ok(typed) => {
-            let frag = fragment(alloc, &path, &typed, &Links::new(alloc), &config)?;
+            let mut draft = used_draft(alloc)?;
+            let frag = fragment(
+                alloc,
+                &mut draft,
+                &path,
+                &typed,
+                &Links::new(alloc),
+                &config,
+            )?;
             assert!(rt; has_lines(alloc, &frag, "/* omitted --t */")?);
         }
         Err(_) => assert!(rt; false),
@@ -258,12 +282,20 @@ fn later_families_are_looked_at(rt: HostRuntime) -> Result<(), Fail> {
 fn sheet_has_its_frame(rt: HostRuntime) -> Result<(), Fail> {
     let alloc = rt.alloc();
     let config = Config::plain(alloc);
+    let mut draft = Bytes::new(alloc);
     let mut sheet = Sheet::start(alloc, frame())?;
     for name in ["a", "b"] {
         let path = path(alloc, name)?;
         let value = Plain::Num("1");
         if let Ok(typed) = typed(alloc, Kind::Number, &value) {
-            sheet.add(&fragment(alloc, &path, &typed, &Links::new(alloc), &config)?)?;
+            sheet.add(&fragment(
+                alloc,
+                &mut draft,
+                &path,
+                &typed,
+                &Links::new(alloc),
+                &config,
+            )?)?;
         }
     }
     let text = sheet.finish()?;

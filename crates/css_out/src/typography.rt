@@ -15,13 +15,13 @@ use crate::token::Token;
 use composite_rules::Typography;
 use name_path::{Kind, Path};
 use std::alloc::Global;
-use tk_io::{Bytes, NoMemory};
+use tk_io::{Bytes, NoMemory, Sequence};
 use transforms::{Frag, Names, Platform, name_for, name_with_ending};
 
 /// The names and lines so far.
 #[derive(Debug, Drop)]
 struct Lines {
-    names: Names,
+    names: Sequence<Bytes>,
     line: Line,
 }
 
@@ -124,6 +124,7 @@ impl<'a, 's> Token<'a, 's> {
     /// The five names and lines.
     pub(crate) fn typography(
         &self,
+        draft: &mut Bytes,
         name: &[u8],
         whole: Option<&Path<'_>>,
         value: &Typography<'_>,
@@ -134,17 +135,16 @@ impl<'a, 's> Token<'a, 's> {
     {
         let whole = self.whole_name(whole)?;
         let mut lines = Lines {
-            names: Names::new(self.alloc),
-            line: Line::new(self.alloc),
+            names: Sequence::new(self.alloc),
+            line: Line::over(self.alloc, draft),
         };
         self.typography_line(&mut lines, name, &whole, &FAMILY, &value.family)?;
         self.typography_line(&mut lines, name, &whole, &SIZE, &value.size)?;
         self.typography_line(&mut lines, name, &whole, &WEIGHT, &value.weight)?;
         self.typography_line(&mut lines, name, &whole, &SPACING, &value.spacing)?;
         self.typography_line(&mut lines, name, &whole, &HEIGHT, &value.line_height)?;
-        Ok(Frag {
-            names: lines.names,
-            body: lines.line.text,
-        })
+        *draft = lines.line.text;
+        let fragment = Frag::of_draft(self.alloc, Names::several(lines.names), draft)?;
+        Ok(fragment)
     }
 }

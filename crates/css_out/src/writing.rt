@@ -41,22 +41,21 @@ pub fn frame() -> Frame
     FRAME
 }
 
-fn omitted(alloc: Global, name: &[u8]) -> Result<Frag, NoMemory>
+fn omitted(alloc: Global, draft: &mut Bytes, name: &[u8]) -> Result<Frag, NoMemory>
     ensures { IfOk result (IsFragment name.now []) }
 {
-    let mut body = Bytes::new(alloc);
-    body.append(b"  /* omitted ")?;
-    body.append(name)?;
-    body.append(b" */\n")?;
-    Ok(Frag {
-        names: Names::new(alloc),
-        body,
-    })
+    draft.truncate(0);
+    draft.append(b"  /* omitted ")?;
+    draft.append(name)?;
+    draft.append(b" */\n")?;
+    let comment = Frag::of_draft(alloc, Names::none(), draft)?;
+    Ok(comment)
 }
 
 impl<'a, 's> Token<'a, 's> {
     fn one_line(
         &self,
+        draft: &mut Bytes,
         name: Bytes,
         whole: Option<&Path<'_>>,
         typed: &Typed<'_>,
@@ -66,19 +65,16 @@ impl<'a, 's> Token<'a, 's> {
             self.now.cfg.now.prefix self.now.links.now
             (option_map (λ p. p.now) whole.entry) typed.now) ∷ [])) }
     {
-        let mut line = Line::new(self.alloc);
+        let mut line = Line::over(self.alloc, draft);
         line.start(name.as_slice())?;
         self.value(&mut line, whole, typed)?;
         line.end()?;
-        let mut names = Names::new(self.alloc);
-        names.push(name)?;
-        Ok(Frag {
-            names,
-            body: line.text,
-        })
+        *draft = line.text;
+        let fragment = Frag::of_draft(self.alloc, Names::one(name), draft)?;
+        Ok(fragment)
     }
 
-    fn lines(&self, name: Bytes, typed: &Typed<'_>) -> Result<Frag, NoMemory>
+    fn lines(&self, draft: &mut Bytes, name: Bytes, typed: &Typed<'_>) -> Result<Frag, NoMemory>
         requires { IsTyped typed.now }
         ensures { IfOk result (IsFragment name (lines_of
             self.now.cfg.now.prefix self.now.links.now name
@@ -86,13 +82,15 @@ impl<'a, 's> Token<'a, 's> {
     {
         let whole = link_for(self.links, &[], typed.kind());
         match typed {
-            Typed::Typography(typography) => self.typography(name.as_slice(), whole, typography),
+            Typed::Typography(typography) => {
+                self.typography(draft, name.as_slice(), whole, typography)
+            },
             Typed::Simple(_)
             | Typed::StrokeStyle(_)
             | Typed::Border(_)
             | Typed::Transition(_)
             | Typed::Shadow(_)
-            | Typed::Gradient(_) => self.one_line(name, whole, typed),
+            | Typed::Gradient(_) => self.one_line(draft, name, whole, typed),
         }
     }
 }
@@ -128,6 +126,7 @@ fn spelled_links<'a, 's>(cfg: &Config, links: &'a Links<'s>) -> &'a [Link<'s>]
 
 fn written(
     alloc: Global,
+    draft: &mut Bytes,
     name: Bytes,
     typed: &Typed<'_>,
     links: &Links<'_>,
@@ -138,24 +137,25 @@ fn written(
         (entries cfg.now.prefix (spelled_links cfg.now links.now) name typed.now)) }
 {
     if !can_spell(typed) {
-        return omitted(alloc, name.as_slice());
+        return omitted(alloc, draft, name.as_slice());
     }
     let token = Token {
         alloc,
         cfg,
         links: spelled_links(cfg, links),
     };
-    token.lines(name, typed)
+    token.lines(draft, name, typed)
 }
 
 /// The names and lines of a token in a style sheet. A part of its value at which a link of the part's kind stands is
 /// spelled as `var()` of the link's token, where references are spelled as such. A value that CSS can't spell, dashes and
 /// families with a character that is not printable, gives no name and a comment.
 ///
-/// The value is one that a token can have. The text is read as the declarations of the names where the path and the links'
+/// The lines are made in the draft, whatever it holds. The value is one that a token can have. The text is read as the declarations of the names where the path and the links'
 /// targets have names of CSS, as the paths of tokens have.
 pub fn fragment(
     alloc: Global,
+    draft: &mut Bytes,
     path: &Path<'_>,
     typed: &Typed<'_>,
     links: &Links<'_>,
@@ -170,6 +170,6 @@ pub fn fragment(
 {
     has_room(typed);
     let name = name_for(alloc, Platform::Css, path, cfg)?;
-    let fragment = written(alloc, name, typed, links, cfg)?;
+    let fragment = written(alloc, draft, name, typed, links, cfg)?;
     Ok(fragment)
 }

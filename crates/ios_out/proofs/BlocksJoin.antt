@@ -1,6 +1,5 @@
 -- What a text says alone, it says before any other.
-use Rattle.std.proofs.Common.{◌≡◌, ℕ, ◌==◌, Bool, true, false, List, [], ◌∷◌, ◌++◌, refl, sym, ◌∙◌, ap, subst, append_assoc, codes, Option, Some, None}
-use Rattle.std.specs.Prelude.{if◌then◌else◌}
+use Rattle.std.proofs.Common.{ℕ, false, List, ◌++◌, sym, ◌∙◌, ap, subst, append_assoc, codes}
 use Rattle.transforms.proofs.QuotedReadsBack.{reads_on}
 use Rattle.ios_out.specs.Constant.{Content, Values}
 use Rattle.ios_out.specs.Reading.{SaysContent, of_number, of_string, of_arguments, Block, ended, blank_byte, comment, constant}

@@ -1,5 +1,5 @@
 -- Whole files: the texts of tokens, one after another in the frame.
-use Rattle.std.specs.Prelude.{◌≡◌, true, ℕ, ◌<◌, ◌^◌, List, [], map, flat_map, AllPairs}
+use Rattle.std.specs.Prelude.{◌≡◌, true, ℕ, ◌<◌, ◌^◌, List, map, flat_map, AllPairs}
 use Rattle.name_path.specs.Names.{IsTokenPath}
 use Rattle.transforms.specs.Clash.{NamedToken, ShareNoName}
 use Rattle.transforms.specs.Config.{Settings}

@@ -78,6 +78,13 @@ fn has_lines(alloc: Global, frag: &Frag, lines: &str) -> Result<bool, NoMemory> 
     Ok(frag.body.as_slice() == body.as_slice() && declared.as_slice() == names.as_slice())
 }
 
+/// A draft in which other lines were made.
+fn used_draft(alloc: Global) -> Result<Bytes, NoMemory> {
+    let mut draft = Bytes::new(alloc);
+    draft.append(b"  other: lines;\n")?;
+    Ok(draft)
+}
+
 /// Whether the value has the lines.
 fn is_written(
     alloc: Global,
@@ -92,7 +99,8 @@ fn is_written(
     let value = plain(alloc, text)?;
     match typed(alloc, kind, &value) {
         Ok(typed) => {
-            let frag = fragment(alloc, path, &typed, config)?;
+            let mut draft = used_draft(alloc)?;
+            let frag = fragment(alloc, &mut draft, path, &typed, config)?;
             has_lines(alloc, &frag, lines)
         }
         Err(ValueFault::Broken { .. }) => Ok(false),
@@ -163,12 +171,13 @@ fn tokens_have_their_lines(rt: HostRuntime) -> Result<(), Fail> {
 fn file_has_its_frame(rt: HostRuntime) -> Result<(), Fail> {
     let alloc = rt.alloc();
     let config = Config::plain(alloc);
+    let mut draft = Bytes::new(alloc);
     let mut sheet = Sheet::start(alloc, frame())?;
     for name in ["a", "b"] {
         let path = path(alloc, name)?;
         let value = Plain::Num("1");
         if let Ok(typed) = typed(alloc, Kind::FontWeight, &value) {
-            sheet.add(&fragment(alloc, &path, &typed, &config)?)?;
+            sheet.add(&fragment(alloc, &mut draft, &path, &typed, &config)?)?;
         }
     }
     let text = sheet.finish()?;
@@ -208,7 +217,8 @@ fn is_family_written(alloc: Global, family: &'static str, line: &str) -> Result<
     let value = Plain::Str(Text::of(family));
     match typed(alloc, Kind::FontFamily, &value) {
         Ok(typed) => {
-            let frag = fragment(alloc, &path, &typed, &config)?;
+            let mut draft = used_draft(alloc)?;
+            let frag = fragment(alloc, &mut draft, &path, &typed, &config)?;
             Ok(has_lines(alloc, &frag, line)?)
         }
         Err(_) => Ok(false),

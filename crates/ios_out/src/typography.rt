@@ -13,51 +13,54 @@ use crate::line::append_number_line;
 use composite_rules::Typography;
 use dec_fix::Dec;
 use std::alloc::Global;
-use tk_io::{Bytes, NoMemory};
+use tk_io::{Bytes, NoMemory, Sequence};
 use transforms::{Config, Frag, Names, name_with_ending};
 
 // Adds the constant of the name with this ending.
 fn add(
     alloc: Global,
-    lines: &mut Frag,
+    names: &mut Sequence<Bytes>,
+    draft: &mut Bytes,
     name: &[u8],
     ending: &str,
     content: &Content<'_>,
 ) -> Result<(), NoMemory>
-    ensures names { OnOk result (lines.new.names
-        ≡ lines.old.names ++ (name.now ++ ending.now) ∷ []) }
-    ensures body { OnOk result (lines.new.body
-        ≡ lines.old.body ++ line_text (name.now ++ ending.now, content_view content.now)) }
+    ensures names { OnOk result (names.new
+        ≡ names.old ++ (name.now ++ ending.now) ∷ []) }
+    ensures body { OnOk result (draft.new
+        ≡ draft.old ++ line_text (name.now ++ ending.now, content_view content.now)) }
 {
     let name = name_with_ending(alloc, name, ending)?;
-    content.append_line(name.as_slice(), &mut lines.body)?;
-    lines.names.push(name)?;
+    content.append_line(name.as_slice(), draft)?;
+    names.push(name)?;
     Ok(())
 }
 
 // Adds the constant of the name with this ending, a number of a type.
 fn add_number(
     alloc: Global,
-    lines: &mut Frag,
+    names: &mut Sequence<Bytes>,
+    draft: &mut Bytes,
     name: &[u8],
     ending: &str,
     type_name: &str,
     value: &Dec,
 ) -> Result<(), NoMemory>
-    ensures names { OnOk result (lines.new.names
-        ≡ lines.old.names ++ (name.now ++ ending.now) ∷ []) }
-    ensures body { OnOk result (lines.new.body
-        ≡ lines.old.body ++ line_text (name.now ++ ending.now, number type_name.now value.now)) }
+    ensures names { OnOk result (names.new
+        ≡ names.old ++ (name.now ++ ending.now) ∷ []) }
+    ensures body { OnOk result (draft.new
+        ≡ draft.old ++ line_text (name.now ++ ending.now, number type_name.now value.now)) }
 {
     let name = name_with_ending(alloc, name, ending)?;
-    append_number_line(&mut lines.body, name.as_slice(), type_name, value)?;
-    lines.names.push(name)?;
+    append_number_line(draft, name.as_slice(), type_name, value)?;
+    names.push(name)?;
     Ok(())
 }
 
 /// The five names and constants; the family is the one that is given.
 pub(crate) fn typography_fragment(
     alloc: Global,
+    draft: &mut Bytes,
     cfg: &Config,
     name: &[u8],
     value: &Typography<'_>,
@@ -67,19 +70,18 @@ pub(crate) fn typography_fragment(
     ensures { IfOk result (IsFragment name.now
         (five_values cfg.now name.now value.now (content_view family.now))) }
 {
-    let mut lines = Frag {
-        names: Names::new(alloc),
-        body: Bytes::new(alloc),
-    };
+    let mut names = Sequence::new(alloc);
+    draft.truncate(0);
     let size = points(cfg, &value.size);
     let spacing = points(cfg, &value.spacing);
     let lengths = "CGFloat";
     let numbers = "Double";
-    add(alloc, &mut lines, name, "_font_family", family)?;
-    add_number(alloc, &mut lines, name, "_font_size", lengths, &size)?;
+    add(alloc, &mut names, draft, name, "_font_family", family)?;
+    add_number(alloc, &mut names, draft, name, "_font_size", lengths, &size)?;
     add_number(
         alloc,
-        &mut lines,
+        &mut names,
+        draft,
         name,
         "_font_weight",
         numbers,
@@ -87,7 +89,8 @@ pub(crate) fn typography_fragment(
     )?;
     add_number(
         alloc,
-        &mut lines,
+        &mut names,
+        draft,
         name,
         "_letter_spacing",
         lengths,
@@ -95,11 +98,13 @@ pub(crate) fn typography_fragment(
     )?;
     add_number(
         alloc,
-        &mut lines,
+        &mut names,
+        draft,
         name,
         "_line_height",
         numbers,
         &value.line_height,
     )?;
+    let lines = Frag::of_draft(alloc, Names::several(names), draft)?;
     Ok(lines)
 }

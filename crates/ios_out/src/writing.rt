@@ -33,31 +33,34 @@ pub fn frame() -> Frame
     FRAME
 }
 
-fn omitted(alloc: Global, name: &[u8]) -> Result<Frag, NoMemory>
+fn omitted(alloc: Global, draft: &mut Bytes, name: &[u8]) -> Result<Frag, NoMemory>
     ensures { IfOk result (IsFragment name.now []) }
 {
-    let mut body = Bytes::new(alloc);
-    body.append(b"  // omitted ")?;
-    body.append(name)?;
-    body.append(b"\n")?;
-    Ok(Frag {
-        names: Names::new(alloc),
-        body,
-    })
+    draft.truncate(0);
+    draft.append(b"  // omitted ")?;
+    draft.append(name)?;
+    draft.append(b"\n")?;
+    let comment = Frag::of_draft(alloc, Names::none(), draft)?;
+    Ok(comment)
 }
 
-fn one_line(alloc: Global, name: Bytes, content: &Content<'_>) -> Result<Frag, NoMemory>
+fn one_line(
+    alloc: Global,
+    draft: &mut Bytes,
+    name: Bytes,
+    content: &Content<'_>,
+) -> Result<Frag, NoMemory>
     ensures { IfOk result (IsFragment name ((name, content_view content.now) ∷ [])) }
 {
-    let mut body = Bytes::new(alloc);
-    content.append_line(name.as_slice(), &mut body)?;
-    let mut names = Names::new(alloc);
-    names.push(name)?;
-    Ok(Frag { names, body })
+    draft.truncate(0);
+    content.append_line(name.as_slice(), draft)?;
+    let line = Frag::of_draft(alloc, Names::one(name), draft)?;
+    Ok(line)
 }
 
 fn five_lines(
     alloc: Global,
+    draft: &mut Bytes,
     cfg: &Config,
     name: &[u8],
     value: &Typography<'_>,
@@ -67,9 +70,9 @@ fn five_lines(
         (unless_omitted cfg.now name.now value.now (family_content value.now.family))) }
 {
     let Some(family) = family_content(value.family.as_slice()) else {
-        return omitted(alloc, name);
+        return omitted(alloc, draft, name);
     };
-    typography_fragment(alloc, cfg, name, value, &family)
+    typography_fragment(alloc, draft, cfg, name, value, &family)
 }
 
 // The points of a rem are held in a byte.
@@ -79,21 +82,27 @@ fn has_base(cfg: &Config)
     let _base = cfg.rem_base;
 }
 
-fn written(alloc: Global, cfg: &Config, name: Bytes, typed: &Typed<'_>) -> Result<Frag, NoMemory>
+fn written(
+    alloc: Global,
+    draft: &mut Bytes,
+    cfg: &Config,
+    name: Bytes,
+    typed: &Typed<'_>,
+) -> Result<Frag, NoMemory>
     requires { IsTyped typed.now }
     ensures { IfOk result (IsFragment name (swift_values cfg.now name typed.now)) }
 {
     match typed {
         Typed::Simple(simple) => match simple_content(cfg, simple) {
-            Some(content) => one_line(alloc, name, &content),
-            None => omitted(alloc, name.as_slice()),
+            Some(content) => one_line(alloc, draft, name, &content),
+            None => omitted(alloc, draft, name.as_slice()),
         },
-        Typed::Typography(value) => five_lines(alloc, cfg, name.as_slice(), value),
+        Typed::Typography(value) => five_lines(alloc, draft, cfg, name.as_slice(), value),
         Typed::StrokeStyle(_)
         | Typed::Border(_)
         | Typed::Transition(_)
         | Typed::Shadow(_)
-        | Typed::Gradient(_) => omitted(alloc, name.as_slice()),
+        | Typed::Gradient(_) => omitted(alloc, draft, name.as_slice()),
     }
 }
 
@@ -103,9 +112,10 @@ fn written(alloc: Global, cfg: &Config, name: Bytes, typed: &Typed<'_>) -> Resul
 /// neither in sRGB nor Display P3 with all components and has no `hex`, a family that can't be printed, and all kinds but the eight
 /// with constants.
 ///
-/// The value is one that a token can have.
+/// The lines are made in the draft, whatever it holds. The value is one that a token can have.
 pub fn fragment(
     alloc: Global,
+    draft: &mut Bytes,
     path: &Path<'_>,
     typed: &Typed<'_>,
     cfg: &Config,
@@ -119,6 +129,6 @@ pub fn fragment(
 {
     has_base(cfg);
     let name = name_for(alloc, Platform::Swift, path, cfg)?;
-    let fragment = written(alloc, cfg, name, typed)?;
+    let fragment = written(alloc, draft, cfg, name, typed)?;
     Ok(fragment)
 }

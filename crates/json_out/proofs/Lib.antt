@@ -1,6 +1,7 @@
 mod Appending
 mod ColorAppended
 mod ListsAppended
+mod MemberJoined
 mod NumbersRead
 mod NumbersSpell
 mod SheetsRead

@@ -41,6 +41,13 @@ fn alone<'s>() -> Extras<'s> {
     }
 }
 
+/// A draft in which other lines were made.
+fn used_draft(alloc: Global) -> Result<Bytes, NoMemory> {
+    let mut draft = Bytes::new(alloc);
+    draft.append(b"  other: lines;\n")?;
+    Ok(draft)
+}
+
 /// Whether the value of a row, under the path `t`, has the row's text.
 fn is_written(alloc: Global, path: &Path<'_>, kind: Kind, row: &str) -> Result<bool, NoMemory> {
     let Some((text, wanted)) = row.split_once('|') else {
@@ -50,14 +57,15 @@ fn is_written(alloc: Global, path: &Path<'_>, kind: Kind, row: &str) -> Result<b
     let Some(typed) = typed(alloc, kind, &value)? else {
         return Ok(false);
     };
-    let frag = fragment(alloc, path, &typed, &alone())?;
+    let mut draft = used_draft(alloc)?;
+    let frag = fragment(alloc, &mut draft, path, &typed, &alone())?;
     let mut member = Bytes::new(alloc);
     member.append(br#"  "t": {"$type": ""#)?;
     member.append(kind.name().as_bytes())?;
     member.append(br#"", "$value": "#)?;
     member.append(wanted.as_bytes())?;
     member.append(b"}")?;
-    Ok(frag.body.as_slice() == member.as_slice() && frag.names.is_empty())
+    Ok(frag.body.as_slice() == member.as_slice() && frag.names.as_slice().is_empty())
 }
 
 #[test]
@@ -114,8 +122,9 @@ fn is_token_written(alloc: Global, row: &Row) -> Result<bool, NoMemory> {
         extensions: row.extensions,
         mark: mark(row.mark),
     };
-    let frag = fragment(alloc, &path, &typed, &extras)?;
-    Ok(frag.body.as_slice() == row.member.as_bytes() && frag.names.is_empty())
+    let mut draft = used_draft(alloc)?;
+    let frag = fragment(alloc, &mut draft, &path, &typed, &extras)?;
+    Ok(frag.body.as_slice() == row.member.as_bytes() && frag.names.as_slice().is_empty())
 }
 
 #[test]
@@ -142,6 +151,7 @@ const TWO_TOKENS: &str = r#"{
 fn sheets_have_their_frame(rt: HostRuntime) -> Result<(), Fail> {
     let alloc = rt.alloc();
     for (names, wanted) in [("", "{\n}\n"), ("a", ONE_TOKEN), ("a b", TWO_TOKENS)] {
+        let mut draft = Bytes::new(alloc);
         let mut sheet = Sheet::start(alloc, frame())?;
         for name in names.split(' ') {
             if name.is_empty() {
@@ -149,7 +159,7 @@ fn sheets_have_their_frame(rt: HostRuntime) -> Result<(), Fail> {
             }
             let path = path(alloc, &[name])?;
             if let Some(typed) = typed(alloc, Kind::Number, &Plain::Num("1"))? {
-                sheet.add(&fragment(alloc, &path, &typed, &alone())?)?;
+                sheet.add(&fragment(alloc, &mut draft, &path, &typed, &alone())?)?;
             }
         }
         let text = sheet.finish()?;

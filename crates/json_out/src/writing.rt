@@ -1,24 +1,25 @@
 //! The fragment of a token.
 
-ghost use Rattle.std.specs.Prelude.{◌≡◌, [], ◌++◌, option_map, codes, IfOk, OnOk};
-ghost use Rattle.json_span.specs.Spelling.{string_text};
-ghost use Rattle.name_path.specs.Kinds.{kind_name};
+ghost use Rattle.std.specs.Prelude.{◌≡◌, [], ◌∷◌, ◌++◌, option_map, codes, IfOk, OnOk};
+ghost use Rattle.std.specs.List.{flat_map};
+ghost use Rattle.tk_io.specs.Characters.{full_stop};
+ghost use Rattle.json_span.specs.Spelling.{inside_text, string_text};
 ghost use Rattle.name_path.specs.Reference.{path_text};
 ghost use Rattle.transforms.specs.View.{frame_view};
-ghost use Rattle.composite_rules.specs.Sound.{IsTyped, kind_of};
+ghost use Rattle.composite_rules.specs.Sound.{IsTyped};
 ghost use Rattle.json_out.specs.Properties.{extras_view, mark_json};
-ghost use Rattle.json_out.specs.Spelling.{value_text, given_text, extras_text, token_text};
+ghost use Rattle.json_out.specs.Spelling.{value_text, given_text, extras_text};
 ghost use Rattle.json_out.specs.Spelling.{fragment_text};
 ghost use Rattle.json_out.specs.Sheets.{json_frame, AreBytes, IsReadAsMember};
 
 use crate::extras::Extras;
-use crate::spelling::{spell_behind, spell_word};
+use crate::spelling::spell_behind;
 use crate::texts::are_bytes;
 use composite_rules::Typed;
-use json_span::{write_string, write_string_bytes};
-use name_path::{Path, print_path};
+use json_span::{write_string, write_string_inside};
+use name_path::Path;
 use std::alloc::Global;
-use tk_io::{Bytes, NoMemory};
+use tk_io::{Bytes, NoMemory, Text};
 use token_tree::Mark;
 use transforms::{Frag, Frame, Names};
 
@@ -87,29 +88,27 @@ fn append_extras(out: &mut Bytes, extras: &Extras<'_>) -> Result<(), NoMemory>
     Ok(())
 }
 
-fn append_type(out: &mut Bytes, typed: &Typed<'_>) -> Result<(), NoMemory>
-    ensures { OnOk result (out.new ≡ out.old ++ string_text (kind_name (kind_of typed.now))) }
+// The insides of the names' strings, each after a point.
+fn append_behind_points(out: &mut Bytes, names: &[Text<'_>]) -> Result<(), NoMemory>
+    ensures { OnOk result (out.new
+        ≡ out.old ++ flat_map (λ name. full_stop ∷ inside_text name) names.now) }
 {
-    spell_word(out, typed.kind().name())
-}
-
-fn append_token(out: &mut Bytes, typed: &Typed<'_>, extras: &Extras<'_>) -> Result<(), NoMemory>
-    ensures { OnOk result (out.new ≡ out.old ++ token_text typed.now (extras_view extras.now)) }
-{
-    out.append(b"{\"$type\": ")?;
-    append_type(out, typed)?;
-    spell_behind(out, b", \"$value\": ", typed)?;
-    append_extras(out, extras)?;
-    out.append(b"}")?;
+    for name in names {
+        out.append(b".")?;
+        write_string_inside(name.as_str(), out)?;
+    }
     Ok(())
 }
 
+// The inside of the string of the path's names, joined by points.
 fn append_path(out: &mut Bytes, path: &Path<'_>) -> Result<(), NoMemory>
-    ensures { OnOk result (out.new ≡ out.old ++ string_text (path_text path.now)) }
+    ensures { OnOk result (out.new ≡ out.old ++ inside_text (path_text path.now)) }
 {
-    let mut text = out.fresh();
-    print_path(path, &mut text)?;
-    write_string_bytes(text.as_slice(), out)?;
+    let Some((first, others)) = path.as_slice().split_first() else {
+        return Ok(());
+    };
+    write_string_inside(first.as_str(), out)?;
+    append_behind_points(out, others)?;
     Ok(())
 }
 
@@ -122,35 +121,42 @@ fn append_member(
     ensures { OnOk result (out.new
         ≡ out.old ++ fragment_text path.now typed.now (extras_view extras.now)) }
 {
-    out.append(b"  ")?;
+    out.append(b"  \"")?;
     append_path(out, path)?;
-    out.append(b": ")?;
-    append_token(out, typed, extras)?;
+    out.append(b"\": {\"$type\": \"")?;
+    out.append(typed.kind().name().as_bytes())?;
+    spell_behind(out, b"\", \"$value\": ", typed)?;
+    append_extras(out, extras)?;
+    out.append(b"}")?;
     Ok(())
 }
 
 fn written(
     alloc: Global,
+    draft: &mut Bytes,
     path: &Path<'_>,
     typed: &Typed<'_>,
     extras: &Extras<'_>,
-) -> Result<Bytes, NoMemory>
-    ensures { IfOk result (λ body. body
+) -> Result<Frag, NoMemory>
+    ensures names { IfOk result (λ f. f.names ≡ []) }
+    ensures body { IfOk result (λ f. f.body
         ≡ fragment_text path.now typed.now (extras_view extras.now)) }
 {
-    let mut body = Bytes::new(alloc);
-    append_member(&mut body, path, typed, extras)?;
-    Ok(body)
+    draft.truncate(0);
+    append_member(draft, path, typed, extras)?;
+    let member = Frag::of_draft(alloc, Names::none(), draft)?;
+    Ok(member)
 }
 
 /// The member of a token in a JSON file: its path's names, joined by `.`, and an object of its type and its value with all
 /// parts, and after them what is given of a description, extensions and a mark of deprecation. The extensions stand as they
 /// are given, byte by byte. No name of a platform is declared.
 ///
-/// The text is read as this member and nothing else, where the value is one that a token can have and the extensions are the
+/// The lines are made in the draft, whatever it holds. The text is read as this member and nothing else, where the value is one that a token can have and the extensions are the
 /// text of a JSON value.
 pub fn fragment(
     alloc: Global,
+    draft: &mut Bytes,
     path: &Path<'_>,
     typed: &Typed<'_>,
     extras: &Extras<'_>,
@@ -163,9 +169,6 @@ pub fn fragment(
         → IfOk result (λ f. IsReadAsMember path.now typed.now (extras_view extras.now) f.body) }
 {
     are_bytes(path, typed, extras);
-    let body = written(alloc, path, typed, extras)?;
-    Ok(Frag {
-        names: Names::new(alloc),
-        body,
-    })
+    let fragment = written(alloc, draft, path, typed, extras)?;
+    Ok(fragment)
 }

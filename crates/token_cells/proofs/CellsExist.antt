@@ -20,7 +20,7 @@ use Rattle.transforms.specs.Config.{Settings, AreAllowed}
 use Rattle.transforms.specs.PlatformName.{PathsAreNamed}
 use Rattle.transforms.specs.declared.platform.Platform.{Platform}
 use Rattle.transforms.specs.declared.platform.Platform.TheVariants.{Css, Android, Swift}
-use Rattle.transforms.specs.declared.sheet.Frag.{Frag}
+use Rattle.transforms.specs.declared.frag.Frag.{Frag}
 use Rattle.css_out.specs.Spelling as on_css
 use Rattle.android_out.specs.Spelling as on_android
 use Rattle.ios_out.specs.Spelling as on_swift

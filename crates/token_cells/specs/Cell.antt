@@ -27,7 +27,7 @@ use Rattle.type_rules.specs.Checked.{Break as ValueBreak}
 use Rattle.composite_rules.specs.Value.{value_of}
 use Rattle.composite_rules.specs.declared.typed.Typed.{Typed}
 use Rattle.transforms.specs.Config.{Settings}
-use Rattle.transforms.specs.declared.sheet.Frag.{Frag}
+use Rattle.transforms.specs.declared.frag.Frag.{Frag}
 use Rattle.css_out.specs.Sources.{HasRoom, IsNamed}
 use Rattle.css_out.specs.Spelling.{fragment_names, fragment_text}
 use Rattle.refusals.specs.declared.rule.CellRule.{CellRule}

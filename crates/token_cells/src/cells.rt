@@ -9,7 +9,7 @@ use crate::token_cell::cell_of_entry;
 use group_inherit::Flat;
 use std::alloc::Global;
 use std::sync::ledger::Ledger;
-use tk_io::{NoMemory, Sequence, Steps};
+use tk_io::{Bytes, NoMemory, Sequence, Steps};
 use transforms::Config;
 
 /// What tokens come to, in path order.
@@ -29,8 +29,9 @@ pub fn cells_of<'s, N: Ledger>(
     ensures at_most { evals.new ≤ evals.old + length (map.entries flat.now) }
 {
     let mut cells = Cells::new(alloc);
+    let mut draft = Bytes::new(alloc);
     for token in flat.as_slice() {
-        let cell = cell_of_entry(alloc, flat, &token.0, &token.1, cfg, evals)?;
+        let cell = cell_of_entry(alloc, &mut draft, flat, &token.0, &token.1, cfg, evals)?;
         let shared = SharedCell::new(alloc, cell)?;
         cells.push(shared)?;
     }

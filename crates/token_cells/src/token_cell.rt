@@ -20,7 +20,7 @@ use name_path::{Path, Place, Ring, Trail};
 use refusals::CellRule;
 use std::alloc::Global;
 use std::sync::ledger::Ledger;
-use tk_io::{NoMemory, Steps};
+use tk_io::{Bytes, NoMemory, Steps};
 use token_tree::Mark;
 use transforms::{Config, Frag};
 use type_rules::{ValueFault, ValueRule};
@@ -99,6 +99,7 @@ fn extras<'a, 's: 'a>(entry: &'a Entry<'s>) -> Result<Extras<'a>, NoMemory>
 // What the token gives to each platform, which has this value.
 fn made<'s>(
     alloc: Global,
+    draft: &mut Bytes,
     path: &Path<'s>,
     entry: &Entry<'s>,
     resolved: &Resolved<'s>,
@@ -110,10 +111,10 @@ fn made<'s>(
 {
     value_laws();
     let extras = extras(entry)?;
-    let css = css_out::fragment(alloc, path, typed, &resolved.links, cfg)?;
-    let android = android_out::fragment(alloc, path, typed, cfg)?;
-    let ios = ios_out::fragment(alloc, path, typed, cfg)?;
-    let json = json_out::fragment(alloc, path, typed, &extras)?;
+    let css = css_out::fragment(alloc, draft, path, typed, &resolved.links, cfg)?;
+    let android = android_out::fragment(alloc, draft, path, typed, cfg)?;
+    let ios = ios_out::fragment(alloc, draft, path, typed, cfg)?;
+    let json = json_out::fragment(alloc, draft, path, typed, &extras)?;
     Ok(TokenCell::Made {
         css,
         android,
@@ -125,6 +126,7 @@ fn made<'s>(
 // What a token comes to whose references break no rule.
 fn resolved_cell<'s>(
     alloc: Global,
+    draft: &mut Bytes,
     path: &Path<'s>,
     entry: &Entry<'s>,
     resolved: &Resolved<'s>,
@@ -134,15 +136,16 @@ fn resolved_cell<'s>(
         → IsResolved flat path.now resolved.now → IsCell flat cfg.now path.now c) }
 {
     match check(alloc, resolved.kind, &resolved.plain) {
-        Ok(typed) => made(alloc, path, entry, resolved, &typed, cfg),
+        Ok(typed) => made(alloc, draft, path, entry, resolved, &typed, cfg),
         Err(ValueFault::Broken { rule, trail }) => refused_value(alloc, path, rule, trail),
         Err(ValueFault::NoMemory) => Err(NoMemory),
     }
 }
 
-/// What a token comes to that is at hand: the flat tree holds it under the path. Else as [`cell`].
+/// What a token comes to that is at hand: the flat tree holds it under the path. Its lines are made in the draft, whatever it holds. Else as [`cell`].
 pub(crate) fn cell_of_entry<'s, N: Ledger>(
     alloc: Global,
+    draft: &mut Bytes,
     flat: &Flat<'s>,
     path: &Path<'s>,
     entry: &Entry<'s>,
@@ -154,7 +157,7 @@ pub(crate) fn cell_of_entry<'s, N: Ledger>(
     ensures cell { IfOk result (IsCell flat.now cfg.now path.now) }
 {
     match evaluate_entry(alloc, flat, path, entry, evals) {
-        Ok(resolved) => resolved_cell(alloc, path, entry, &resolved, cfg),
+        Ok(resolved) => resolved_cell(alloc, draft, path, entry, &resolved, cfg),
         Err(RefFault::Broken { rule, place, ring }) => Ok(TokenCell::Refused {
             rule: CellRule::Ref(rule),
             place,
@@ -180,5 +183,6 @@ pub fn cell<'s, N: Ledger>(
     let Some(entry) = flat.get(path) else {
         unreachable!();
     };
-    cell_of_entry(alloc, flat, path, entry, cfg, evals)
+    let mut draft = Bytes::new(alloc);
+    cell_of_entry(alloc, &mut draft, flat, path, entry, cfg, evals)
 }

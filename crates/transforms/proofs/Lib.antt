@@ -1,5 +1,5 @@
 pub mod Spelled
-mod Names
+mod NameMaps
 pub mod Taken
 mod FirstRefused
 mod Added

@@ -2,3 +2,4 @@ pub mod Joined
 pub mod Growing
 pub mod Elsewhere
 pub mod Unread
+pub mod Held

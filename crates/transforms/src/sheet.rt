@@ -1,23 +1,14 @@
-// Sheets, and the fragments that they are made of.
+// Sheets of fragments.
 
 ghost use Rattle.std.specs.Prelude.{◌≡◌, [], IfOk, OnOk, OnErr};
 ghost use Rattle.transforms.specs.Sheet.{Holds, Gains, IsSheetText};
 ghost use Rattle.transforms.specs.View.{frame_view};
 ghost use Rattle.transforms.specs.inner.Growing.{OnlyTextGrows};
 
+use crate::Frag;
 use std::alloc::Global;
 use std::marker::Model;
-use tk_io::{Bytes, NoMemory, Sequence};
-
-/// The names that a token declares on a platform.
-pub type Names = Sequence<Bytes>;
-
-/// What a token gives to a sheet: the names that it declares there, and its lines.
-#[derive(Debug, Drop)]
-pub struct Frag {
-    pub names: Names,
-    pub body: Bytes,
-}
+use tk_io::{Bytes, NoMemory};
 
 /// What stands around the bodies of a sheet: before all, between each two, after the last where there is one, and at the
 /// end.

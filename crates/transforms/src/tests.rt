@@ -105,11 +105,11 @@ fn bytes(alloc: Global, text: &str) -> Result<Bytes, NoMemory> {
 }
 
 fn names(alloc: Global, texts: &[&str]) -> Result<Names, NoMemory> {
-    let mut names = Names::new(alloc);
+    let mut names = Sequence::new(alloc);
     for text in texts {
         names.push(bytes(alloc, text)?)?;
     }
-    Ok(names)
+    Ok(Names::several(names))
 }
 
 /// The frame of a JSON object with a member on each line.
@@ -124,7 +124,7 @@ fn sheet(alloc: Global, frame: Frame, bodies: &[&str]) -> Result<Bytes, NoMemory
     let mut sheet = Sheet::start(alloc, frame)?;
     for body in bodies {
         sheet.add(&Frag {
-            names: Names::new(alloc),
+            names: Names::none(),
             body: bytes(alloc, body)?,
         })?;
     }

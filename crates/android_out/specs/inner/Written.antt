@@ -1,7 +1,7 @@
 -- What a fragment of given values is, and how its lines grow.
 use Rattle.std.specs.Prelude.{Bool, List, None, Option, Some, [], codes, false, if◌then◌else◌, true, ℕ, ◌++◌, ◌==◌, ◌∷◌, ◌≡◌}
 use Rattle.tk_io.specs.Characters.{blank}
-use Rattle.transforms.specs.declared.sheet.Frag.{Frag}
+use Rattle.transforms.specs.declared.frag.Frag.{Frag}
 use Rattle.android_out.specs.Element.{Values, value_names, Tag, tag_name, attributes}
 use Rattle.android_out.specs.PlatformValue.{is_plain_char}
 use Rattle.android_out.specs.Spelling.{body_text}
@@ -11,12 +11,12 @@ pub record IsFragment (name : List ℕ) (vs : Values) (f : Frag) : Type 0 where
   pub names : f.names ≡ value_names vs
   pub body : f.body ≡ body_text name vs
 
--- a line up to its content, and after it
-abbrev pub start_text : Tag → List ℕ → List ℕ
-start_text tag name = codes "  <" ++ (tag_name tag ++ (attributes tag ++ (codes " name=\"" ++ (name ++ codes "\">"))))
+-- a line up to its name, and after its content
+abbrev pub opening : Tag → List ℕ
+opening tag = codes "  <" ++ (tag_name tag ++ (attributes tag ++ codes " name=\""))
 
-abbrev pub end_text : Tag → List ℕ
-end_text tag = codes "</" ++ (tag_name tag ++ codes ">\n")
+abbrev pub closing : Tag → List ℕ
+closing tag = codes "</" ++ (tag_name tag ++ codes ">\n")
 
 -- whether a word is begun after a byte, or none where the byte can't stand there
 abbrev pub after_byte : Bool → ℕ → Option Bool

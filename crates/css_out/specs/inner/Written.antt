@@ -1,6 +1,6 @@
 -- What a fragment of given lines is.
 use Rattle.std.specs.Prelude.{◌≡◌, ℕ, List, map}
-use Rattle.transforms.specs.declared.sheet.Frag.{Frag}
+use Rattle.transforms.specs.declared.frag.Frag.{Frag}
 use Rattle.css_out.specs.Parts.{NamedParts, declaration}
 use Rattle.css_out.specs.Spelling.{body_text}
 

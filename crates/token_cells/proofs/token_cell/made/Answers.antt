@@ -1,5 +1,5 @@
 use Rattle.std.proofs.Common.{◌≡◌, subst}
-use Rattle.transforms.specs.declared.sheet.Frag.{Frag}
+use Rattle.transforms.specs.declared.frag.Frag.{Frag}
 use Rattle.composite_rules.specs.declared.typed.Typed.{Typed}
 use Rattle.json_out.specs.Properties.{ExtrasData}
 use Rattle.token_cells.specs.Cell.{TokenPath, IsJsonOf}

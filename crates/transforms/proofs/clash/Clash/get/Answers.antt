@@ -1,6 +1,6 @@
 use Rattle.std.proofs.Common.{ap, ◌∙◌}
 use Rattle.std.specs.FinMap as map
-use Rattle.transforms.proofs.Names.{name_get}
+use Rattle.transforms.proofs.NameMaps.{name_get}
 use Rattle.transforms.proofs.clash.Clash.get.Goals as goal
 
 pub returns : goal.returns

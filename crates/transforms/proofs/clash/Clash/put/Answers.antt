@@ -2,7 +2,7 @@ use Rattle.std.proofs.Common.{◌++◌, ap, ap₂, ◌∙◌}
 use Rattle.std.specs.Cmp.Lexicographic.{nat_list_cmp_total}
 use Rattle.std.specs.FinMap as map
 use Rattle.tk_io.proofs.MapViews.{at_insert}
-use Rattle.transforms.proofs.Names.{by_name, name_put}
+use Rattle.transforms.proofs.NameMaps.{by_name, name_put}
 use Rattle.transforms.proofs.clash.Clash.put.Goals as goal
 
 pub returns-clause-ok : goal.returns-clause-ok

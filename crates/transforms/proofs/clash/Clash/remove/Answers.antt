@@ -2,7 +2,7 @@ use Rattle.std.proofs.Common.{ap, ◌∙◌}
 use Rattle.std.specs.Cmp.Lexicographic.{nat_list_cmp_total}
 use Rattle.std.specs.FinMap as map
 use Rattle.tk_io.proofs.MapViews.{at_remove}
-use Rattle.transforms.proofs.Names.{name_remove}
+use Rattle.transforms.proofs.NameMaps.{name_remove}
 use Rattle.transforms.proofs.clash.Clash.remove.Goals as goal
 
 pub returns : goal.returns
