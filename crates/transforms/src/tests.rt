@@ -7,7 +7,7 @@ use dec_fix::Dec;
 use name_path::Path;
 use std::alloc::Global;
 use std::test::Fail;
-use tk_io::{Bytes, NoMemory, Text};
+use tk_io::{Bytes, NoMemory, Sequence, Text};
 
 mod table;
 
