@@ -67,7 +67,7 @@ pub record Looked (graph : List (Vec ℕ Global)) (root : ℕ) (marks : List Mar
   pub within : top.next < length row.items
   pub need : w ≡ get_or row.items top.next w
 
-module _ (graph : List (Vec ℕ Global)) (root : ℕ) (marks : List Mark) (stack rest : List Frame) (top : Frame) (order : List ℕ) where
+module _ {graph : List (Vec ℕ Global)} {root : ℕ} {marks : List Mark} {stack rest : List Frame} {top : Frame} {order : List ℕ} where
   pub searching : Popped graph root marks stack rest top order → Searching (needs_in graph) root marks (rest ++ top ∷ []) order
   searching p = subst (λ (fs : List Frame). Searching (needs_in graph) root marks fs order) p.popped p.search
 
@@ -84,21 +84,21 @@ module _ (graph : List (Vec ℕ Global)) (root : ℕ) (marks : List Mark) (stack
   left_less p = subst (λ (fs : List Frame). new_work graph (set marks top.node Done) + left_work graph rest < new_work graph marks + left_work graph fs) (sym p.popped)
       (leave_less graph marks rest top p.size (top_marked p) (top_open (needs_in graph) root marks rest top order (searching p)))
 
-module _ (graph : List (Vec ℕ Global)) (root : ℕ) (marks : List Mark) (stack rest : List Frame) (top : Frame) (order : List ℕ) (row : Vec ℕ Global) (w : ℕ) (m : Mark) where
+module _ {graph : List (Vec ℕ Global)} {root : ℕ} {marks : List Mark} {stack rest : List Frame} {top : Frame} {order : List ℕ} {row : Vec ℕ Global} {w : ℕ} {m : Mark} where
   at : Looked graph root marks stack rest top order row w m → At top.next (needs_in graph top.node) w
-  at l = need_read graph top.node top.next w row (top_in graph root marks stack rest top order l.before) l.read l.within l.need
+  at l = need_read graph top.node top.next w row (top_in l.before) l.read l.within l.need
 
   pub in_marks : Looked graph root marks stack rest top order row w m → w < length marks
-  in_marks l = omega (arith, need_within graph top.node top.next w row l.needs (top_in graph root marks stack rest top order l.before) l.read l.within l.need, (l.before).size)
+  in_marks l = omega (arith, need_within graph top.node top.next w row l.needs (top_in l.before) l.read l.within l.need, (l.before).size)
 
   marked : Looked graph root marks stack rest top order row w m → (n : Mark) → m ≡ get_or marks w m → m ≡ n → get_or marks w New ≡ n
   marked l n e f = sym (get_or_read marks w m (in_marks l) e New) ∙ f
 
   next_in : Looked graph root marks stack rest top order row w m → top.next < length (needs_in graph top.node)
-  next_in l = subst (λ (xs : List ℕ). top.next < length xs) (sym (row_read graph top.node row (top_in graph root marks stack rest top order l.before) l.read)) l.within
+  next_in l = subst (λ (xs : List ℕ). top.next < length xs) (sym (row_read graph top.node row (top_in l.before) l.read)) l.within
 
   pub advanced : (stack' : List Frame) → Looked graph root marks stack rest top order row w m → m ≡ get_or marks w m → m ≡ Done → stack' ≡ rest ++ (record { node = top.node; next = top.next + 1 }) ∷ [] → Searching (needs_in graph) root marks stack' order
-  advanced stack' l e d made = subst (λ (fs : List Frame). Searching (needs_in graph) root marks fs order) (sym made) (advance (needs_in graph) root marks rest top order w (searching graph root marks stack rest top order l.before) (at l) (marked l Done e d))
+  advanced stack' l e d made = subst (λ (fs : List Frame). Searching (needs_in graph) root marks fs order) (sym made) (advance (needs_in graph) root marks rest top order w (searching l.before) (at l) (marked l Done e d))
 
   pub advanced_less : (stack' : List Frame) → Looked graph root marks stack rest top order row w m → stack' ≡ rest ++ (record { node = top.node; next = top.next + 1 }) ∷ [] → new_work graph marks + left_work graph stack' < new_work graph marks + left_work graph stack
   advanced_less stack' l made =
@@ -106,7 +106,7 @@ module _ (graph : List (Vec ℕ Global)) (root : ℕ) (marks : List Mark) (stack
       let h = advance_less graph marks rest top (next_in l) in omega arith
 
   pub entered : (stack' : List Frame) → Looked graph root marks stack rest top order row w m → m ≡ get_or marks w m → m ≡ New → stack' ≡ (rest ++ top ∷ []) ++ (record { node = w; next = 0 }) ∷ [] → Searching (needs_in graph) root (set marks w Open) stack' order
-  entered stack' l e d made = subst (λ (fs : List Frame). Searching (needs_in graph) root (set marks w Open) fs order) (sym made) (enter (needs_in graph) root marks rest top order w (searching graph root marks stack rest top order l.before) (at l) (marked l New e d) (in_marks l))
+  entered stack' l e d made = subst (λ (fs : List Frame). Searching (needs_in graph) root (set marks w Open) fs order) (sym made) (enter (needs_in graph) root marks rest top order w (searching l.before) (at l) (marked l New e d) (in_marks l))
 
   pub entered_less : (stack' : List Frame) → Looked graph root marks stack rest top order row w m → m ≡ get_or marks w m → m ≡ New → stack' ≡ (rest ++ top ∷ []) ++ (record { node = w; next = 0 }) ∷ [] → new_work graph (set marks w Open) + left_work graph stack' < new_work graph marks + left_work graph stack
   entered_less stack' l e d made =
@@ -114,10 +114,10 @@ module _ (graph : List (Vec ℕ Global)) (root : ℕ) (marks : List Mark) (stack
       let h = enter_less graph marks rest top w (l.before).size (in_marks l) (marked l New e d) in omega arith
 
   pub is_ring : (ring : List ℕ) → Looked graph root marks stack rest top order row w m → m ≡ get_or marks w m → m ≡ Open → IsEndFrom w (nodes (rest ++ top ∷ [])) ring → IsRing (needs_in graph) root ring
-  is_ring ring l e d from = found (needs_in graph) root marks rest top order w ring (searching graph root marks stack rest top order l.before) (at l) (marked l Open e d) from
+  is_ring ring l e d from = found (needs_in graph) root marks rest top order w ring (searching l.before) (at l) (marked l Open e d) from
 
   pub on_stack : Looked graph root marks stack rest top order row w m → m ≡ get_or marks w m → m ≡ Open → In w (nodes (rest ++ top ∷ []))
-  on_stack l e d = (searching graph root marks stack rest top order l.before).stands w (marked l Open e d)
+  on_stack l e d = (searching l.before).stands w (marked l Open e d)
 
 pub no_frames : (fs : List Frame) → length fs ≡ 0 → fs ≡ []
 no_frames [] e = refl

@@ -192,14 +192,17 @@ module _ {E L Y : Type 0} {R : L → L → Ordering} (o : IsTotalOrder R) (key :
   get_missed q es i h place = map.get-from_sorted R (keyed_view key value es) q h ∙ missed_at q es i place
 
 -- a list with one entry put, as a map
-module _ {L Y : Type 0} {R : L → L → Ordering} (o : IsTotalOrder R) where
-  pub sorted_put : (xs ys : List (L × Y)) (k : L) (v : Y) → T (is_sorted R xs) → ys ≡ put R k v xs → T (is_sorted R ys)
-  sorted_put xs ys k v h e = subst (λ l. T (is_sorted R l)) (sym e) (is_sorted-put R o k v xs h)
+pub record IsPut {L Y : Type 0} (R : L → L → Ordering) (xs ys : List (L × Y)) (k : L) (v : Y) : Type 0 where
+  pub sorted : T (is_sorted R ys)
+  pub is : {m : map.FinMap R Y} → map.from_sorted xs ≡ m → map.from_sorted ys ≡ map.insert m k v
 
-  pub put_is : (xs ys : List (L × Y)) (k : L) (v : Y) → T (is_sorted R xs) → ys ≡ put R k v xs → map.from_sorted {R = R} ys ≡ map.insert (map.from_sorted xs) k v
-  put_is xs ys k v h e = map.same_entries_map _ _ (
-      map.entries-from_sorted R ys (sorted_put xs ys k v h e)
-      ∙ (e ∙ (ap (put R k v) (sym (map.entries-from_sorted R xs h)) ∙ sym (map.entries-insert o (map.from_sorted xs) k v))))
+module _ {L Y : Type 0} {R : L → L → Ordering} (o : IsTotalOrder R) where
+  is_put : (xs ys : List (L × Y)) (k : L) (v : Y) → T (is_sorted R xs) → ys ≡ put R k v xs → IsPut R xs ys k v
+  is_put xs ys k v h e =
+      let sorted : T (is_sorted R ys) = subst (λ l. T (is_sorted R l)) (sym e) (is_sorted-put R o k v xs h) in
+      let put_before = ap (put R k v) (sym (map.entries-from_sorted R xs h)) ∙ sym (map.entries-insert o (map.from_sorted xs) k v) in
+      let same = map.same_entries_map _ _ (map.entries-from_sorted R ys sorted ∙ (e ∙ put_before)) in
+      record { sorted = sorted; is = λ view. same ∙ ap (λ m. map.insert m k v) view }
 
   -- .. and with one taken away
   pub sorted_without : (xs ys : List (L × Y)) (k : L) → T (is_sorted R xs) → ys ≡ where_key R (λ x. not (eq_by_cmp R k x)) xs → T (is_sorted R ys)
@@ -253,16 +256,23 @@ module _ {K L X : Type 0} {R : L → L → Ordering} (o : IsTotalOrder R) (same 
   pub pair_none : (es : List (K × X)) (q : L) (i : ℕ) → Rises es → Place q es (Err i) → map.get (map.from_sorted {R = R} (shown es)) q ≡ None
   pair_none es q i h place = get_missed o (λ e. g e.0) (λ e. e.1) q es i h place.1
 
-  -- a value written over the one that stood at the key
-  pub pair_over : (es : List (K × X)) (q : L) (i : ℕ) (d : K × X) (v : X) → Rises es → Place q es (Ok i) → d ≡ slice_index_or es i d → shown (set es i (d.0, v)) ≡ put R q v (shown es)
-  pair_over es q i d v h place is =
+  -- a value written over the one that stood at the key, which was looked for in what is seen of the entries
+  pub pair_over : {seen es : List (K × X)} {q : L} {i : ℕ} {d : K × X} {v : X} → Rises es → seen ≡ es → Place q seen (Ok i)
+      → d ≡ slice_index_or es i d → IsPut R (shown es) (shown (set es i (d.0, v))) q v
+  pair_over {es = es} {q = q} {i = i} {d = d} {v = v} h all found is =
+      let place = subst (λ l. Place q l (Ok i)) all found in
       let key = ap (λ e. g e.0) is ∙ same _ _ (place.1 d) in
-      put_over o (λ e. g e.0) (λ e. e.1) (d.0, v) es i d h place.0 (ap (λ e. g e.0) (sym is)) ∙ ap (λ k. put R k v (shown es)) key
+      let over = put_over o (λ e. g e.0) (λ e. e.1) (d.0, v) es i d h place.0 (ap (λ e. g e.0) (sym is)) in
+      is_put o _ _ q v h (over ∙ ap (λ k. put R k v (shown es)) key)
 
   -- an entry put in at the key's place
-  pub pair_put : (es : List (K × X)) (q : L) (i : ℕ) (k : K) (v : X) → Place q es (Err i) → g k ≡ q → shown (insert es i (k, v)) ≡ put R q v (shown es)
-  pair_put es q i k v place e =
-      put_at o (λ e. g e.0) (λ e. e.1) (k, v) es i place.0 (subst (λ z. IsPlace o (λ e. g e.0) (λ (e : K × X). e.1) z es i) (sym e) place.1) ∙ ap (λ z. put R z v (shown es)) e
+  pub pair_put : {seen es new : List (K × X)} {q : L} {i : ℕ} {k : K} {v : X} → Rises es → seen ≡ es → Place q seen (Err i)
+      → g k ≡ q → new ≡ insert es i (k, v) → IsPut R (shown es) (shown new) q v
+  pair_put {es = es} {q = q} {i = i} {k = k} {v = v} h all missed e made =
+      let place = subst (λ l. Place q l (Err i)) all missed in
+      let there = subst (λ z. IsPlace o (λ e. g e.0) (λ (e : K × X). e.1) z es i) (sym e) place.1 in
+      let in_place = put_at o (λ e. g e.0) (λ e. e.1) (k, v) es i place.0 there in
+      is_put o _ _ q v h (ap shown made ∙ (in_place ∙ ap (λ z. put R z v (shown es)) e))
 
   pub pair_taken : (es : List (K × X)) (q : L) (i : ℕ) (d : K × X) → Rises es → Place q es (Ok i) → shown (remove es i) ≡ where_key R (λ k. not (eq_by_cmp R q k)) (shown es)
   pair_taken es q i d h place = taken_at o (λ e. g e.0) (λ e. e.1) q es i d h place.0 (place.1 d)
