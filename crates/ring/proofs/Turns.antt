@@ -1,4 +1,4 @@
-use Rattle.std.proofs.Common.{◌≡◌, ℕ, zero, suc, ◌+◌, ◌<◌, ◌≤◌, List, [], ◌∷◌, ◌++◌, refl, sym, ap, ◌∙◌, subst, length, get_or, set, arith, All}
+use Rattle.std.proofs.Common.{◌≡◌, ℕ, zero, suc, ◌+◌, ◌<◌, ◌≤◌, List, [], ◌∷◌, ◌++◌, refl, sym, ap, ◌∙◌, subst, length, length-set, get_or, set, arith, All}
 use Rattle.std.proofs.lemmas.List.Elements.{All-get_or}
 use Rattle.std.specs.declared.vec.Vec.{Vec}
 use Rattle.std.specs.declared.alloc.Global.{Global}
@@ -10,7 +10,7 @@ use Rattle.std.proofs.lemmas.List.{get_or_read}
 use Rattle.ring.specs.Lists.{In}
 use Rattle.ring.specs.Routes.{IsRing}
 use Rattle.ring.specs.inner.Stack.{nodes, IsEndFrom}
-use Rattle.ring.proofs.Searches.{At, at_get_or, Searching, advance, enter, leave, found, top_open, top_within}
+use Rattle.ring.proofs.Searches.{At, at_get_or, Searching, advance, enter, leave, found, ring_within, top_open, top_within}
 use Rattle.ring.proofs.Work.{weight, new_work, left_work, left_append, work_set}
 
 -- the row that was read is the node's needs
@@ -20,11 +20,13 @@ row_read (r ∷ rows) zero row h e = ap (λ (w : Vec ℕ Global). w.items) (sym 
 row_read (r ∷ rows) (suc v) row h e = row_read rows v row (omega arith) e
 
 -- the need that was read
-pub need_read : (graph : List (Vec ℕ Global)) (v k w : ℕ) (row : Vec ℕ Global) → v < length graph → row ≡ get_or graph v row → k < length row.items → w ≡ get_or row.items k w → At k (needs_in graph v) w
+pub need_read : (graph : List (Vec ℕ Global)) (v k w : ℕ) (row : Vec ℕ Global) → v < length graph → row ≡ get_or graph v row
+    → k < length row.items → w ≡ get_or row.items k w → At k (needs_in graph v) w
 need_read graph v k w row h e less f =
     subst (λ (xs : List ℕ). At k xs w) (sym (row_read graph v row h e)) (subst (At k row.items) (sym f) (at_get_or k row.items w less))
 
-pub need_within : (graph : List (Vec ℕ Global)) (v k w : ℕ) (row : Vec ℕ Global) → IsGraph graph → v < length graph → row ≡ get_or graph v row → k < length row.items → w ≡ get_or row.items k w → w < length graph
+pub need_within : (graph : List (Vec ℕ Global)) (v k w : ℕ) (row : Vec ℕ Global) → IsGraph graph → v < length graph → row ≡ get_or graph v row
+    → k < length row.items → w ≡ get_or row.items k w → w < length graph
 need_within graph v k w row g h e less f =
     let P : Vec ℕ Global → Type 0 = λ r. All (λ x. x < length graph) r.items in
     let in_row : All (λ x. x < length graph) row.items = subst P (sym e) (All-get_or P graph v row h g) in
@@ -53,6 +55,16 @@ module _ (graph : List (Vec ℕ Global)) (ms : List Mark) (rest : List Frame) (t
       subst (λ (m : Mark). new_work graph (set ms top.node Done) + weight m (length (needs_in graph top.node)) ≡ new_work graph ms + 0) n (work_set graph ms top.node Done e h) in
       omega arith
 
+push_on : {fs back stack : List Frame} (f : Frame) → back ≡ fs → stack ≡ back ++ f ∷ [] → stack ≡ fs ++ f ∷ []
+push_on f put made = made ∙ ap (λ (gs : List Frame). gs ++ f ∷ []) put
+
+-- what holds before each turn
+abbrev pub Turn : List (Vec ℕ Global) → ℕ → List Mark → List Frame → List ℕ → Type 0
+Turn graph root ms stack order = record {
+  marks : length ms ≡ length graph;
+  search : Searching (needs_in graph) root ms stack order;
+}
+
 -- what is known once a frame is popped
 pub record Popped (graph : List (Vec ℕ Global)) (root : ℕ) (marks : List Mark) (stack rest : List Frame) (top : Frame) (order : List ℕ) : Type 0 where
   pub size : length marks ≡ length graph
@@ -60,7 +72,7 @@ pub record Popped (graph : List (Vec ℕ Global)) (root : ℕ) (marks : List Mar
   pub popped : stack ≡ rest ++ top ∷ []
 
 -- what is known once a need is looked at
-pub record Looked (graph : List (Vec ℕ Global)) (root : ℕ) (marks : List Mark) (stack rest : List Frame) (top : Frame) (order : List ℕ) (row : Vec ℕ Global) (w : ℕ) (m : Mark) : Type 0 where
+pub record Looked (graph : List (Vec ℕ Global)) (root : ℕ) (marks : List Mark) (stack rest : List Frame) (top : Frame) (order : List ℕ) (row : Vec ℕ Global) (w : ℕ) : Type 0 where
   pub before : Popped graph root marks stack rest top order
   pub needs : IsGraph graph
   pub read : row ≡ get_or graph top.node row
@@ -68,7 +80,10 @@ pub record Looked (graph : List (Vec ℕ Global)) (root : ℕ) (marks : List Mar
   pub need : w ≡ get_or row.items top.next w
 
 module _ {graph : List (Vec ℕ Global)} {root : ℕ} {marks : List Mark} {stack rest : List Frame} {top : Frame} {order : List ℕ} where
-  pub searching : Popped graph root marks stack rest top order → Searching (needs_in graph) root marks (rest ++ top ∷ []) order
+  pub once_popped : Turn graph root marks stack order → stack ≡ rest ++ top ∷ [] → Popped graph root marks stack rest top order
+  once_popped turn popped = record { size = turn.marks; search = turn.search; popped = popped }
+
+  searching : Popped graph root marks stack rest top order → Searching (needs_in graph) root marks (rest ++ top ∷ []) order
   searching p = subst (λ (fs : List Frame). Searching (needs_in graph) root marks fs order) p.popped p.search
 
   pub top_marked : Popped graph root marks stack rest top order → top.node < length marks
@@ -77,48 +92,104 @@ module _ {graph : List (Vec ℕ Global)} {root : ℕ} {marks : List Mark} {stack
   pub top_in : Popped graph root marks stack rest top order → top.node < length graph
   top_in p = omega (arith, top_marked p, p.size)
 
-  pub left_after : (row : Vec ℕ Global) → Popped graph root marks stack rest top order → row ≡ get_or graph top.node row → length row.items ≤ top.next → Searching (needs_in graph) root (set marks top.node Done) rest (order ++ top.node ∷ [])
-  left_after row p e over = leave (needs_in graph) root marks rest top order (searching p) (subst (λ (xs : List ℕ). length xs ≤ top.next) (sym (row_read graph top.node row (top_in p) e)) over)
+  pub left_after : {row : Vec ℕ Global} {order' : List ℕ} → Popped graph root marks stack rest top order
+      → row ≡ get_or graph top.node row → length row.items ≤ top.next → order' ≡ order ++ top.node ∷ []
+      → Turn graph root (set marks top.node Done) rest order'
+  left_after {row = row} p e over made =
+      let all_seen = subst (λ (xs : List ℕ). length xs ≤ top.next) (sym (row_read graph top.node row (top_in p) e)) over in
+      let left = leave (needs_in graph) root marks rest top order (searching p) all_seen in
+      record {
+        marks = length-set marks top.node Done ∙ p.size;
+        search = subst (Searching (needs_in graph) root (set marks top.node Done) rest) (sym made) left;
+      }
 
-  pub left_less : Popped graph root marks stack rest top order → new_work graph (set marks top.node Done) + left_work graph rest < new_work graph marks + left_work graph stack
-  left_less p = subst (λ (fs : List Frame). new_work graph (set marks top.node Done) + left_work graph rest < new_work graph marks + left_work graph fs) (sym p.popped)
-      (leave_less graph marks rest top p.size (top_marked p) (top_open (needs_in graph) root marks rest top order (searching p)))
+  pub left_less : Popped graph root marks stack rest top order
+      → new_work graph (set marks top.node Done) + left_work graph rest < new_work graph marks + left_work graph stack
+  left_less p =
+      let b = ap (left_work graph) p.popped in
+      let open_top = top_open (needs_in graph) root marks rest top order (searching p) in
+      let h = leave_less graph marks rest top p.size (top_marked p) open_top in omega arith
 
-module _ {graph : List (Vec ℕ Global)} {root : ℕ} {marks : List Mark} {stack rest : List Frame} {top : Frame} {order : List ℕ} {row : Vec ℕ Global} {w : ℕ} {m : Mark} where
-  at : Looked graph root marks stack rest top order row w m → At top.next (needs_in graph top.node) w
+module _ {graph : List (Vec ℕ Global)} {root : ℕ} {marks : List Mark} {stack rest : List Frame} {top : Frame} {order : List ℕ} {row : Vec ℕ Global} {w : ℕ} where
+  pub once_looked : Popped graph root marks stack rest top order → IsGraph graph → row ≡ get_or graph top.node row
+      → top.next < length row.items → w ≡ get_or row.items top.next w → Looked graph root marks stack rest top order row w
+  once_looked p needs read within need = record { before = p; needs = needs; read = read; within = within; need = need }
+
+  at : Looked graph root marks stack rest top order row w → At top.next (needs_in graph top.node) w
   at l = need_read graph top.node top.next w row (top_in l.before) l.read l.within l.need
 
-  pub in_marks : Looked graph root marks stack rest top order row w m → w < length marks
-  in_marks l = omega (arith, need_within graph top.node top.next w row l.needs (top_in l.before) l.read l.within l.need, (l.before).size)
+  pub in_marks : Looked graph root marks stack rest top order row w → w < length marks
+  in_marks l =
+      let h = need_within graph top.node top.next w row l.needs (top_in l.before) l.read l.within l.need in
+      omega (arith, (l.before).size)
 
-  marked : Looked graph root marks stack rest top order row w m → (n : Mark) → m ≡ get_or marks w m → m ≡ n → get_or marks w New ≡ n
-  marked l n e f = sym (get_or_read marks w m (in_marks l) e New) ∙ f
+  marked : {m : Mark} → Looked graph root marks stack rest top order row w → (n : Mark) → m ≡ get_or marks w m → m ≡ n → get_or marks w New ≡ n
+  marked {m = m} l n e f = sym (get_or_read marks w m (in_marks l) e New) ∙ f
 
-  next_in : Looked graph root marks stack rest top order row w m → top.next < length (needs_in graph top.node)
-  next_in l = subst (λ (xs : List ℕ). top.next < length xs) (sym (row_read graph top.node row (top_in l.before) l.read)) l.within
+  next_in : Looked graph root marks stack rest top order row w → top.next < length (needs_in graph top.node)
+  next_in l =
+      subst (λ (xs : List ℕ). top.next < length xs) (sym (row_read graph top.node row (top_in l.before) l.read)) l.within
 
-  pub advanced : (stack' : List Frame) → Looked graph root marks stack rest top order row w m → m ≡ get_or marks w m → m ≡ Done → stack' ≡ rest ++ (record { node = top.node; next = top.next + 1 }) ∷ [] → Searching (needs_in graph) root marks stack' order
-  advanced stack' l e d made = subst (λ (fs : List Frame). Searching (needs_in graph) root marks fs order) (sym made) (advance (needs_in graph) root marks rest top order w (searching l.before) (at l) (marked l Done e d))
+  -- a need that is done is passed over
+  pub advanced : {stack' : List Frame} {m : Mark} → Looked graph root marks stack rest top order row w
+      → m ≡ get_or marks w m → m ≡ Done → stack' ≡ rest ++ (record { node = top.node; next = top.next + 1 }) ∷ []
+      → Turn graph root marks stack' order
+  advanced l e d made =
+      let next = advance (needs_in graph) root marks rest top order w (searching l.before) (at l) (marked l Done e d) in
+      record {
+        marks = (l.before).size;
+        search = subst (λ (fs : List Frame). Searching (needs_in graph) root marks fs order) (sym made) next;
+      }
 
-  pub advanced_less : (stack' : List Frame) → Looked graph root marks stack rest top order row w m → stack' ≡ rest ++ (record { node = top.node; next = top.next + 1 }) ∷ [] → new_work graph marks + left_work graph stack' < new_work graph marks + left_work graph stack
-  advanced_less stack' l made =
+  pub advanced_less : {stack' : List Frame} → Looked graph root marks stack rest top order row w
+      → stack' ≡ rest ++ (record { node = top.node; next = top.next + 1 }) ∷ []
+      → new_work graph marks + left_work graph stack' < new_work graph marks + left_work graph stack
+  advanced_less l made =
       let a = ap (left_work graph) made in let b = ap (left_work graph) (l.before).popped in
       let h = advance_less graph marks rest top (next_in l) in omega arith
 
-  pub entered : (stack' : List Frame) → Looked graph root marks stack rest top order row w m → m ≡ get_or marks w m → m ≡ New → stack' ≡ (rest ++ top ∷ []) ++ (record { node = w; next = 0 }) ∷ [] → Searching (needs_in graph) root (set marks w Open) stack' order
-  entered stack' l e d made = subst (λ (fs : List Frame). Searching (needs_in graph) root (set marks w Open) fs order) (sym made) (enter (needs_in graph) root marks rest top order w (searching l.before) (at l) (marked l New e d) (in_marks l))
+  -- a new need is entered, above the frame that is put back
+  pub entered : {back stack' : List Frame} {m : Mark} → Looked graph root marks stack rest top order row w
+      → m ≡ get_or marks w m → m ≡ New → back ≡ rest ++ top ∷ [] → stack' ≡ back ++ (record { node = w; next = 0 }) ∷ []
+      → Turn graph root (set marks w Open) stack' order
+  entered l e d put made =
+      let on = push_on (record { node = w; next = 0 }) put made in
+      let in_it = enter (needs_in graph) root marks rest top order w (searching l.before) (at l) (marked l New e d) (in_marks l) in
+      record {
+        marks = length-set marks w Open ∙ (l.before).size;
+        search = subst (λ (fs : List Frame). Searching (needs_in graph) root (set marks w Open) fs order) (sym on) in_it;
+      }
 
-  pub entered_less : (stack' : List Frame) → Looked graph root marks stack rest top order row w m → m ≡ get_or marks w m → m ≡ New → stack' ≡ (rest ++ top ∷ []) ++ (record { node = w; next = 0 }) ∷ [] → new_work graph (set marks w Open) + left_work graph stack' < new_work graph marks + left_work graph stack
-  entered_less stack' l e d made =
-      let a = ap (left_work graph) made in let b = ap (left_work graph) (l.before).popped in
+  pub entered_less : {back stack' : List Frame} {m : Mark} → Looked graph root marks stack rest top order row w
+      → m ≡ get_or marks w m → m ≡ New → back ≡ rest ++ top ∷ [] → stack' ≡ back ++ (record { node = w; next = 0 }) ∷ []
+      → new_work graph (set marks w Open) + left_work graph stack' < new_work graph marks + left_work graph stack
+  entered_less l e d put made =
+      let a = ap (left_work graph) (push_on (record { node = w; next = 0 }) put made) in let b = ap (left_work graph) (l.before).popped in
       let h = enter_less graph marks rest top w (l.before).size (in_marks l) (marked l New e d) in omega arith
 
-  pub is_ring : (ring : List ℕ) → Looked graph root marks stack rest top order row w m → m ≡ get_or marks w m → m ≡ Open → IsEndFrom w (nodes (rest ++ top ∷ [])) ring → IsRing (needs_in graph) root ring
-  is_ring ring l e d from = found (needs_in graph) root marks rest top order w ring (searching l.before) (at l) (marked l Open e d) from
+  -- a need that is open stands on the stack, which is seen with the frame put back, and closes a ring
+  pub on_stack : {seen : List Frame} {m : Mark} → Looked graph root marks stack rest top order row w
+      → m ≡ get_or marks w m → m ≡ Open → seen ≡ rest ++ top ∷ [] → In w (nodes seen)
+  on_stack l e d put = subst (λ (fs : List Frame). In w (nodes fs)) (sym put) ((searching l.before).stands w (marked l Open e d))
 
-  pub on_stack : Looked graph root marks stack rest top order row w m → m ≡ get_or marks w m → m ≡ Open → In w (nodes (rest ++ top ∷ []))
-  on_stack l e d = (searching l.before).stands w (marked l Open e d)
+  pub is_ring : {seen : List Frame} {ring : List ℕ} {m : Mark} → Looked graph root marks stack rest top order row w
+      → m ≡ get_or marks w m → m ≡ Open → seen ≡ rest ++ top ∷ [] → IsEndFrom w (nodes seen) ring → IsRing (needs_in graph) root ring
+  is_ring {ring = ring} l e d put from =
+      let on_it = subst (λ (fs : List Frame). IsEndFrom w (nodes fs) ring) put from in
+      found (needs_in graph) root marks rest top order w ring (searching l.before) (at l) (marked l Open e d) on_it
 
-pub no_frames : (fs : List Frame) → length fs ≡ 0 → fs ≡ []
+  pub ring_in : {seen : List Frame} {ring : List ℕ} → Looked graph root marks stack rest top order row w
+      → seen ≡ rest ++ top ∷ [] → IsEndFrom w (nodes seen) ring → All (λ v. v < length graph) ring
+  ring_in {ring = ring} l put from =
+      let on_it = subst (λ (fs : List Frame). IsEndFrom w (nodes fs) ring) put from in
+      ring_within (needs_in graph) root marks (length graph) (rest ++ top ∷ []) order w ring (l.before).size (searching l.before) on_it
+
+no_frames : (fs : List Frame) → length fs ≡ 0 → fs ≡ []
 no_frames [] e = refl
 no_frames (f ∷ fs) e = absurd (omega arith)
+
+-- what is known when no frame is left
+pub at_end : (graph : List (Vec ℕ Global)) {root : ℕ} {marks : List Mark} {stack : List Frame} {order : List ℕ}
+    → Turn graph root marks stack order → length stack ≡ 0 → Searching (needs_in graph) root marks [] order
+at_end graph {root = root} {marks = marks} {stack = stack} {order = order} turn none =
+    subst (λ (fs : List Frame). Searching (needs_in graph) root marks fs order) (no_frames stack none) turn.search
