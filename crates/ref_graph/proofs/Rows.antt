@@ -51,12 +51,14 @@ has_row edges v w e = elim (cases_lt v (length edges)) [
   | inr h ↦ absurd (let f : false ≡ true = ap (λ (xs : List ℕ). is_in xs w) (sym (get_or_past edges v [] h)) ∙ e in cc)
 ]
 
-module _ (edges : List (List ℕ)) (sources : List (BTreeSet ℕ)) (node : ℕ) (keys : BTreeSet ℕ) where
+module _ {edges : List (List ℕ)} {sources : List (BTreeSet ℕ)} {node : ℕ} {keys : BTreeSet ℕ} where
   -- the sources of a node are those with an edge to it
-  pub are_sources : IsReversed edges sources → node < length sources → keys ≡ get_or sources node keys → (v : ℕ) → is_in keys.keys v ≡ is_in (targets_of edges v) node
-  are_sources r h e v = sym (in_keys keys.keys v) ∙ (sym (has_read sources node keys v h e) ∙ r.agree node v)
+  pub are_sources : IsReversed edges sources → node < length edges → keys ≡ get_or sources node keys
+      → (v : ℕ) → is_in keys.keys v ≡ is_in (targets_of edges v) node
+  are_sources r h e v = sym (in_keys keys.keys v) ∙ (sym (has_read sources node keys v (omega (arith, h, r.long)) e) ∙ r.agree node v)
 
-  pub sources_within : IsReversed edges sources → node < length sources → keys ≡ get_or sources node keys → All (λ v. v < length edges) keys.keys
+  pub sources_within : IsReversed edges sources → node < length edges → keys ≡ get_or sources node keys
+      → All (λ v. v < length edges) keys.keys
   sources_within r h e k d less =
       let v = get_or keys.keys k d in
       has_row edges v node (sym (are_sources r h e v) ∙ list_any_at (nat_eq v) keys.keys k d less (eq_self v))
