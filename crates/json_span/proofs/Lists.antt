@@ -64,13 +64,13 @@ module _ (text : List ℕ) where
 
   module _ (b : Bracket) (at next : ℕ) (l : ContinuesAs text (left_of true []) at (list_left b) next) where
     -- one value and a comma
-    pub item_leads : (value_start end item : ℕ) → ReadsTo (before_of b) text next value_start → ReadsTo (named value) text value_start end → IsComma text end item → ContinuesAs text (left_of true []) at (list_left b) item
-    item_leads value_start end item p v c res y = l res (scan.scan_then text (before_of b) (seq (named value) (seq ws (seq (more_of b) empty))) next value_start res p
+    pub item_leads : {value_start end item : ℕ} → ReadsTo (before_of b) text next value_start → ReadsTo (named value) text value_start end → IsComma text end item → ContinuesAs text (left_of true []) at (list_left b) item
+    item_leads {value_start} {end} {item} p v c res y = l res (scan.scan_then text (before_of b) (seq (named value) (seq ws (seq (more_of b) empty))) next value_start res p
         (scan.scan_then text (named value) (seq ws (seq (more_of b) empty)) value_start end res v (comma_leads b end item c res y)))
 
     -- one value and the end of the list
-    pub whole_list : (value_start end close : ℕ) → ReadsTo (before_of b) text next value_start → ReadsTo (named value) text value_start end → ReadsTo (seq ws (more_of b)) text end close → ReadsTo (named value) text at close
-    whole_list value_start end close p v m = skip.reach_alone text (named value) at close (l (Ok close)
+    pub whole_list : {value_start end close : ℕ} → ReadsTo (before_of b) text next value_start → ReadsTo (named value) text value_start end → ReadsTo (seq ws (more_of b)) text end close → ReadsTo (named value) text at close
+    whole_list {value_start} {end} {close} p v m = skip.reach_alone text (named value) at close (l (Ok close)
         (scan.reach_both text (before_of b) (seq (named value) (seq ws (seq (more_of b) empty))) next value_start close p
         (scan.reach_both text (named value) (seq ws (seq (more_of b) empty)) value_start end close v (grown_reach ws (more_of b) end close m))))
 
@@ -80,22 +80,22 @@ module _ (text : List ℕ) where
     pub bad_before : (stop : ℕ) → Halts (before_of b) text next stop → Halts (named value) text at stop
     bad_before stop x = halt_list stop (scan.halt_first text (before_of b) (seq (named value) (seq ws (seq (more_of b) empty))) next stop x)
 
-    pub bad_value : (value_start : ℕ) (e : Stop) → ReadsTo (before_of b) text next value_start → StopsAt (named value) text value_start e → StopsAt (named value) text at e
-    bad_value value_start (Syntax stop) p x = halt_list stop (scan.halt_second text (before_of b) (seq (named value) (seq ws (seq (more_of b) empty))) next value_start stop p
+    pub bad_value : {value_start : ℕ} (e : Stop) → ReadsTo (before_of b) text next value_start → StopsAt (named value) text value_start e → StopsAt (named value) text at e
+    bad_value {value_start} (Syntax stop) p x = halt_list stop (scan.halt_second text (before_of b) (seq (named value) (seq ws (seq (more_of b) empty))) next value_start stop p
         (scan.halt_first text (named value) (seq ws (seq (more_of b) empty)) value_start stop x))
-    bad_value value_start NoMemory p x = tt
+    bad_value NoMemory p x = tt
 
-    pub bad_rest : (value_start end : ℕ) (e : Stop) → ReadsTo (before_of b) text next value_start → ReadsTo (named value) text value_start end → StopsAt (seq ws (more_of b)) text end e → StopsAt (named value) text at e
-    bad_rest value_start end (Syntax stop) p v x = halt_list stop (scan.halt_second text (before_of b) (seq (named value) (seq ws (seq (more_of b) empty))) next value_start stop p
+    pub bad_rest : {value_start end : ℕ} (e : Stop) → ReadsTo (before_of b) text next value_start → ReadsTo (named value) text value_start end → StopsAt (seq ws (more_of b)) text end e → StopsAt (named value) text at e
+    bad_rest {value_start} {end} (Syntax stop) p v x = halt_list stop (scan.halt_second text (before_of b) (seq (named value) (seq ws (seq (more_of b) empty))) next value_start stop p
         (scan.halt_second text (named value) (seq ws (seq (more_of b) empty)) value_start end stop v (grown_halt ws (more_of b) end stop x)))
-    bad_rest value_start end NoMemory p v x = tt
+    bad_rest NoMemory p v x = tt
 
-  -- the bracket that closes is the end of the list
-  pub close_reach : (b : Bracket) (end close : ℕ) → IsClose b text end close → ReadsTo (seq ws (more_of b)) text end close
-  close_reach b end close c = scan.reach_both text ws (more_of b) end c.close close c.before (skip.closes text b c.close close c.sees c.closes)
+-- the bracket that closes is the end of the list
+pub close_reach : {text : List ℕ} {b : Bracket} {end close : ℕ} → IsClose b text end close → ReadsTo (seq ws (more_of b)) text end close
+close_reach {text} {b} {end} {close} c = scan.reach_both text ws (more_of b) end c.close close c.before (skip.closes text b c.close close c.sees c.closes)
 
-  pub past_comma : (end item : ℕ) → IsComma text end item → end < item
-  past_comma end item c = omega (arith, c.before.forward, c.behind.forward)
+pub past_comma : {text : List ℕ} {end item : ℕ} → IsComma text end item → end < item
+past_comma c = omega (arith, c.before.forward, c.behind.forward)
 
 -- arrays
 pub then-push : (ps : List Placed) (p : Placed) (ns : Elements) → then_elements (ps ++ p ∷ []) ns ≡ then_elements ps (an_element p ns)
@@ -116,9 +116,9 @@ elements_start text room inner = record { whole = λ n m w u ns v b more. first_
 pub read_of : (text : List ℕ) (r : Rule Name) (at end : ℕ) → ReadsTo r text at end → Reads rules r (drop at text) (drop end text)
 read_of text r at end x = reads rules ahead honest_json x.steers
 
-module _ (text : List ℕ) (room inner next : ℕ) (ps : List Placed) (left : ElementsLeft text room inner next ps) where
-  pub elements_next : (n : Placed) (end item : ℕ) → ValueAt (length text) (drop next text) n (drop end text) → flaw_in room n ≡ None → IsComma text end item → ElementsLeft text room inner item (ps ++ n ∷ [])
-  elements_next n end item v none c =
+module _ {text : List ℕ} {room inner next : ℕ} {ps : List Placed} (left : ElementsLeft text room inner next ps) where
+  pub elements_next : {n : Placed} {end item : ℕ} → ValueAt (length text) (drop next text) n (drop end text) → flaw_in room n ≡ None → IsComma text end item → ElementsLeft text room inner item (ps ++ n ∷ [])
+  elements_next {n} {end} {item} v none c =
       let x = skip.token_at text 44 c.comma item (scan.reach_one text (one 44) c.comma tt refl c.bound c.sees) c.behind in
       record {
         whole = λ n2 m w u ns v2 b more. subst (λ z. ElementsAt (length text) (drop inner text) z u) (sym (then-push ps n (an_element n2 ns)))
@@ -126,8 +126,8 @@ module _ (text : List ℕ) (room inner next : ℕ) (ps : List Placed) (left : El
         flawless = λ ns. ap (flaw_in_elements room) (then-push ps n ns) ∙ left.flawless (an_element n ns) ∙ or_after (flaw_in room n) (flaw_in_elements room ns) none;
       }
 
-  pub elements_close : (n : Placed) (end close : ℕ) → ValueAt (length text) (drop next text) n (drop end text) → IsClose square text end close → ElementsAt (length text) (drop inner text) (elements_of (ps ++ n ∷ [])) (drop close text)
-  elements_close n end close v c = subst (λ z. ElementsAt (length text) (drop inner text) z (drop close text)) (sym (then-push ps n no_elements) ∙ then-none (ps ++ n ∷ []))
+  pub elements_close : {n : Placed} {end close : ℕ} → ValueAt (length text) (drop next text) n (drop end text) → IsClose square text end close → ElementsAt (length text) (drop inner text) (elements_of (ps ++ n ∷ [])) (drop close text)
+  elements_close {n} {end} {close} v c = subst (λ z. ElementsAt (length text) (drop inner text) z (drop close text)) (sym (then-push ps n no_elements) ∙ then-none (ps ++ n ∷ []))
       (left.whole n (drop end text) (drop c.close text) (drop close text) no_elements v (read_of text ws end c.close c.before) (last_element (read_of text (one 93) c.close close c.closes)))
 
   pub elements_flawless : (n : Placed) → flaw_in room n ≡ None → flaw_in_elements room (elements_of (ps ++ n ∷ [])) ≡ None

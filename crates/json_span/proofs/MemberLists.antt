@@ -36,9 +36,9 @@ colon_reads : {t u : List ℕ} → Steers rules ahead (seq ws (symbol 58)) t u �
 colon_reads (on_both {u = m} x y) = (m, reads rules ahead honest_json x, reads rules ahead honest_json y)
 
 -- a name, a colon and a value
-pub member_of : (text s : List ℕ) (next name_end value_start end : ℕ) (n : Placed) → next ≤ length text → name_end ≤ length text → StringAt (drop next text) s (drop name_end text) → ReadsTo (seq ws (symbol 58)) text name_end value_start →
+pub member_of : {text s : List ℕ} {next name_end value_start : ℕ} (end : ℕ) {n : Placed} → next ≤ length text → name_end ≤ length text → StringAt (drop next text) s (drop name_end text) → ReadsTo (seq ws (symbol 58)) text name_end value_start →
     ValueAt (length text) (drop value_start text) n (drop end text) → MemberAt (length text) (drop next text) s next name_end n (drop end text)
-member_of text s next name_end value_start end n h h2 k c v = let (m, x, y) = colon_reads c.steers in member_at k (begins_at text next h) (begins_at text name_end h2) x y v
+member_of {text} {next = next} {name_end = name_end} end h h2 k c v = let (m, x, y) = colon_reads c.steers in member_at k (begins_at text next h) (begins_at text name_end h2) x y v
 
 -- the flaws of a member whose value has none
 or_assoc : (a b c : Option Flaw) → or_else a (or_else b c) ≡ or_else (or_else a b) c
@@ -61,45 +61,41 @@ cond_flaw : (seen : Bool) (x y : Flaw) (f g : Option Flaw) → f ≡ Some y → 
 cond_flaw true x y f g e = refl
 cond_flaw false x y f g e = or_some f g y e
 
-module _ (text : List ℕ) (room inner next : ℕ) (es : List Entry) (left : MembersLeft text room inner next es) where
-  module _ (s : List ℕ) (start name_end : ℕ) (n : Placed) where
-    abbrev e : Entry
-    e = record { name = s; start = start; end = name_end; value = n }
+module _ {text : List ℕ} {room inner next : ℕ} {es : List Entry} (left : MembersLeft text room inner next es) (e : Entry) where
+  -- whether it is a second name
+  abbrev own : Option Flaw
+  own = cond (is_seen (reversed_names es []) e.name) (Some (equal_names e.start e.end)) None
 
-    -- whether it is a second name
-    abbrev own : Option Flaw
-    own = cond (is_seen (reversed_names es []) s) (Some (equal_names start name_end)) None
+  pub members_next : {end item : ℕ} → MemberAt (length text) (drop next text) e.name e.start e.end e.value (drop end text) → flaw_in room e.value ≡ None → IsComma text end item →
+      MembersLeft text room inner item (es ++ e ∷ [])
+  members_next {end} {item} v none c =
+      let x = skip.token_at text 44 c.comma item (scan.reach_one text (one 44) c.comma tt refl c.bound c.sees) c.behind in
+      record {
+        whole = λ s2 a2 z2 n2 m w u ms v2 b more. subst (λ z. MembersAt (length text) (drop inner text) z u) (sym (then-push es e (a_member s2 a2 z2 n2 ms)))
+            (left.whole e.name e.start e.end e.value (drop end text) (drop c.comma text) u (a_member s2 a2 z2 n2 ms) v (read_of text ws end c.comma c.before) (next_member (read_of text (symbol 44) c.comma item x) v2 b more));
+        flawless = λ ms. ap (flaw_in_members room []) (then-push es e ms) ∙ left.flawless (a_member e.name e.start e.end e.value ms)
+            ∙ ap (or_else (names_flaw [] es)) (cond_value (is_seen (reversed_names es []) e.name) (equal_names e.start e.end) (flaw_in room e.value) (flaw_in_members room (e.name ∷ reversed_names es []) ms) none)
+            ∙ or_assoc (names_flaw [] es) own (flaw_in_members room (e.name ∷ reversed_names es []) ms)
+            ∙ λ k. or_else (sym (flaw_push [] es e) k) (flaw_in_members room (sym (names-push es e []) k) ms);
+      }
 
-    pub members_next : (end item : ℕ) → MemberAt (length text) (drop next text) s start name_end n (drop end text) → flaw_in room n ≡ None → IsComma text end item →
-        MembersLeft text room inner item (es ++ e ∷ [])
-    members_next end item v none c =
-        let x = skip.token_at text 44 c.comma item (scan.reach_one text (one 44) c.comma tt refl c.bound c.sees) c.behind in
-        record {
-          whole = λ s2 a2 z2 n2 m w u ms v2 b more. subst (λ z. MembersAt (length text) (drop inner text) z u) (sym (then-push es e (a_member s2 a2 z2 n2 ms)))
-              (left.whole s start name_end n (drop end text) (drop c.comma text) u (a_member s2 a2 z2 n2 ms) v (read_of text ws end c.comma c.before) (next_member (read_of text (symbol 44) c.comma item x) v2 b more));
-          flawless = λ ms. ap (flaw_in_members room []) (then-push es e ms) ∙ left.flawless (a_member s start name_end n ms)
-              ∙ ap (or_else (names_flaw [] es)) (cond_value (is_seen (reversed_names es []) s) (equal_names start name_end) (flaw_in room n) (flaw_in_members room (s ∷ reversed_names es []) ms) none)
-              ∙ or_assoc (names_flaw [] es) own (flaw_in_members room (s ∷ reversed_names es []) ms)
-              ∙ λ k. or_else (sym (flaw_push [] es e) k) (flaw_in_members room (sym (names-push es e []) k) ms);
-        }
+  pub members_close : {end close : ℕ} → MemberAt (length text) (drop next text) e.name e.start e.end e.value (drop end text) → IsClose curly text end close →
+      MembersAt (length text) (drop inner text) (members_of (es ++ e ∷ [])) (drop close text)
+  members_close {end} {close} v c =
+      subst (λ z. MembersAt (length text) (drop inner text) z (drop close text)) (sym (then-push es e no_members) ∙ then-none (es ++ e ∷ []))
+      (left.whole e.name e.start e.end e.value (drop end text) (drop c.close text) (drop close text) no_members v (read_of text ws end c.close c.before) (last_member (read_of text (one 125) c.close close c.closes)))
 
-    pub members_close : (end close : ℕ) → MemberAt (length text) (drop next text) s start name_end n (drop end text) → IsClose curly text end close →
-        MembersAt (length text) (drop inner text) (members_of (es ++ e ∷ [])) (drop close text)
-    members_close end close v c =
-        subst (λ z. MembersAt (length text) (drop inner text) z (drop close text)) (sym (then-push es e no_members) ∙ then-none (es ++ e ∷ []))
-        (left.whole s start name_end n (drop end text) (drop c.close text) (drop close text) no_members v (read_of text ws end c.close c.before) (last_member (read_of text (one 125) c.close close c.closes)))
+  -- the first flaw of all members, where the last one's value has none
+  pub members_flaw : flaw_in room e.value ≡ None → flaw_in_members room [] (members_of (es ++ e ∷ [])) ≡ names_flaw [] (es ++ e ∷ [])
+  members_flaw none =
+      ap (flaw_in_members room []) (sym (then-none (es ++ e ∷ [])) ∙ then-push es e no_members) ∙ left.flawless (a_member e.name e.start e.end e.value no_members)
+      ∙ ap (or_else (names_flaw [] es)) (cond_value (is_seen (reversed_names es []) e.name) (equal_names e.start e.end) (flaw_in room e.value) None none)
+      ∙ or_assoc (names_flaw [] es) own None ∙ or_none (or_else (names_flaw [] es) own) ∙ sym (flaw_push [] es e)
 
-    -- the first flaw of all members, where the last one's value has none
-    pub members_flaw : flaw_in room n ≡ None → flaw_in_members room [] (members_of (es ++ e ∷ [])) ≡ names_flaw [] (es ++ e ∷ [])
-    members_flaw none =
-        ap (flaw_in_members room []) (sym (then-none (es ++ e ∷ [])) ∙ then-push es e no_members) ∙ left.flawless (a_member s start name_end n no_members)
-        ∙ ap (or_else (names_flaw [] es)) (cond_value (is_seen (reversed_names es []) s) (equal_names start name_end) (flaw_in room n) None none)
-        ∙ or_assoc (names_flaw [] es) own None ∙ or_none (or_else (names_flaw [] es) own) ∙ sym (flaw_push [] es e)
-
-    -- where its value has one
-    pub members_flawed : (ms : Members) (f : Flaw) → flaw_in room n ≡ Some f →
-        flaw_in_members room [] (then_members es (a_member s start name_end n ms)) ≡ or_else (names_flaw [] (es ++ e ∷ [])) (Some f)
-    members_flawed ms f some =
-        left.flawless (a_member s start name_end n ms)
-        ∙ ap (or_else (names_flaw [] es)) (cond_flaw (is_seen (reversed_names es []) s) (equal_names start name_end) f (flaw_in room n) (flaw_in_members room (s ∷ reversed_names es []) ms) some)
-        ∙ or_assoc (names_flaw [] es) own (Some f) ∙ ap (λ z. or_else z (Some f)) (sym (flaw_push [] es e))
+  -- where its value has one
+  pub members_flawed : (ms : Members) (f : Flaw) → flaw_in room e.value ≡ Some f →
+      flaw_in_members room [] (then_members es (a_member e.name e.start e.end e.value ms)) ≡ or_else (names_flaw [] (es ++ e ∷ [])) (Some f)
+  members_flawed ms f some =
+      left.flawless (a_member e.name e.start e.end e.value ms)
+      ∙ ap (or_else (names_flaw [] es)) (cond_flaw (is_seen (reversed_names es []) e.name) (equal_names e.start e.end) f (flaw_in room e.value) (flaw_in_members room (e.name ∷ reversed_names es []) ms) some)
+      ∙ or_assoc (names_flaw [] es) own (Some f) ∙ ap (λ z. or_else z (Some f)) (sym (flaw_push [] es e))

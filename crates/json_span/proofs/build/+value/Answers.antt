@@ -1,16 +1,19 @@
-use Rattle.std.proofs.Common.{[], true, false, refl, sym, ◌∙◌, arith, rules, append-nil, Ok}
+use Rattle.std.proofs.Common.{◌≡◌, ℕ, [], true, refl, sym, ◌∙◌, arith, rules, append-nil, Ok}
 use Rattle.std.proofs.lemmas.Result.{err_from_is_err_and}
 use Rattle.json_span.specs.Steered.{square, curly}
 use Rattle.json_span.specs.inner.Alternatives.{bracket_of}
 use Rattle.json_span.specs.inner.Scan.{rule_of}
 use Rattle.json_span.specs.declared.alternative.Bracket.TheVariants.{Square, Curly}
 use Rattle.json_span.specs.declared.alternative.Alternative.TheVariants.{Scalar}
+use Rattle.json_span.specs.declared.build.Built.{Built}
 use Rattle.json_span.specs.declared.stop.Stop.TheVariants.{Syntax}
 use Rattle.json_span.proofs.Skips as skip
 use Rattle.json_span.proofs.AlternativesRead.{value_scan, value_stops, no_value}
 use Rattle.json_span.proofs.Lists as list
 use Rattle.json_span.proofs.MemberLists as members
+use Rattle.json_span.proofs.Naming.{named_at}
 use Rattle.json_span.proofs.Gives as gives
+use Rattle.json_span.proofs.build.+value.Goals.{build_object-In_ok-built}
 use Rattle.json_span.proofs.build.+value.Goals as goal
 
 pub build_array-loop-end-init : goal.build_array-loop-end-init
@@ -26,18 +29,16 @@ build_array-loop-end-init t c = record {
 pub build_array-returns-in_err-end-clause-stop : goal.build_array-returns-in_err-end-clause-stop
 build_array-returns-in_err-end-clause-stop t c =
     let l = c.loop-end in
-    let nothing = skip.reach_nothing c.args.text.now l.next l.invariant.within in
     let p = err_from_is_err_and c.from_residual-in_err-end.result c.from_residual-in_err-end.ensures.1 in
-    rw (p.1, p.2) (list.bad_value c.args.text.now square c.args.at l.next l.invariant.leads l.next c.in_err-end.field-0.0 nothing c.in_err-end.ensures.stop)
+    rw (p.1, p.2) (list.bad_value c.args.text.now square c.args.at l.next l.invariant.leads c.in_err-end.field-0.0 (gives.nothing_before l.invariant.within) c.in_err-end.ensures.stop)
 
 pub build_array-returns-in_err-end-in-Flawed-clause-stop : goal.build_array-returns-in_err-end-in-Flawed-clause-stop
 build_array-returns-in_err-end-in-Flawed-clause-stop t c =
     let l = c.loop-end in
-    let nothing = skip.reach_nothing c.args.text.now l.next l.invariant.within in
+    let nothing = gives.nothing_before l.invariant.within in
     let b = gives.built_as c.in-Flawed.is c.in_ok-end.ensures.ok in
-    let failed = c.from_residual-in_err-end-in-Flawed in
-    let p = err_from_is_err_and failed.result failed.ensures.1 in
-    rw (p.1, p.2) (list.bad_rest c.args.text.now square c.args.at l.next l.invariant.leads l.next c.in-Flawed.end c.in_err-end-in-Flawed.field-0.0 nothing b.reads c.in_err-end-in-Flawed.ensures.stop)
+    let p = err_from_is_err_and c.from_residual-in_err-end-in-Flawed.result c.from_residual-in_err-end-in-Flawed.ensures.1 in
+    rw (p.1, p.2) (list.bad_rest c.args.text.now square c.args.at l.next l.invariant.leads c.in_err-end-in-Flawed.field-0.0 nothing b.reads c.in_err-end-in-Flawed.ensures.stop)
 
 pub build_array-returns-in-Flawed-clause-ok : goal.build_array-returns-in-Flawed-clause-ok
 build_array-returns-in-Flawed-clause-ok t c =
@@ -47,17 +48,16 @@ build_array-returns-in-Flawed-clause-ok t c =
 pub build_array-returns-in_err-item-clause-stop : goal.build_array-returns-in_err-item-clause-stop
 build_array-returns-in_err-item-clause-stop t c =
     let l = c.loop-end in
-    let nothing = skip.reach_nothing c.args.text.now l.next l.invariant.within in
+    let nothing = gives.nothing_before l.invariant.within in
     let b = gives.built_as c.in-Whole.is c.in_ok-end.ensures.ok in
-    let failed = c.from_residual-in_err-item in
-    let p = err_from_is_err_and failed.result failed.ensures.1 in
-    rw (p.1, p.2) (list.bad_rest c.args.text.now square c.args.at l.next l.invariant.leads l.next c.in-Whole.end (Syntax c.in_err-item.field-0.0) nothing b.reads c.in_err-item.ensures.stop)
+    let p = err_from_is_err_and c.from_residual-in_err-item.result c.from_residual-in_err-item.ensures.1 in
+    rw (p.1, p.2) (list.bad_rest c.args.text.now square c.args.at l.next l.invariant.leads (Syntax c.in_err-item.field-0.0) nothing b.reads c.in_err-item.ensures.stop)
 
 pub build_array-loop-end-preserved : goal.build_array-loop-end-preserved
 build_array-loop-end-preserved t c =
     let held = c.loop-end.invariant in
     let b = gives.built_as c.in-Whole.is c.in_ok-end.ensures.ok in
-    let comma = gives.next_as square c.args.text.now c.in-Whole.end c.in-Item.is c.in_ok-item.ensures.ok in
+    let comma = gives.comma_as square c.in-Item.is c.in_ok-item.ensures.ok in
     let (h, leads, left, more) = gives.array_next c.requires.1.1.0 held.leads held.elements held.within b comma in
     record { within = h; leads = leads; elements = left; index = search rules; same = c.in_ok-end.ensures.names ∙ held.same; small = gives.small_after c.in-Whole.end held.small b.kept.1 comma }
 
@@ -65,7 +65,7 @@ pub build_array-loop-end-smaller : goal.build_array-loop-end-smaller
 build_array-loop-end-smaller t c =
     let held = c.loop-end.invariant in
     let b = gives.built_as c.in-Whole.is c.in_ok-end.ensures.ok in
-    let comma = gives.next_as square c.args.text.now c.in-Whole.end c.in-Item.is c.in_ok-item.ensures.ok in
+    let comma = gives.comma_as square c.in-Item.is c.in_ok-item.ensures.ok in
     let more = (gives.array_next c.requires.1.1.0 held.leads held.elements held.within b comma).3 in
     omega arith
 
@@ -73,33 +73,33 @@ pub build_array-returns-in-Closed-clause-ok : goal.build_array-returns-in-Closed
 build_array-returns-in-Closed-clause-ok t c =
     let held = c.loop-end.invariant in
     let b = gives.built_as c.in-Whole.is c.in_ok-end.ensures.ok in
-    let close = gives.next_as square c.args.text.now c.in-Whole.end c.in-Closed.is c.in_ok-item.ensures.ok in
+    let close = gives.close_as c.in-Closed.is c.in_ok-item.ensures.ok in
     gives.array_whole c.requires.1.1.0 held.leads held.elements held.within b close (search rules)
 
 pub build_list-returns-then-room-eq0-clause-ok : goal.build_list-returns-then-room-eq0-clause-ok
-build_list-returns-then-room-eq0-clause-ok t c = gives.gives_deep (bracket_of c.args.bracket) c.args.text.now c.args.at c.args.room c.args.name c.args.name_end c.in_ok-end.end c.args.nodes.now.items c.args.nodes.now.items c.if-room-eq0.true (omega (arith, c.requires.1.1.0)) c.requires.1.1.1.0 c.in_ok-end.ensures.end
+build_list-returns-then-room-eq0-clause-ok t c =
+    gives.gives_deep (bracket_of c.args.bracket) c.if-room-eq0.true (omega (arith, c.requires.1.1.0)) c.requires.1.1.1.0 c.in_ok-end.ensures.end
 
 pub build_list-returns-then-has-clause-ok : goal.build_list-returns-then-has-clause-ok
 build_list-returns-then-has-clause-ok t c =
-    let T = c.args.text.now in
-    gives.gives_empty c.args.bracket T c.args.at c.blanks_end-inner.result c.args.room c.args.name c.args.name_end c.args.nodes.now.items c.push.new.self.items c.requires.1.1.1.1 c.if-room-eq0.false c.requires.1.1.0 c.requires.1.1.1.0 c.blanks_end-inner.ensures c.if-has.ensures.bound
-    (skip.close_sees T [] c.args.bracket (rule_of c.close.result) c.blanks_end-inner.result true c.close.ensures (sym c.if-has.ensures.test)) (search rules)
+    gives.gives_empty c.args.bracket c.requires.1.1.1.1 c.if-room-eq0.false c.requires.1.1.0 c.requires.1.1.1.0 c.blanks_end-inner.ensures c.if-has.ensures.bound
+    (skip.close_sees c.args.text.now [] c.args.bracket (rule_of c.close.result) c.blanks_end-inner.result true c.close.ensures (sym c.if-has.ensures.test)) (search rules)
 
 pub build_list-build_array-requires : goal.build_list-build_array-requires
 build_list-build_array-requires t c =
-    let some = skip.close_sees c.args.text.now [] c.args.bracket (rule_of c.close.result) c.blanks_end-inner.result false c.close.ensures (sym c.if-has.ensures.test) in
-    (search rules, (gives.opens_as c.in-Square.is c.requires.1.1.0 c.requires.1.1.1.0 c.blanks_end-inner.ensures some, c.requires.1.1.1.1))
+    let opened = gives.opens_as c.in-Square.is c.requires.1.1.0 c.requires.1.1.1.0 c.blanks_end-inner.ensures c.close.ensures c.if-has.ensures.test in
+    (search rules, (opened, c.requires.1.1.1.1))
 
 pub build_list-build_object-requires : goal.build_list-build_object-requires
 build_list-build_object-requires t c =
-    let some = skip.close_sees c.args.text.now [] c.args.bracket (rule_of c.close.result) c.blanks_end-inner.result false c.close.ensures (sym c.if-has.ensures.test) in
-    (search rules, (gives.opens_as c.in-Curly.is c.requires.1.1.0 c.requires.1.1.1.0 c.blanks_end-inner.ensures some, c.requires.1.1.1.1))
+    let opened = gives.opens_as c.in-Curly.is c.requires.1.1.0 c.requires.1.1.1.0 c.blanks_end-inner.ensures c.close.ensures c.if-has.ensures.test in
+    (search rules, (opened, c.requires.1.1.1.1))
 
 pub build_value-returns-in_ok-push-in-Some-Scalar-clause-ok : goal.build_value-returns-in_ok-push-in-Some-Scalar-clause-ok
 build_value-returns-in_ok-push-in-Some-Scalar-clause-ok t c =
     let T = c.args.text.now in
     let end = c.in_ok-end-in-Some-Scalar.end in
-    gives.gives_scalar c.in-Some-Scalar.scalar T c.args.at c.args.room c.args.name c.args.name_end c.args.nodes.now.items c.push.new.self.items end c.requires.1.1.0 c.requires.1.1.1 c.in_ok-end-in-Some-Scalar.ensures
+    gives.gives_scalar c.in-Some-Scalar.scalar c.requires.1.1.0 c.requires.1.1.1 c.in_ok-end-in-Some-Scalar.ensures
     (value_scan T c.args.at (Scalar c.in-Some-Scalar.scalar) (Ok end) (rw c.in-Some-Scalar.field-0-is at c.in-Some-Scalar.ensures.found) c.in_ok-end-in-Some-Scalar.ensures) (search rules)
 
 pub build_value-returns-in_err-end-in-Some-Scalar-clause-stop : goal.build_value-returns-in_err-end-in-Some-Scalar-clause-stop
@@ -116,7 +116,14 @@ pub build_object-loop-own-init : goal.build_object-loop-own-init
 build_object-loop-own-init t c = record {
   within = c.requires.1.1.0.blanks.within_text;
   leads = list.open_leads c.args.text.now Curly c.args.at c.args.inner c.requires.1.1.0;
-  members = record { fields = []; left = members.members_start c.args.text.now c.args.room c.args.inner; made = c.in_ok-push.ensures.items; own = []; behind = sym (append-nil c.args.names.now.items); are = tt };
+  members = record {
+    fields = [];
+    left = members.members_start c.args.text.now c.args.room c.args.inner;
+    made = c.in_ok-push.ensures.items;
+    own = [];
+    behind = sym (append-nil c.args.names.now.items);
+    are = tt;
+  };
   base = search rules;
   index = search rules;
   small = gives.opened_small c.args.text.now c.args.at c.args.inner c.args.nodes.now.items _ _ c.requires.1.1.1 c.requires.1.1.0.blanks c.in_ok-push.ensures.items;
@@ -139,76 +146,81 @@ build_object-returns-in_err-built-clause-stop t c =
     let l = c.loop-own in
     let before = gives.name_before c.in_ok-own.ensures.ok.reads c.in_ok-value.ensures in
     let p = err_from_is_err_and c.from_residual-in_err-built.result c.from_residual-in_err-built.ensures.1 in
-    rw (p.1, p.2) (list.bad_value c.args.text.now curly c.args.at l.next l.invariant.leads c.in_ok-value.value c.in_err-built.field-0.0 before c.in_err-built.ensures.stop)
+    rw (p.1, p.2) (list.bad_value c.args.text.now curly c.args.at l.next l.invariant.leads c.in_err-built.field-0.0 before c.in_err-built.ensures.stop)
+
+-- a turn that read a member, under the arm of what its value was built as
+turn : (t : ℕ) (c : build_object-In_ok-built t) {b : Built} → c.in_ok-built.built ≡ b →
+    gives.ObjectTurn c.args.text.now c.args.room c.args.at c.args.inner c.loop-own.next c.args.name c.args.name_end
+    c.args.nodes.now.items c.build_value.new.nodes.items c.args.names.now.items c.build_value.new.names.items b
+turn t c is =
+    let held = c.loop-own.invariant in
+    let own = c.in_ok-own.ensures.ok in
+    record {
+      nodes = c.loop-own.nodes.items;
+      names = c.loop-own.names.items;
+      opens = c.requires.1.1.0;
+      leads = held.leads;
+      before = held.members;
+      within_text = held.within;
+      n = c.in_ok-own.own;
+      value_start = c.in_ok-value.value;
+      own = named_at c.args.text.now c.loop-own.next c.in_ok-own.own own;
+      reads = own.reads;
+      colon = c.in_ok-value.ensures;
+      built = gives.built_at own.start is c.in_ok-built.ensures.ok;
+      pushed = c.in_ok-built.ensures.names ∙ c.in_ok-push-2.ensures.items;
+    }
 
 pub build_object-returns-in_err-end-in-Flawed-clause-stop : goal.build_object-returns-in_err-end-in-Flawed-clause-stop
 build_object-returns-in_err-end-in-Flawed-clause-stop t c =
-    let l = c.loop-own in
-    let m = gives.member_read c.in_ok-own.ensures.ok c.in_ok-value.ensures c.in-Flawed.is c.in_ok-built.ensures.ok in
-    let failed = c.from_residual-in_err-end-in-Flawed in
-    let p = err_from_is_err_and failed.result failed.ensures.1 in
-    rw (p.1, p.2) (list.bad_rest c.args.text.now curly c.args.at l.next l.invariant.leads c.in_ok-value.value c.in-Flawed.end c.in_err-end-in-Flawed.field-0.0 (gives.name_before m.name m.colon) m.built.reads c.in_err-end-in-Flawed.ensures.stop)
+    let r = turn t (goal.at.build_object-returns-in_err-end-in-Flawed-clause-stop t c).In_ok-built c.in-Flawed.is in
+    let p = err_from_is_err_and c.from_residual-in_err-end-in-Flawed.result c.from_residual-in_err-end-in-Flawed.ensures.1 in
+    rw (p.1, p.2) (gives.rest_stops r c.in_err-end-in-Flawed.field-0.0 c.in_err-end-in-Flawed.ensures.stop)
 
 pub build_object-returns-in-Flawed-clause-ok : goal.build_object-returns-in-Flawed-clause-ok
 build_object-returns-in-Flawed-clause-ok t c =
-    let held = c.loop-own.invariant in
-    let m = gives.member_read c.in_ok-own.ensures.ok c.in_ok-value.ensures c.in-Flawed.is c.in_ok-built.ensures.ok in
-    let are = gives.names_read held.members m c.in_ok-push-2.ensures.items c.in_ok-built.ensures.names held.base in
-    let told = c.in_ok-first-in-Flawed.ensures.flaw _ are in
-    rw c.unwrap_or.ensures (gives.object_flawed c.requires.1.1.0 held.leads held.members held.within c.in_ok-first-in-Flawed.first m told c.in_ok-end-in-Flawed.ensures.end)
+    let r = turn t (goal.at.build_object-returns-in-Flawed-clause-ok t c).In_ok-built c.in-Flawed.is in
+    let told = c.in_ok-first-in-Flawed.ensures.flaw _ (gives.names_read r c.loop-own.invariant.base) in
+    rw c.unwrap_or.ensures (gives.object_flawed r c.in_ok-first-in-Flawed.first told c.in_ok-end-in-Flawed.ensures.end)
 
 pub build_object-returns-in_err-item-clause-stop : goal.build_object-returns-in_err-item-clause-stop
 build_object-returns-in_err-item-clause-stop t c =
-    let l = c.loop-own in
-    let m = gives.member_read c.in_ok-own.ensures.ok c.in_ok-value.ensures c.in-Whole.is c.in_ok-built.ensures.ok in
-    let failed = c.from_residual-in_err-item in
-    let p = err_from_is_err_and failed.result failed.ensures.1 in
-    rw (p.1, p.2) (list.bad_rest c.args.text.now curly c.args.at l.next l.invariant.leads c.in_ok-value.value c.in-Whole.end (Syntax c.in_err-item.field-0.0) (gives.name_before m.name m.colon) m.built.reads c.in_err-item.ensures.stop)
+    let r = turn t (goal.at.build_object-returns-in_err-item-clause-stop t c).In_ok-built c.in-Whole.is in
+    let p = err_from_is_err_and c.from_residual-in_err-item.result c.from_residual-in_err-item.ensures.1 in
+    rw (p.1, p.2) (gives.rest_stops r (Syntax c.in_err-item.field-0.0) c.in_err-item.ensures.stop)
 
 pub build_object-loop-own-preserved : goal.build_object-loop-own-preserved
 build_object-loop-own-preserved t c =
+    let r = turn t (goal.at.build_object-loop-own-preserved t c).In_ok-built c.in-Whole.is in
     let held = c.loop-own.invariant in
-    let m = gives.member_read c.in_ok-own.ensures.ok c.in_ok-value.ensures c.in-Whole.is c.in_ok-built.ensures.ok in
-    let comma = gives.next_as curly c.args.text.now c.in-Whole.end c.in-Item.is c.in_ok-item.ensures.ok in
-    let (h, leads, left, more) = gives.object_next c.requires.1.1.0 held.leads held.members held.within m comma c.in_ok-push-2.ensures.items c.in_ok-built.ensures.names in
-    record { within = h; leads = leads; members = left; base = held.base; index = search rules; small = gives.small_after c.in-Whole.end held.small m.built.kept.1 comma }
+    let comma = gives.comma_as curly c.in-Item.is c.in_ok-item.ensures.ok in
+    let (h, leads, left, more) = gives.object_next r comma in
+    record { within = h; leads = leads; members = left; base = held.base; index = search rules; small = gives.small_after c.in-Whole.end held.small r.built.kept.1 comma }
 
 pub build_object-loop-own-smaller : goal.build_object-loop-own-smaller
 build_object-loop-own-smaller t c =
-    let held = c.loop-own.invariant in
-    let m = gives.member_read c.in_ok-own.ensures.ok c.in_ok-value.ensures c.in-Whole.is c.in_ok-built.ensures.ok in
-    let comma = gives.next_as curly c.args.text.now c.in-Whole.end c.in-Item.is c.in_ok-item.ensures.ok in
-    let more = (gives.object_next c.requires.1.1.0 held.leads held.members held.within m comma c.in_ok-push-2.ensures.items c.in_ok-built.ensures.names).3 in
-    omega arith
+    let r = turn t (goal.at.build_object-loop-own-smaller t c).In_ok-built c.in-Whole.is in
+    let (h, leads, left, more) = gives.object_next r (gives.comma_as curly c.in-Item.is c.in_ok-item.ensures.ok) in
+    omega (arith, h, more)
 
 pub build_object-close_names-requires-clause-are : goal.build_object-close_names-requires-clause-are
 build_object-close_names-requires-clause-are t c =
-    let held = c.loop-own.invariant in
-    let m = gives.member_read c.in_ok-own.ensures.ok c.in_ok-value.ensures c.in-Flawed.is c.in_ok-built.ensures.ok in
-    let are = gives.names_read held.members m c.in_ok-push-2.ensures.items c.in_ok-built.ensures.names held.base in
-    (_, are)
+    let r = turn t (goal.at.build_object-close_names-requires-clause-are t c).In_ok-built c.in-Flawed.is in
+    (_, gives.names_read r c.loop-own.invariant.base)
 
 pub build_object-close_names-requires-in-Closed-clause-are : goal.build_object-close_names-requires-in-Closed-clause-are
 build_object-close_names-requires-in-Closed-clause-are t c =
-    let held = c.loop-own.invariant in
-    let m = gives.member_read c.in_ok-own.ensures.ok c.in_ok-value.ensures c.in-Whole.is c.in_ok-built.ensures.ok in
-    let are = gives.names_read held.members m c.in_ok-push-2.ensures.items c.in_ok-built.ensures.names held.base in
-    (_, are)
+    let r = turn t (goal.at.build_object-close_names-requires-in-Closed-clause-are t c).In_ok-built c.in-Whole.is in
+    (_, gives.names_read r c.loop-own.invariant.base)
 
 pub build_object-returns-in-Some-clause-ok : goal.build_object-returns-in-Some-clause-ok
 build_object-returns-in-Some-clause-ok t c =
-    let held = c.loop-own.invariant in
-    let m = gives.member_read c.in_ok-own.ensures.ok c.in_ok-value.ensures c.in-Whole.is c.in_ok-built.ensures.ok in
-    let are = gives.names_read held.members m c.in_ok-push-2.ensures.items c.in_ok-built.ensures.names held.base in
-    let close = gives.next_as curly c.args.text.now c.in-Whole.end c.in-Closed.is c.in_ok-item.ensures.ok in
-    let told = gives.told_as c.in-Some.is (c.in_ok-again-in-Closed.ensures.flaw _ are) in
-    gives.object_again c.requires.1.1.0 held.leads held.members held.within m close told
+    let r = turn t (goal.at.build_object-returns-in-Some-clause-ok t c).In_ok-built c.in-Whole.is in
+    let told = c.in_ok-again-in-Closed.ensures.flaw _ (gives.names_read r c.loop-own.invariant.base) in
+    gives.object_again r (gives.close_as c.in-Closed.is c.in_ok-item.ensures.ok) (gives.told_as c.in-Some.is told)
 
 pub build_object-returns-in-Closed-clause-ok : goal.build_object-returns-in-Closed-clause-ok
 build_object-returns-in-Closed-clause-ok t c =
-    let held = c.loop-own.invariant in
-    let m = gives.member_read c.in_ok-own.ensures.ok c.in_ok-value.ensures c.in-Whole.is c.in_ok-built.ensures.ok in
-    let are = gives.names_read held.members m c.in_ok-push-2.ensures.items c.in_ok-built.ensures.names held.base in
-    let close = gives.next_as curly c.args.text.now c.in-Whole.end c.in-Closed.is c.in_ok-item.ensures.ok in
-    let told = gives.told_as c.in_default.is (c.in_ok-again-in-Closed.ensures.flaw _ are) in
-    gives.object_whole c.requires.1.1.0 held.leads held.members held.within m close told (search rules)
+    let r = turn t (goal.at.build_object-returns-in-Closed-clause-ok t c).In_ok-built c.in-Whole.is in
+    let told = c.in_ok-again-in-Closed.ensures.flaw _ (gives.names_read r c.loop-own.invariant.base) in
+    gives.object_whole r (gives.close_as c.in-Closed.is c.in_ok-item.ensures.ok) (gives.told_as c.in_default.is told) (search rules)
