@@ -12,13 +12,13 @@ use Rattle.token_tree.proofs.Keeps.{members_again}
 use Rattle.token_tree.proofs.Sound.{entries_are}
 
 -- a value with members is an object of these
-pub object_is : (v : Tree) (es : List Entry) → object_in v ≡ Some es → v ≡ an_object (members_of es)
-object_is a_null es e = absurd (cc)
-object_is (a_boolean b) es e = absurd (cc)
-object_is (a_number k) es e = absurd (cc)
-object_is (a_string s) es e = absurd (cc)
-object_is (an_array ns) es e = absurd (cc)
-object_is (an_object ms) es e = let h : entries_in ms ≡ es = cc in ap an_object (sym (members_again ms) ∙ ap members_of h)
+pub object_is : {v : Tree} {es : List Entry} → object_in v ≡ Some es → v ≡ an_object (members_of es)
+object_is {v = a_null} e = absurd (cc)
+object_is {v = a_boolean b} e = absurd (cc)
+object_is {v = a_number k} e = absurd (cc)
+object_is {v = a_string s} e = absurd (cc)
+object_is {v = an_array ns} e = absurd (cc)
+object_is {v = an_object ms} {es} e = let h : entries_in ms ≡ es = cc in ap an_object (sym (members_again ms) ∙ ap members_of h)
 
 pub no_object : (v : Tree) → None ≡ object_in v → is_object v ≡ false
 no_object a_null e = refl

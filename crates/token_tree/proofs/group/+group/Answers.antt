@@ -5,8 +5,9 @@ use Rattle.std.proofs.lemmas.List.{append-nil}
 use Rattle.std.proofs.lemmas.Result.{err_from_is_err_and}
 use Rattle.tk_io.specs.Order.{text_cmp}
 use Rattle.json_span.specs.Tree.{Entry, members_of}
-use Rattle.json_span.specs.View.{json_view, ref_view, field_view, fields_view}
+use Rattle.json_span.specs.View.{ref_view, field_view, fields_view}
 use Rattle.json_span.proofs.Views.{entries_in-of}
+use Rattle.token_tree.specs.Answer.{IsObjectOf}
 use Rattle.token_tree.specs.inner.Outcomes.{NamesDiffer}
 use Rattle.token_tree.specs.Tree.{a_token, a_group, group_with}
 use Rattle.token_tree.specs.Shape.{are_token, group_breaks, group_member_breaks, child_breaks, properties_of}
@@ -26,22 +27,22 @@ use Rattle.token_tree.proofs.group.+group.Goals as goal
 pub read_child-among-requires : goal.read_child-among-requires
 read_child-among-requires t c =
     let es = fields_view c.in-Some.fields in
-    names_stand c.args.text.now (ref_view c.args.node) es (object_is (json_view c.args.node) es (sym c.in-Some.ensures)) c.requires.1.1
+    names_stand c.args.text.now (ref_view c.args.node) es (object_is (sym c.in-Some.ensures)) c.requires.1.1
 
 pub read_child-read_token-requires-clause-members : goal.read_child-read_token-requires-clause-members
-read_child-read_token-requires-clause-members t c = object_is (json_view c.args.node) (fields_view c.in-Some.fields) (sym c.in-Some.ensures)
+read_child-read_token-requires-clause-members t c = object_is (sym c.in-Some.ensures)
 
 pub read_child-read_group-requires : goal.read_child-read_group-requires
 read_child-read_group-requires t c =
     let es = fields_view c.in-Some.fields in
-    let are = object_is (json_view c.args.node) es (sym c.in-Some.ensures) in
+    let are : IsObjectOf (ref_view c.args.node) es = object_is (sym c.in-Some.ensures) in
     (omega (arith, ap tree_weight are, weight_of (ref_view c.args.node)), (members_stand c.args.text.now (ref_view c.args.node) es are c.requires.1.1, (names_differ c.args.text.now (ref_view c.args.node) es are c.requires.1.1, c.in_ok-listed.ensures)))
 
 pub read_child-returns-in_err-group-clause-broken : goal.read_child-returns-in_err-group-clause-broken
 read_child-returns-in_err-group-clause-broken t c =
     let n = ref_view c.args.node in
     let es = fields_view c.in-Some.fields in
-    let are = object_is (json_view c.args.node) es (sym c.in-Some.ensures) in
+    let are : IsObjectOf n es = object_is (sym c.in-Some.ensures) in
     let none : are_token es ≡ false = sym (c.are_token.ensures es c.in_ok-listed.ensures) ∙ c.if-are_token.false in
     let p = err_from_is_err_and c.from_residual-in_err-group.result c.from_residual-in_err-group.ensures.1 in
     rw (p.1, p.2) (first_of (group_breaks (members_of es)) (child_breaks n) _ (sym (group_child_breaks n es are none)) c.in_err-group.ensures.broken)
@@ -51,13 +52,13 @@ read_child-returns-then-are_token-clause-ok t c =
     let es = fields_view c.in-Some.fields in
     let some : are_token es ≡ true = sym (c.are_token.ensures es c.in_ok-listed.ensures) ∙ c.if-are_token.true in
     ap a_token c.in_ok-def.ensures.ok
-    ∙ sym (token_child c.args.file.now c.args.text.now (ref_view c.args.node) es (object_is (json_view c.args.node) es (sym c.in-Some.ensures)) some)
+    ∙ sym (token_child c.args.file.now c.args.text.now (ref_view c.args.node) es (object_is (sym c.in-Some.ensures)) some)
 
 pub read_child-returns-clause-sound : goal.read_child-returns-clause-sound
 read_child-returns-clause-sound t c =
     let n = ref_view c.args.node in
     let es = fields_view c.in-Some.fields in
-    let are = object_is (json_view c.args.node) es (sym c.in-Some.ensures) in
+    let are : IsObjectOf n es = object_is (sym c.in-Some.ensures) in
     let none : are_token es ≡ false = sym (c.are_token.ensures es c.in_ok-listed.ensures) ∙ c.if-are_token.false in
     group_child_breaks n es are none ∙ c.in_ok-group.ensures.sound
 
@@ -65,7 +66,7 @@ pub read_child-returns-clause-ok : goal.read_child-returns-clause-ok
 read_child-returns-clause-ok t c =
     let n = ref_view c.args.node in
     let es = fields_view c.in-Some.fields in
-    let are = object_is (json_view c.args.node) es (sym c.in-Some.ensures) in
+    let are : IsObjectOf n es = object_is (sym c.in-Some.ensures) in
     let none : are_token es ≡ false = sym (c.are_token.ensures es c.in_ok-listed.ensures) ∙ c.if-are_token.false in
     ap (λ g. a_group (group_view g)) c.in_ok-shared.ensures.ok
     ∙ (ap a_group c.in_ok-group.ensures.ok
