@@ -1,5 +1,5 @@
 -- The command line as clap's definitions see it, and the arguments that clap is given.
-use Rattle.std.specs.Prelude.{codes, Bool, true, false, not, ◌==◌, ◌&&◌, ◌||◌, nat_le, length, List, [], ◌∷◌, Option, Some, None, if◌then◌else◌}
+use Rattle.std.specs.Prelude.{codes, ℕ, Bool, true, false, not, ◌==◌, ◌&&◌, ◌||◌, nat_le, length, List, [], ◌∷◌, Option, Some, None, if◌then◌else◌}
 use Rattle.std.specs.List.{list_all}
 use Rattle.std.specs.Str.{bytes_eq}
 use Rattle.clap.specs.Simple.{App, new_app, new_rule, with_rule, with_subcommand}
@@ -40,10 +40,14 @@ command_in (Some p) =
     else (if bytes_eq p.0 (codes "stats") then Some Stats
     else gen_in (first_of (codes "seed") p.1) (first_of (codes "size") p.1)))
 
--- the argument is not empty and does not begin with a dash (45)
+-- the byte of `-`
+abbrev pub dash : ℕ
+dash = 45
+
+-- the argument is not empty and does not begin with a dash
 abbrev pub is_positional : Text → Bool
 is_positional [] = false
-is_positional (c ∷ cs) = not (c == 45)
+is_positional (c ∷ cs) = not (c == dash)
 
 abbrev pub is_known : Text → Bool
 is_known w =
