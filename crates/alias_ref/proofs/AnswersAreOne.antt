@@ -1,14 +1,14 @@
 -- A token comes to one thing, or breaks one rule first; never both.
-use Rattle.std.proofs.Common.{◌≡◌, ℕ, List, [], Option, Some, None, sym, ap, ◌∙◌, subst}
-use Rattle.name_path.specs.declared.kind.Kind.{Kind}
+use Rattle.std.proofs.Common.{◌≡◌, ℕ, List, [], Some, None, sym, ap, ◌∙◌, subst}
+use Rattle.std.specs.Prelude.{Result, Ok, Err, OnOk, IfErr}
 use Rattle.json_span.specs.PlainView.{plain_view}
 use Rattle.alias_ref.specs.Written.{Step, whole, written_in}
 use Rattle.name_path.specs.declared.place.Place.{Place}
-use Rattle.alias_ref.specs.Visits.{RefBreak, ref_break, first_break, walked, walk_break}
+use Rattle.alias_ref.specs.Visits.{RefBreak, ref_break, walked, walk_break}
 use Rattle.alias_ref.specs.Kinds.{KindOf, own_in, group_in}
 use Rattle.alias_ref.specs.Answer.{IsResolved, IsFirstBreak, in_walk, kind_missing, IsRefBreak, HasRealRing}
 use Rattle.alias_ref.specs.Laws.{Flat}
-use Rattle.alias_ref.specs.inner.Seen.{Clean, IsFault}
+use Rattle.alias_ref.specs.inner.Seen.{IsFault, Sees}
 use Rattle.alias_ref.specs.declared.fault.RefFault.{RefFault}
 use Rattle.alias_ref.specs.declared.fault.RefFault.TheVariants as faults
 use Rattle.alias_ref.specs.declared.fault.RefRule.TheVariants as rule
@@ -53,16 +53,27 @@ module _ (flat : Flat) (token : List Step) where
   missing_broken (faults.Broken r p ring) h u k = kind_missing u k (some_same (sym h))
   missing_broken faults.NoMemory h u k = tt
 
+  -- what a walk of the whole value saw says of its first break
+  abbrev SeenWhole : {X : Type 0} → Result X RefFault → ℕ → Type 0
+  SeenWhole r m = Sees (written_in flat) (walked (written_in flat) [] (whole token)) 0 m r
+
+  clean_seen : {X : Type 0} (r : Result X RefFault) (m : ℕ) → SeenWhole r m → OnOk r (walk_break (written_in flat) token ≡ None)
+  clean_seen (Ok x) m h = h.unbroken
+  clean_seen (Err f) m h = tt
+
+  fault_seen : {X : Type 0} (r : Result X RefFault) (m : ℕ) → SeenWhole r m → IfErr r (λ f. IsFault f (walk_break (written_in flat) token))
+  fault_seen (Ok x) m h = tt
+  fault_seen (Err f) m h = h
+
   -- a walk below no branch is that of the definition
-  pub whole_fault : (f : RefFault) (b : List Place) (p : Place) (n : ℕ) → b ≡ [] → p ≡ whole token → n ≡ 0 → IsFault f (first_break (written_in flat) n (walked (written_in flat) b p)) → IsFault f (walk_break (written_in flat) token)
-  whole_fault f b p n e g z h =
-      let T = written_in flat in
-      subst (λ k. IsFault f (first_break T k (walked T [] (whole token)))) z (subst (λ x. IsFault f (first_break T n (walked T [] x))) g (subst (λ x. IsFault f (first_break T n (walked T x p))) e h))
+  module _ {X : Type 0} (r : Result X RefFault) (b : List Place) (p : Place) (n m : ℕ) (e : b ≡ []) (g : p ≡ whole token) (z : n ≡ 0) where
+    whole_seen : Sees (written_in flat) (walked (written_in flat) b p) n m r → SeenWhole r m
+    whole_seen h =
+        let T = written_in flat in
+        subst (λ k. Sees T (walked T [] (whole token)) k m r) z (subst (λ x. Sees T (walked T [] x) n m r) g (subst (λ x. Sees T (walked T x p) n m r) e h))
 
-  pub whole_clean : (b : List Place) (p : Place) (n m : ℕ) → b ≡ [] → p ≡ whole token → n ≡ 0 → Clean (written_in flat) n m (walked (written_in flat) b p) → walk_break (written_in flat) token ≡ None
-  whole_clean b p n m e g z h =
-      let T = written_in flat in
-      let c = subst (λ k. Clean T k m (walked T [] (whole token))) z (subst (λ x. Clean T n m (walked T [] x)) g (subst (λ x. Clean T n m (walked T x p)) e h)) in c.unbroken
+    pub whole_clean : Sees (written_in flat) (walked (written_in flat) b p) n m r → OnOk r (walk_break (written_in flat) token ≡ None)
+    whole_clean h = clean_seen r m (whole_seen h)
 
-  pub whole_kind : (p : Place) (k : Option Kind) → p ≡ whole token → (p.trail ≡ [] → KindOf (written_in flat) (own_in flat) (group_in flat) p.token k) → KindOf (written_in flat) (own_in flat) (group_in flat) token k
-  whole_kind p k e h = subst (λ x. KindOf (written_in flat) (own_in flat) (group_in flat) x.token k) e (h (ap (λ x. x.trail) e))
+    pub whole_fault : Sees (written_in flat) (walked (written_in flat) b p) n m r → IfErr r (λ f. IsFault f (walk_break (written_in flat) token))
+    whole_fault h = fault_seen r m (whole_seen h)

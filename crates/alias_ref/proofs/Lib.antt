@@ -34,3 +34,5 @@ mod RefsInTurn
 mod SpansInTurn
 mod AnswersAreOne
 mod PlainViews
+mod LiteralsInTurn
+mod LiteralsMean

@@ -36,7 +36,7 @@ steps_append : (ps qs : Parts) → steps_of (ps ++ qs) ≡ steps_of ps ++ steps_
 steps_append [] qs = refl
 steps_append (p ∷ ps) qs = ap (λ ss. p.0 ∷ ss) (steps_append ps qs)
 
-push_map : {A B : Type 0} (f : A → B) (xs : List A) (x : A) → map f (xs ++ x ∷ []) ≡ map f xs ++ f x ∷ []
+pub push_map : {A B : Type 0} (f : A → B) (xs : List A) (x : A) → map f (xs ++ x ∷ []) ≡ map f xs ++ f x ∷ []
 push_map f [] x = refl
 push_map f (y ∷ xs) x = ap (λ l. f y ∷ l) (push_map f xs x)
 

@@ -5,3 +5,4 @@ pub mod Spots
 pub mod Turns
 pub mod Steps
 pub mod Walks
+pub mod Literals

@@ -33,7 +33,7 @@ pub(crate) enum Content<'a, 's> {
     Misspelled,
 }
 
-fn is_curly(text: &str) -> bool
+pub(crate) fn is_curly(text: &str) -> bool
     ensures { result ≡ is_curly text.now }
 {
     let bytes = text.as_bytes();

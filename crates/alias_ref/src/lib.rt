@@ -6,6 +6,7 @@ mod content;
 mod fault;
 mod index;
 mod laws;
+mod literal;
 mod passing;
 mod refs;
 mod resolved;

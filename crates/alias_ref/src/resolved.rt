@@ -1,15 +1,19 @@
 //! What tokens come to.
 
-ghost use Rattle.std.specs.Prelude.{◌≡◌, ◌+◌, Some, IfOk, IfErr};
+ghost use Rattle.std.specs.Prelude.{◌≡◌, ◌+◌, true, Some, None, IfOk, OnOk, IfErr};
 ghost use Rattle.std.specs.FinMap as map;
 ghost use Rattle.group_inherit.specs.Flattening.{Flattened};
 ghost use Rattle.alias_ref.specs.Answer.{IsResolved, IsRefBreak, HasRealRing};
-ghost use Rattle.alias_ref.specs.Written.{written_in};
+ghost use Rattle.alias_ref.specs.Written.{whole, written_in};
+ghost use Rattle.alias_ref.specs.Visits.{walk_break};
+ghost use Rattle.alias_ref.specs.inner.Seen.{IsFault};
+ghost use Rattle.alias_ref.specs.inner.Walks.{IsMeantAt, IsKindAt, HasLinks};
 
 use crate::fault::{RefFault, RefRule};
+use crate::literal::literal;
 use crate::spot::token_spot;
 use crate::trace::{Trace, broken};
-use crate::walking::walk;
+use crate::walking::{Found, kind_here, walk};
 use group_inherit::{Entry, Flat};
 use json_span::Plain;
 use name_path::{Kind, Links, Path, Place, Trail};
@@ -71,10 +75,8 @@ pub fn evaluate_entry<'s, N: Ledger>(
     ensures ring { IfErr result (λ e. HasRealRing (written_in flat.now) e) }
 {
     evals.tick();
-    let spot = token_spot(alloc, path, entry)?;
-    let mut trace = Trace::new(alloc);
     let mut links = Links::new(alloc);
-    let found = walk(alloc, flat, spot, true, &mut trace, &mut links)?;
+    let found = find(alloc, flat, path, entry, &mut links)?;
     let Some(kind) = found.kind else {
         let token = path.copy()?;
         let place = Place {
@@ -88,4 +90,30 @@ pub fn evaluate_entry<'s, N: Ledger>(
         plain: found.plain,
         links,
     })
+}
+
+/// What stands at the whole value of a token. A literal is what it is; any other value is walked.
+fn find<'s>(
+    alloc: Global,
+    flat: &Flat<'s>,
+    path: &Path<'s>,
+    entry: &Entry<'s>,
+    links: &mut Links<'s>,
+) -> Result<Found<'s>, RefFault<'s>>
+    requires token { map.get flat.now path.now ≡ Some entry.now }
+    ensures unbroken { OnOk result (walk_break (written_in flat.now) path.now ≡ None) }
+    ensures broken { IfErr result (λ e. IsFault e (walk_break (written_in flat.now) path.now)) }
+    ensures means { IfOk result (λ f. IsMeantAt flat.now (whole path.now) f.plain) }
+    ensures kind { IfOk result (λ f. IsKindAt flat.now (whole path.now) f.kind) }
+    ensures links { OnOk result (HasLinks true flat.now (whole path.now) links.old links.new) }
+{
+    if let Some(plain) = literal(alloc, &entry.def)? {
+        return Ok(Found {
+            plain,
+            kind: kind_here(entry, None),
+        });
+    }
+    let spot = token_spot(alloc, path, entry)?;
+    let mut trace = Trace::new(alloc);
+    walk(alloc, flat, spot, true, &mut trace, links)
 }

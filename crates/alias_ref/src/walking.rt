@@ -33,7 +33,7 @@ pub(crate) struct Found<'s> {
 }
 
 /// The kind of a token, where what its whole value refers to lends this one.
-fn kind_here(token: &Entry<'_>, lent: Option<Kind>) -> Option<Kind>
+pub(crate) fn kind_here(token: &Entry<'_>, lent: Option<Kind>) -> Option<Kind>
     ensures { result ≡ kind_with token.now lent }
 {
     token.def.kind.or(lent).or(token.group_kind)
