@@ -9,13 +9,15 @@ use Rattle.json_span.specs.Tree.{Tree, a_null, a_boolean, a_number, a_string, an
 use Rattle.token_tree.proofs.Names.{same_text}
 use Rattle.group_inherit.specs.Flattening.{Flattened}
 use Rattle.group_inherit.specs.Merging.{either}
-use Rattle.alias_ref.specs.Written.{Step, object, parts, WrittenPlaces, whole, part, is_reference, is_misspelled, is_written, Parts, parts_by_index, parts_by_name, parts_of, steps_of, part_under, part_behind, value_at, Role, of_value, of_ref, reference_written, object_pointed, object_written, written_as, role_behind, role_at, written_in}
+use Rattle.alias_ref.specs.Written.{Step, object, leaf, parts, WrittenPlaces, whole, part, is_reference, is_misspelled, is_written, Parts, parts_by_index, parts_by_name, parts_of, steps_of, part_under, part_behind, value_at, Role, of_value, of_ref, reference_written, object_pointed, object_written, written_as, role_behind, role_at, written_in}
 use Rattle.alias_ref.specs.Kinds.{own_in, group_in}
 use Rattle.alias_ref.specs.Visits.{Way, ends_at, settle_by, passed, pass_written}
 use Rattle.alias_ref.specs.Laws.{Flat}
 use Rattle.alias_ref.specs.inner.Contents.{content_view, content_parts, content_items, role_of, IsContent}
 use Rattle.alias_ref.specs.inner.Spots.{IsValueAt, IsFlawless, IsSpot, IsPartAt, IsHolder, start_in}
 use Rattle.json_span.specs.View.{items_view}
+use Rattle.json_span.specs.PlainView.{plain_view}
+use Rattle.json_span.specs.declared.plain.Plain.{Plain}
 use Rattle.alias_ref.specs.declared.content.Content.{Content}
 use Rattle.alias_ref.specs.declared.content.Content.TheVariants as content
 use Rattle.alias_ref.specs.declared.spot.Spot.{Spot}
@@ -107,8 +109,12 @@ part_stands_at flat p f s m k = part_stands flat p f k.value m s k.stands k.part
 pub part_shows : (flat : Flat) (p : Place) (f : Flattened) (s : Step) (m : Placed) (c : Content) → IsPartAt flat p f s m → IsContent c (role_of false) (tree_of m) → written_in flat (part p s) ≡ Some (content_view c)
 part_shows flat p f s m c k is = written_stands flat (part p s) f m (part_stands_at flat p f s m k) ∙ ap Some (sym (part_content flat p f s m c k is).written)
 
-pub part_start : (flat : Flat) (p : Place) (f : Flattened) (s : Step) (m : Placed) → IsPartAt flat p f s m → start_of m ≡ start_in flat (part p s)
-part_start flat p f s m k = start_is flat (part p s) f m (part_stands_at flat p f s m k)
+-- .. where a leaf is written
+pub leaf_shows : {flat : Flat} {p : Place} {f : Flattened} {s : Step} {m : Placed} {c : Content} {v : Plain} → IsPartAt flat p f s m → IsContent c (role_of false) (tree_of m) → c ≡ content.Leaf v → written_in flat (part p s) ≡ Some (leaf (plain_view v))
+leaf_shows {flat} {p} {f} {s} {m} {c} k is e = part_shows flat p f s m c k is ∙ ap (λ x. Some (content_view x)) e
+
+pub part_start : {flat : Flat} {p : Place} {f : Flattened} {s : Step} {m : Placed} → IsPartAt flat p f s m → start_of m ≡ start_in flat (part p s)
+part_start {flat} {p} {f} {s} {m} k = start_is flat (part p s) f m (part_stands_at flat p f s m k)
 
 pub holder_part : (flat : Flat) (p : Place) (f : Flattened) (ps front : Parts) (s : Step) (m : Placed) (rest : Parts) → IsHolder flat p f ps → ps ≡ front ++ (s, m) ∷ rest → IsPartAt flat p f s m
 holder_part flat p f ps front s m rest k e =

@@ -6,10 +6,13 @@ use Rattle.name_path.specs.declared.place.Place.{Place}
 use Rattle.alias_ref.specs.Written.{Step, WrittenPlaces, whole, is_written, is_misspelled, written_in}
 use Rattle.alias_ref.specs.Visits.{visit, same_place, since, own_break}
 use Rattle.alias_ref.specs.Laws.{Flat}
-use Rattle.alias_ref.specs.inner.Spots.{start_in, HasStarts, IsClear, IsSameBranch}
+use Rattle.alias_ref.specs.inner.Contents.{content_view}
+use Rattle.alias_ref.specs.inner.Spots.{IsSpot, start_in, HasStarts, IsClear, IsSameBranch}
+use Rattle.alias_ref.specs.declared.spot.Spot.{Spot}
 use Rattle.alias_ref.specs.declared.trace.Trace.{Trace}
 use Rattle.alias_ref.proofs.FirstBreaks.{unbroken}
 use Rattle.alias_ref.proofs.SamePlaces.{same_place-is}
+use Rattle.alias_ref.proofs.SpotsStand.{spot_written, spot_start}
 use Rattle.alias_ref.proofs.WrittenParts.{token_lost}
 
 fails : (b : Bool) → (b ≡ true → ⊥) → b ≡ false
@@ -29,6 +32,10 @@ clear_visit flat T t p start k h e spelled =
     let new = no_start (start_in flat) p t.places.items (λ there.
     k.is_new (subst (λ xs. Contains xs start) (sym h) (subst (Contains (map (start_in flat) t.places.items)) (sym e) there))) in
     unbroken T t.visits t.places.items p new k.room k.few spelled
+
+-- what is said of a visit of any place, at the place of a spot
+pub spot_own : {flat : Flat} {s : Spot} {P : WrittenPlaces → Type 0} (t : Trace) → IsSpot flat s → HasStarts flat t → ((f : Flat) (T : WrittenPlaces) → HasStarts f t → s.start ≡ start_in f s.place → T s.place ≡ Some (content_view s.content) → P T) → P (written_in flat)
+spot_own {flat} {s} t at starts h = h flat (written_in flat) starts (spot_start flat s at) (spot_written flat s at)
 
 map_more : (f : Place → ℕ) (ps : List Place) (p : Place) → map f (ps ++ p ∷ []) ≡ map f ps ++ f p ∷ []
 map_more f [] p = refl

@@ -1,5 +1,5 @@
 -- What the turns of the walk add to the entries seen.
-use Rattle.std.proofs.Common.{◌≡◌, ℕ, ◌+◌, List, [], ◌∷◌, ◌++◌, Bool, true, false, Option, Some, None, refl, sym, ap, ◌∙◌, subst, append_assoc, append-nil}
+use Rattle.std.proofs.Common.{◌≡◌, ℕ, ◌+◌, ◌<◌, List, [], ◌∷◌, ◌++◌, Bool, true, false, Option, Some, None, refl, sym, ap, ◌∙◌, subst, append_assoc, append-nil, length, get_or, drop}
 use Rattle.name_path.specs.declared.place.Place.{Place}
 use Rattle.json_span.specs.PlainView.{Value}
 use Rattle.alias_ref.specs.Written.{Step, Written, leaf, refers, WrittenPlaces, whole, part, is_reference, is_written}
@@ -9,6 +9,7 @@ use Rattle.std.specs.Prelude.{Result, Ok, Err}
 use Rattle.alias_ref.specs.inner.Seen.{Clean, IsFault, Sees}
 use Rattle.alias_ref.specs.declared.fault.RefFault.{RefFault}
 use Rattle.alias_ref.specs.declared.fault.RefFault.TheVariants as faults
+use Rattle.alias_ref.proofs.TracesGrow.{drop_at}
 use Rattle.alias_ref.proofs.FirstBreaks.{clean_nil, clean_entry, clean_append, fault_later, fault_first, enters, walked-enters, passed-enters}
 
 pub goes_on-front : (xs : List Visit) (o : Option Place) (next : Place → Way) → (es : List Visit) × ((goes_on xs o next).seen ≡ xs ++ es)
@@ -69,6 +70,10 @@ module _ (T : WrittenPlaces) where
 
       pub turn_on : (q : Place) → (settle p).ends ≡ Some q → is_written (T (part q s)) ≡ true → after_visits (es ++ (settle p).seen) (steps_from T settle home (part q s) rest) ≡ w
       turn_on q e u = sym (joined-joined es (settle p).seen (steps_from T settle home (part q s) rest)) ∙ ap (after_visits es) (sym (steps_on p q s rest true e u)) ∙ so_far
+
+    -- the next turn of the loop, below the branch that it began with
+    pub next_steps : {w : Way} (p : Place) (es : List Visit) (steps : List Step) (i : ℕ) {s : Step} → i < length steps → s ≡ get_or steps i s → after_visits es (steps_from T settle home p (drop i steps)) ≡ w → after_visits es (steps_from T settle home p (s ∷ drop (i + 1) steps)) ≡ w
+    next_steps p es steps i {s} h e so_far = ap (λ xs. after_visits es (steps_from T settle home p xs)) (sym (drop_at steps i s h e)) ∙ so_far
 
     pub turns_done : (w : Way) (p : Place) (es : List Visit) → after_visits es (steps_from T settle home p []) ≡ w → w ≡ record { seen = es; ends = Some p }
     turns_done w p es so_far =
@@ -142,6 +147,10 @@ module _ (T : WrittenPlaces) where
 
   pub settle_stays : (pass : Place → Way) (p : Place) → is_reference (T p) ≡ false → settle_by T pass p ≡ ends_at p
   settle_stays pass p h = ap (λ b. settled b pass p) h
+
+  -- what settling a place saw, and where it ended, below the same branch
+  pub settled_below : {b branch : List Place} (p : Place) {q : Place} {n m : ℕ} → b ≡ branch → Clean T n m (settle_by T (passed T b) p).seen → (settle_by T (passed T b) p).ends ≡ Some q → Clean T n m (settle_by T (passed T branch) p).seen × ((settle_by T (passed T branch) p).ends ≡ Some q)
+  settled_below p {q} {n} {m} e c h = subst (λ x. Clean T n m (settle_by T (passed T x) p).seen × ((settle_by T (passed T x) p).ends ≡ Some q)) e (c, h)
 
   -- what was seen of some entries tells what was seen of others
   pub sees_by : {X : Type 0} {n m k : ℕ} (xs ys : List Visit) (r : Result X RefFault) → (Clean T m k xs → Clean T n k ys) → ((f : RefFault) → IsFault f (first_break T m xs) → IsFault f (first_break T n ys)) → Sees T xs m k r → Sees T ys n k r

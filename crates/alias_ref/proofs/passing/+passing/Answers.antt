@@ -1,7 +1,7 @@
 use Rattle.std.proofs.Common.{rules, ◌≡◌, ℕ, List, ◌+◌, ◌∷◌, ◌++◌, [], length, drop, Some, None, arith, refl, sym, ap, ap₂, ◌∙◌, subst, length-append}
+use Rattle.std.proofs.lemmas.Result.{err_from_is_err_and}
 use Rattle.std.specs.Prelude.{IfOk}
 use Rattle.std.specs.FinMap as map
-use Rattle.std.proofs.lemmas.Result.{err_from_is_err_and}
 use Rattle.name_path.specs.declared.place.Place.{Place}
 use Rattle.alias_ref.specs.Written.{whole, part, is_reference, is_written, is_misspelled, refers, written_in}
 use Rattle.alias_ref.specs.Visits.{settle_by, steps_from, way_of, after_visits, pass_written, passed, first_break}
@@ -10,8 +10,8 @@ use Rattle.alias_ref.specs.inner.Seen.{Clean, Sees, IsFault}
 use Rattle.alias_ref.specs.inner.Spots.{IsSpot, start_in}
 use Rattle.alias_ref.proofs.FirstBreaks.{clean_nil, clean_append, enters, passed-fault}
 use Rattle.alias_ref.proofs.SpotsStand.{spot_written, spot_start, spot_whole, spot_no_part, items_fit, settled_spot, stays_there}
-use Rattle.alias_ref.proofs.TracesGrow.{starts_more, same_then, none_case, some_case, not_there, drop_at, drop_all}
-use Rattle.alias_ref.proofs.WalksInTurns.{way_lost, way_found, turn_fault, turn_lost, turn_on, turns_done, pass_fault, pass_clean, pass_ends, refers_fault, refers_then_fault, refers_clean, settle_passes, settle_stays, sees_by}
+use Rattle.alias_ref.proofs.TracesGrow.{spot_own, starts_more, same_then, none_case, some_case, not_there, drop_all}
+use Rattle.alias_ref.proofs.WalksInTurns.{way_lost, way_found, turn_fault, turn_lost, turn_on, turns_done, pass_fault, pass_clean, pass_ends, refers_fault, refers_then_fault, refers_clean, settle_passes, settle_stays, settled_below, next_steps, sees_by}
 use Rattle.alias_ref.proofs.passing.+passing.Goals as goal
 
 pub follow-returns-in_default-clause-seen : goal.follow-returns-in_default-clause-seen
@@ -42,9 +42,9 @@ follow-returns-in_err-end-clause-seen t c =
     let ss = c.as_slice-steps.result.now in
     let s = c.step-item.result in
     let f = c.in_err-end.field-0.0 in
-    let p = err_from_is_err_and c.from_residual-in_err-end.result c.from_residual-in_err-end.ensures.1 in
-    let so_far = ap (λ xs. after_visits inv.0 (steps_from T settle home c.loop-step.spot.place xs)) (sym (drop_at ss i s (omega arith) c.step-item.is)) ∙ inv.2 in
+    let so_far = next_steps T settle home c.loop-step.spot.place inv.0 ss i (omega arith) c.step-item.is inv.2 in
     let seen = subst (λ b. IsFault f (first_break T c.loop-step.trace.visits (settle_by T (passed T b) c.loop-step.spot.place).seen)) inv.4.0 c.in_err-end.ensures.seen in
+    let p = err_from_is_err_and c.from_residual-in_err-end.result c.from_residual-in_err-end.ensures.1 in
     rw (p.1, p.2) (turn_fault T settle home (way_of T settle home c.args.named.now.token c.args.named.now.trail) c.loop-step.spot.place s (drop (i + 1) ss) inv.0 inv.1 so_far f seen)
 
 pub follow-part-requires : goal.follow-part-requires
@@ -64,13 +64,12 @@ follow-returns-in_default-2-clause-seen t c =
     let end = c.in_ok-end.end in
     let k = c.in_ok-end.ensures in
     let here = c.loop-step.spot.place in
-    let so_far = ap (λ xs. after_visits inv.0 (steps_from T settle home here xs)) (sym (drop_at ss i s (omega arith) c.step-item.is)) ∙ inv.2 in
-    let seen = subst (λ b. Clean T c.loop-step.trace.visits c.settle.new.trace.visits (settle_by T (passed T b) here).seen) inv.4.0 k.seen in
-    let ends = subst (λ b. (settle_by T (passed T b) here).ends ≡ Some end.place) inv.4.0 k.ends in
-    let plain = settled_spot flat branch here end k.found ends in
+    let so_far = next_steps T settle home here inv.0 ss i (omega arith) c.step-item.is inv.2 in
+    let below = settled_below T here inv.4.0 k.seen k.ends in
+    let plain = settled_spot flat branch here end k.found below.1 in
     let gone = none_case c.in_ok-next.field-0 _ c.in_default-2.is c.in_ok-next.ensures.none in
     let lost = ap is_written (spot_no_part flat end s k.found plain gone) in
-    let turn = turn_lost T settle home (way_of T settle home c.args.named.now.token c.args.named.now.trail) here s (drop (i + 1) ss) inv.0 inv.1 so_far end.place seen ends lost in
+    let turn = turn_lost T settle home (way_of T settle home c.args.named.now.token c.args.named.now.trail) here s (drop (i + 1) ss) inv.0 inv.1 so_far end.place below.0 below.1 lost in
     subst (IsFault c.broken-in_default-2.result) (sym turn) c.broken-in_default-2.ensures
 
 pub follow-loop-step-preserved : goal.follow-loop-step-preserved
@@ -87,17 +86,16 @@ follow-loop-step-preserved t c =
     let end = c.in_ok-end.end in
     let k = c.in_ok-end.ensures in
     let here = c.loop-step.spot.place in
-    let so_far = ap (λ xs. after_visits inv.0 (steps_from T settle home here xs)) (sym (drop_at ss i s (omega arith) c.step-item.is)) ∙ inv.2 in
-    let seen = subst (λ b. Clean T c.loop-step.trace.visits c.settle.new.trace.visits (settle_by T (passed T b) here).seen) inv.4.0 k.seen in
-    let ends = subst (λ b. (settle_by T (passed T b) here).ends ≡ Some end.place) inv.4.0 k.ends in
-    let plain = settled_spot flat branch here end k.found ends in
+    let so_far = next_steps T settle home here inv.0 ss i (omega arith) c.step-item.is inv.2 in
+    let below = settled_below T here inv.4.0 k.seen k.ends in
+    let plain = settled_spot flat branch here end k.found below.1 in
     let next = c.in-Some-2.next in
     let place = some_case c.in_ok-next.field-0 next (λ x. x.place ≡ part end.place s) c.in-Some-2.is c.in_ok-next.ensures.place in
     let there = some_case c.in_ok-next.field-0 next (IsSpot flat) c.in-Some-2.is (c.in_ok-next.ensures.at flat k.found plain) in
     let written = ap is_written (subst (λ x. T x ≡ Some (content_view next.content)) place (spot_written flat next there)) in
     let xs = inv.0 ++ (settle here).seen in
-    let turn = turn_on T settle home (way_of T settle home c.args.named.now.token c.args.named.now.trail) here s (drop (i + 1) ss) inv.0 inv.1 so_far end.place ends written in
-    (xs, clean_append T inv.0 (settle here).seen inv.1 seen, ap (λ x. after_visits xs (steps_from T settle home x (drop (i + 1) ss))) place ∙ turn, there, same_then c.args.trace.now c.loop-step.trace c.settle.new.trace inv.4 k.branch)
+    let turn = turn_on T settle home (way_of T settle home c.args.named.now.token c.args.named.now.trail) here s (drop (i + 1) ss) inv.0 inv.1 so_far end.place below.1 written in
+    (xs, clean_append T inv.0 (settle here).seen inv.1 below.0, ap (λ x. after_visits xs (steps_from T settle home x (drop (i + 1) ss))) place ∙ turn, there, same_then c.args.trace.now c.loop-step.trace c.settle.new.trace inv.4 k.branch)
 
 pub follow-returns : goal.follow-returns
 follow-returns t c =
@@ -117,50 +115,52 @@ follow-returns t c =
 
 pub pass-returns-in_err-enter-clause-seen : goal.pass-returns-in_err-enter-clause-seen
 pass-returns-in_err-enter-clause-seen t c =
+    let old = c.args.trace.now in
     let T = written_in c.args.flat.now in
-    let flat = c.args.flat.now in
     let spot = c.args.spot in
+    let fault = passed-fault T c.in_err-enter.field-0.0 old.visits old.places.items spot.place (spot_own old c.requires.at c.requires.starts c.in_err-enter.ensures.broken) in
     let p = err_from_is_err_and c.from_residual.result c.from_residual.ensures.1 in
-    let is = spot_written flat spot c.requires.at in
-    let fault = passed-fault T c.in_err-enter.field-0.0 c.args.trace.now.visits c.args.trace.now.places.items spot.place (c.in_err-enter.ensures.broken flat T c.requires.starts (spot_start flat spot c.requires.at) is) in
     rw (p.1, p.2) fault
 
 pub pass-pass_on-requires : goal.pass-pass_on-requires
 pass-pass_on-requires t c =
+    let old = c.args.trace.now in
     let T = written_in c.args.flat.now in
     let flat = c.args.flat.now in
     let spot = c.args.spot in
     let is = spot_written flat spot c.requires.at in
     let e = c.in_ok-enter.ensures in
-    let own = e.broken flat T c.requires.starts (spot_start flat spot c.requires.at) is in
-    let entered = enters T c.args.trace.now.visits c.args.trace.now.places.items spot.place own in
-    let grown : length c.enter.new.self.places.items ≡ length c.args.trace.now.places.items + 1 = ap length e.places ∙ length-append c.args.trace.now.places.items (spot.place ∷ []) in
-    let starts = starts_more (start_in flat) c.args.trace.now.places.items c.enter.new.self.places.items c.args.trace.now.starts.items c.enter.new.self.starts.items spot.place spot.start c.requires.starts e.places e.starts (spot_start flat spot c.requires.at) in
+    let own = spot_own old c.requires.at c.requires.starts e.broken in
+    let entered = enters T old.visits old.places.items spot.place own in
+    let grown : length c.enter.new.self.places.items ≡ length old.places.items + 1 = ap length e.places ∙ length-append old.places.items (spot.place ∷ []) in
+    let starts = starts_more (start_in flat) old.places.items c.enter.new.self.places.items old.starts.items c.enter.new.self.starts.items spot.place spot.start c.requires.starts e.places e.starts (spot_start flat spot c.requires.at) in
     (omega (arith, entered.room, grown), (c.requires.at, (omega (arith, entered.room, grown), (starts, ap is_misspelled (sym is) ∙ entered.spelled))))
 
 pub pass-returns-in_err-end-clause-seen : goal.pass-returns-in_err-end-clause-seen
 pass-returns-in_err-end-clause-seen t c =
+    let old = c.args.trace.now in
     let T = written_in c.args.flat.now in
     let flat = c.args.flat.now in
     let spot = c.args.spot in
-    let p = err_from_is_err_and c.from_residual-in_err-end.result c.from_residual-in_err-end.ensures.1 in
     let is = spot_written flat spot c.requires.at in
     let e = c.in_ok-enter.ensures in
-    let own = e.broken flat T c.requires.starts (spot_start flat spot c.requires.at) is in
-    rw (p.1, p.2) (pass_fault T c.args.trace.now.visits c.args.trace.now.places.items c.enter.new.self.places.items spot.place (content_view spot.content) is own e.places e.counted c.in_err-end.field-0.0 c.in_err-end.ensures.seen)
+    let own = spot_own old c.requires.at c.requires.starts e.broken in
+    let p = err_from_is_err_and c.from_residual-in_err-end.result c.from_residual-in_err-end.ensures.1 in
+    rw (p.1, p.2) (pass_fault T old.visits old.places.items c.enter.new.self.places.items spot.place (content_view spot.content) is own e.places e.counted c.in_err-end.field-0.0 c.in_err-end.ensures.seen)
 
 pub pass-returns : goal.pass-returns
 pass-returns t c =
+    let old = c.args.trace.now in
     let T = written_in c.args.flat.now in
     let flat = c.args.flat.now in
     let spot = c.args.spot in
     let is = spot_written flat spot c.requires.at in
     let e = c.in_ok-enter.ensures in
-    let own = e.broken flat T c.requires.starts (spot_start flat spot c.requires.at) is in
+    let own = spot_own old c.requires.at c.requires.starts e.broken in
     record {
-      seen = subst (λ k. Clean T c.args.trace.now.visits k (passed T c.args.trace.now.places.items spot.place).seen) (sym c.leave.ensures.visits)
-          (pass_clean T c.args.trace.now.visits c.args.trace.now.places.items c.enter.new.self.places.items spot.place (content_view spot.content) is own e.places e.counted c.in_ok-end.ensures.seen);
-      ends = pass_ends T c.args.trace.now.visits c.args.trace.now.places.items c.enter.new.self.places.items spot.place (content_view spot.content) is own e.places e.counted c.in_ok-end.end.place c.in_ok-end.ensures.ends;
+      seen = subst (λ k. Clean T old.visits k (passed T old.places.items spot.place).seen) (sym c.leave.ensures.visits)
+          (pass_clean T old.visits old.places.items c.enter.new.self.places.items spot.place (content_view spot.content) is own e.places e.counted c.in_ok-end.ensures.seen);
+      ends = pass_ends T old.visits old.places.items c.enter.new.self.places.items spot.place (content_view spot.content) is own e.places e.counted c.in_ok-end.end.place c.in_ok-end.ensures.ends;
       found = c.in_ok-end.ensures.found;
       branch = search rules;
     }

@@ -1,14 +1,14 @@
-use Rattle.std.proofs.Common.{rules, ◌≡◌, ◌+◌, ◌∷◌, ◌++◌, [], length, Some, arith, refl, sym, ap, ap₂, ◌∙◌, subst, length-append}
+use Rattle.std.proofs.Common.{◌≡◌, ◌+◌, ◌∷◌, [], length, Some, arith, refl, sym, ap, ap₂, ◌∙◌, subst, length-append}
 use Rattle.std.proofs.lemmas.Result.{err_from_is_err_and}
 use Rattle.group_inherit.specs.Merging.{either}
 use Rattle.json_span.specs.Plain.{plains_of, plain_array}
-use Rattle.json_span.specs.PlainView.{ValueEntry, plain_view, plain_items_view, plain_fields_view}
+use Rattle.json_span.specs.PlainView.{plain_view}
 use Rattle.alias_ref.specs.Written.{array, object, leaf, part, parts, is_misspelled, parts_by_index, parts_by_name, steps_of, written_in}
 use Rattle.alias_ref.specs.Meaning.{Means, means_leaf, means_parts, means_target}
 use Rattle.alias_ref.specs.Visits.{settle_by, passed, walked, walk_written, first_break}
 use Rattle.alias_ref.specs.Kinds.{own_in, group_in}
 use Rattle.alias_ref.specs.inner.Contents.{content_view}
-use Rattle.json_span.specs.View.{ref_view, field_view, items_view, fields_view}
+use Rattle.json_span.specs.View.{ref_view, items_view, fields_view}
 use Rattle.alias_ref.specs.inner.Linking.{lent}
 use Rattle.alias_ref.specs.inner.Seen.{Clean, IsFault}
 use Rattle.alias_ref.specs.inner.Spots.{start_in}
@@ -16,54 +16,56 @@ use Rattle.alias_ref.proofs.FirstBreaks.{clean_nil, enters, walked-fault}
 use Rattle.alias_ref.proofs.LinksOfParts.{alone, refers_kind}
 use Rattle.alias_ref.proofs.PartsInTurn.{none_walked, next_item, next_field, walked_more, items_more, walked_fault, leaf_grown, grown_parts, lead_by, refers_grown}
 use Rattle.alias_ref.proofs.PlainViews.{array_view, object_view}
-use Rattle.alias_ref.proofs.SpotsStand.{spot_written, spot_start, spot_shows, own_is, group_is, kinds_at, part_shows, part_start, holder_part, holder_few}
-use Rattle.alias_ref.proofs.TracesGrow.{starts_more, same_starts, same_then}
+use Rattle.alias_ref.proofs.SpotsStand.{spot_written, spot_start, spot_shows, own_is, group_is, kinds_at, leaf_shows, part_start, holder_part, holder_few}
+use Rattle.alias_ref.proofs.TracesGrow.{spot_own, starts_more, same_starts, same_then}
 use Rattle.alias_ref.proofs.WalksInTurns.{leaf_clean, walk_fault, walk_clean, target_fault, target_then_fault, target_clean}
 use Rattle.alias_ref.proofs.walking.+walking.Goals as goal
 
 pub walk-returns-in_err-enter-clause-seen : goal.walk-returns-in_err-enter-clause-seen
 walk-returns-in_err-enter-clause-seen t c =
+    let old = c.args.trace.now in
     let T = written_in c.args.flat.now in
-    let flat = c.args.flat.now in
     let spot = c.args.spot in
-    let is = spot_written flat spot c.requires.at in
     let p = err_from_is_err_and c.from_residual.result c.from_residual.ensures.1 in
-    rw (p.1, p.2) (walked-fault T c.in_err-enter.field-0.0 c.args.trace.now.visits c.args.trace.now.places.items spot.place (c.in_err-enter.ensures.broken flat T c.requires.starts (spot_start flat spot c.requires.at) is))
+    rw (p.1, p.2) (walked-fault T c.in_err-enter.field-0.0 old.visits old.places.items spot.place (spot_own old c.requires.at c.requires.starts c.in_err-enter.ensures.broken))
 
 pub walk-walk_on-requires : goal.walk-walk_on-requires
 walk-walk_on-requires t c =
+    let old = c.args.trace.now in
     let T = written_in c.args.flat.now in
     let flat = c.args.flat.now in
     let spot = c.args.spot in
     let is = spot_written flat spot c.requires.at in
     let e = c.in_ok-enter.ensures in
-    let own = e.broken flat T c.requires.starts (spot_start flat spot c.requires.at) is in
-    let entered = enters T c.args.trace.now.visits c.args.trace.now.places.items spot.place own in
-    let grown : length c.enter.new.self.places.items ≡ length c.args.trace.now.places.items + 1 = ap length e.places ∙ length-append c.args.trace.now.places.items (spot.place ∷ []) in
-    let starts = starts_more (start_in flat) c.args.trace.now.places.items c.enter.new.self.places.items c.args.trace.now.starts.items c.enter.new.self.starts.items spot.place spot.start c.requires.starts e.places e.starts (spot_start flat spot c.requires.at) in
+    let own = spot_own old c.requires.at c.requires.starts e.broken in
+    let entered = enters T old.visits old.places.items spot.place own in
+    let grown : length c.enter.new.self.places.items ≡ length old.places.items + 1 = ap length e.places ∙ length-append old.places.items (spot.place ∷ []) in
+    let starts = starts_more (start_in flat) old.places.items c.enter.new.self.places.items old.starts.items c.enter.new.self.starts.items spot.place spot.start c.requires.starts e.places e.starts (spot_start flat spot c.requires.at) in
     (omega (arith, entered.room, grown), (c.requires.at, (omega (arith, entered.room, grown), (starts, ap is_misspelled (sym is) ∙ entered.spelled))))
 
 pub walk-returns-in_err-found-clause-seen : goal.walk-returns-in_err-found-clause-seen
 walk-returns-in_err-found-clause-seen t c =
+    let old = c.args.trace.now in
     let T = written_in c.args.flat.now in
     let flat = c.args.flat.now in
     let spot = c.args.spot in
     let is = spot_written flat spot c.requires.at in
     let e = c.in_ok-enter.ensures in
-    let own = e.broken flat T c.requires.starts (spot_start flat spot c.requires.at) is in
+    let own = spot_own old c.requires.at c.requires.starts e.broken in
     let p = err_from_is_err_and c.from_residual-in_err-found.result c.from_residual-in_err-found.ensures.1 in
-    rw (p.1, p.2) (walk_fault T c.args.trace.now.visits c.args.trace.now.places.items c.enter.new.self.places.items spot.place (content_view spot.content) is own e.places e.counted c.in_err-found.field-0.0 c.in_err-found.ensures.seen)
+    rw (p.1, p.2) (walk_fault T old.visits old.places.items c.enter.new.self.places.items spot.place (content_view spot.content) is own e.places e.counted c.in_err-found.field-0.0 c.in_err-found.ensures.seen)
 
 pub walk-returns-clause-seen : goal.walk-returns-clause-seen
 walk-returns-clause-seen t c =
+    let old = c.args.trace.now in
     let T = written_in c.args.flat.now in
     let flat = c.args.flat.now in
     let spot = c.args.spot in
     let is = spot_written flat spot c.requires.at in
     let e = c.in_ok-enter.ensures in
-    let own = e.broken flat T c.requires.starts (spot_start flat spot c.requires.at) is in
-    subst (λ k. Clean T c.args.trace.now.visits k (walked T c.args.trace.now.places.items spot.place)) (sym c.leave.ensures.visits)
-    (walk_clean T c.args.trace.now.visits c.args.trace.now.places.items c.enter.new.self.places.items spot.place (content_view spot.content) is own e.places e.counted c.in_ok-found.ensures.seen)
+    let own = spot_own old c.requires.at c.requires.starts e.broken in
+    subst (λ k. Clean T old.visits k (walked T old.places.items spot.place)) (sym c.leave.ensures.visits)
+    (walk_clean T old.visits old.places.items c.enter.new.self.places.items spot.place (content_view spot.content) is own e.places e.counted c.in_ok-found.ensures.seen)
 
 pub walk_fields-loop-field-init : goal.walk_fields-loop-field-init
 walk_fields-loop-field-init t c =
@@ -74,7 +76,7 @@ pub walk_fields-walk_part-requires : goal.walk_fields-walk_part-requires
 walk_fields-walk_part-requires t c =
     let flat = c.args.flat.now in
     let inv = c.loop-field.invariant in
-    let first : fields_view c.loop-field.field-iterator ≡ field_view c.in-Some.field ∷ fields_view c.next.new.self = search rules in
+    let first = c.in-Some.ensures.steps in
     let w = next_field inv.2 first c.in_ok-name.ensures c.value.ensures in
     let same : length c.loop-field.trace.places.items ≡ length c.args.trace.now.places.items = ap length inv.3.0 in
     (omega (arith, same), (holder_part flat c.args.place.now c.args.token.now _ w.front c.in_ok-name.name (ref_view c.value.result) _ c.requires.at w.split, (omega (arith, same, c.requires.room), same_starts flat c.args.trace.now c.loop-field.trace c.requires.starts inv.3)))
@@ -82,7 +84,7 @@ walk_fields-walk_part-requires t c =
 pub walk_fields-returns-in_err-value-clause-seen : goal.walk_fields-returns-in_err-value-clause-seen
 walk_fields-returns-in_err-value-clause-seen t c =
     let inv = c.loop-field.invariant in
-    let first : fields_view c.loop-field.field-iterator ≡ field_view c.in-Some.field ∷ fields_view c.next.new.self = search rules in
+    let first = c.in-Some.ensures.steps in
     let w = next_field inv.2 first c.in_ok-name.ensures c.value.ensures in
     let p = err_from_is_err_and c.from_residual-in_err-value.result c.from_residual-in_err-value.ensures.1 in
     rw (p.1, p.2) (walked_fault c.in_err-value.field-0.0 w inv.3.0 c.in_err-value.ensures.seen)
@@ -90,12 +92,10 @@ walk_fields-returns-in_err-value-clause-seen t c =
 pub walk_fields-loop-field-preserved : goal.walk_fields-loop-field-preserved
 walk_fields-loop-field-preserved t c =
     let inv = c.loop-field.invariant in
+    let first = c.in-Some.ensures.steps in
     let e = c.in_ok-value.ensures in
-    let first : fields_view c.loop-field.field-iterator ≡ field_view c.in-Some.field ∷ fields_view c.next.new.self = search rules in
     let w = next_field inv.2 first c.in_ok-name.ensures c.value.ensures in
-    let entry : ValueEntry = record { name = c.in_ok-name.name; value = plain_view c.in_ok-value.value } in
-    let pushed : plain_fields_view c.push.new.self ≡ plain_fields_view c.loop-field.list ++ entry ∷ [] = search rules in
-    (tt, tt, walked_more c.walk_part.new.links w inv.3.0 e.seen e.means e.links pushed, same_then c.args.trace.now c.loop-field.trace c.walk_part.new.trace inv.3 e.branch)
+    (tt, tt, walked_more c.walk_part.new.links w inv.3.0 e.seen e.means e.links c.in_ok-push.ensures.ok, same_then c.args.trace.now c.loop-field.trace c.walk_part.new.trace inv.3 e.branch)
 
 pub walk_items-loop-node-init : goal.walk_items-loop-node-init
 walk_items-loop-node-init t c =
@@ -111,7 +111,7 @@ pub walk_items-walk_part-requires : goal.walk_items-walk_part-requires
 walk_items-walk_part-requires t c =
     let flat = c.args.flat.now in
     let inv = c.loop-node.invariant in
-    let first : items_view c.loop-node.node-iterator ≡ ref_view c.in-Some.node ∷ items_view c.next.new.self = search rules in
+    let first = c.in-Some.ensures.steps in
     let w = next_item c.loop-node.index inv.2.2 first c.in_ok-step.ensures in
     let same : length c.loop-node.trace.places.items ≡ length c.args.trace.now.places.items = ap length inv.4.0 in
     (omega (arith, same), (holder_part flat c.args.place.now c.args.token.now _ w.front c.in_ok-step.step (ref_view c.in-Some.node) _ c.requires.at w.split, (omega (arith, same, c.requires.room), same_starts flat c.args.trace.now c.loop-node.trace c.requires.starts inv.4)))
@@ -119,7 +119,7 @@ walk_items-walk_part-requires t c =
 pub walk_items-returns-in_err-plain-clause-seen : goal.walk_items-returns-in_err-plain-clause-seen
 walk_items-returns-in_err-plain-clause-seen t c =
     let inv = c.loop-node.invariant in
-    let first : items_view c.loop-node.node-iterator ≡ ref_view c.in-Some.node ∷ items_view c.next.new.self = search rules in
+    let first = c.in-Some.ensures.steps in
     let w = next_item c.loop-node.index inv.2.2 first c.in_ok-step.ensures in
     let p = err_from_is_err_and c.from_residual-in_err-plain.result c.from_residual-in_err-plain.ensures.1 in
     rw (p.1, p.2) (walked_fault c.in_err-plain.field-0.0 w inv.4.0 c.in_err-plain.ensures.seen)
@@ -127,27 +127,25 @@ walk_items-returns-in_err-plain-clause-seen t c =
 pub walk_items-overflow_add-index : goal.walk_items-overflow_add-index
 walk_items-overflow_add-index t c =
     let inv = c.loop-node.invariant in
-    let first : items_view c.loop-node.node-iterator ≡ ref_view c.in-Some.node ∷ items_view c.next.new.self = search rules in
+    let first = c.in-Some.ensures.steps in
     let few = holder_few c.args.flat.now c.args.place.now c.args.token.now (items_view c.args.items) c.requires.at in
     omega (arith, inv.3, ap length first, few)
 
 pub walk_items-loop-node-preserved-in_ok-push : goal.walk_items-loop-node-preserved-in_ok-push
 walk_items-loop-node-preserved-in_ok-push t c =
     let inv = c.loop-node.invariant in
+    let first = c.in-Some.ensures.steps in
     let e = c.in_ok-plain.ensures in
-    let first : items_view c.loop-node.node-iterator ≡ ref_view c.in-Some.node ∷ items_view c.next.new.self = search rules in
     let w = next_item c.loop-node.index inv.2.2 first c.in_ok-step.ensures in
-    let pushed : plain_items_view c.push.new.self ≡ plain_items_view c.loop-node.list ++ plain_view c.in_ok-plain.plain ∷ [] = search rules in
-    (tt, tt, items_more c.walk_part.new.links w inv.2.1 inv.4.0 e.seen e.means e.links pushed, omega (arith, inv.3, ap length first), same_then c.args.trace.now c.loop-node.trace c.walk_part.new.trace inv.4 e.branch)
+    (tt, tt, items_more c.walk_part.new.links w inv.2.1 inv.4.0 e.seen e.means e.links c.in_ok-push.ensures.ok, omega (arith, inv.3, ap length first), same_then c.args.trace.now c.loop-node.trace c.walk_part.new.trace inv.4 e.branch)
 
 pub walk_items-loop-node-preserved : goal.walk_items-loop-node-preserved
 walk_items-loop-node-preserved t c =
     let inv = c.loop-node.invariant in
+    let first = c.in-Some.ensures.steps in
     let e = c.in_ok-plain.ensures in
-    let first : items_view c.loop-node.node-iterator ≡ ref_view c.in-Some.node ∷ items_view c.next.new.self = search rules in
     let w = next_item c.loop-node.index inv.2.2 first c.in_ok-step.ensures in
-    let pushed : plain_items_view c.push.new.self ≡ plain_items_view c.loop-node.list ++ plain_view c.in_ok-plain.plain ∷ [] = search rules in
-    (tt, tt, items_more c.walk_part.new.links w inv.2.1 inv.4.0 e.seen e.means e.links pushed, omega (arith, inv.3, ap length first), same_then c.args.trace.now c.loop-node.trace c.walk_part.new.trace inv.4 e.branch)
+    (tt, tt, items_more c.walk_part.new.links w inv.2.1 inv.4.0 e.seen e.means e.links c.in_ok-push.ensures.ok, omega (arith, inv.3, ap length first), same_then c.args.trace.now c.loop-node.trace c.walk_part.new.trace inv.4 e.branch)
 
 pub walk_on-returns-in-Leaf-clause-seen : goal.walk_on-returns-in-Leaf-clause-seen
 walk_on-returns-in-Leaf-clause-seen t c =
@@ -239,8 +237,8 @@ walk_on-returns-in_err-found-in-Refers-clause-seen t c =
     let k = c.in_ok-target-in-Refers.ensures in
     let q = c.in_ok-target-in-Refers.target.place in
     let f = c.in_err-found-in-Refers.field-0.0 in
-    let p = err_from_is_err_and c.from_residual-in_err-found-in-Refers.result c.from_residual-in_err-found-in-Refers.ensures.1 in
     let fault = subst (λ b. IsFault f (first_break T c.follow.new.trace.visits (walked T b q))) k.branch.0 c.in_err-found-in-Refers.ensures.seen in
+    let p = err_from_is_err_and c.from_residual-in_err-found-in-Refers.result c.from_residual-in_err-found-in-Refers.ensures.1 in
     rw (p.1, p.2) (subst (λ w. IsFault f (first_break T n (walk_written T settle walk spot.place (Some w)))) (sym view)
     (target_then_fault T f settle walk spot.place q token trail k.ends k.seen fault))
 
@@ -280,10 +278,10 @@ walk_part-returns-in_err-visit_leaf-in-Leaf-clause-seen t c =
     let place = c.args.place.now in
     let step = c.args.step.now in
     let f = c.in_err-visit_leaf-in-Leaf.field-0.0 in
-    let p = err_from_is_err_and c.from_residual-in_err-visit_leaf-in-Leaf.result c.from_residual-in_err-visit_leaf-in-Leaf.ensures.1 in
-    let is = part_shows flat place c.args.token.now step (ref_view c.args.node) c.in_ok-content.content c.requires.at c.in_ok-content.ensures ∙ ap (λ x. Some (content_view x)) c.in-Leaf.is in
-    let start = c.start.ensures ∙ part_start flat place c.args.token.now step (ref_view c.args.node) c.requires.at in
+    let is = leaf_shows c.requires.at c.in_ok-content.ensures c.in-Leaf.is in
+    let start = c.start.ensures ∙ part_start c.requires.at in
     let own = c.in_err-visit_leaf-in-Leaf.ensures.broken flat T (plain_view c.in-Leaf.plain) c.requires.starts start is in
+    let p = err_from_is_err_and c.from_residual-in_err-visit_leaf-in-Leaf.result c.from_residual-in_err-visit_leaf-in-Leaf.ensures.1 in
     rw (p.1, p.2) (walked-fault T f c.args.trace.now.visits c.args.trace.now.places.items (part place step) own)
 
 pub walk_part-returns-in_ok-visit_leaf-in-Leaf-clause-seen : goal.walk_part-returns-in_ok-visit_leaf-in-Leaf-clause-seen
@@ -293,16 +291,15 @@ walk_part-returns-in_ok-visit_leaf-in-Leaf-clause-seen t c =
     let place = c.args.place.now in
     let step = c.args.step.now in
     let e = c.in_ok-visit_leaf-in-Leaf.ensures in
-    let is = part_shows flat place c.args.token.now step (ref_view c.args.node) c.in_ok-content.content c.requires.at c.in_ok-content.ensures ∙ ap (λ x. Some (content_view x)) c.in-Leaf.is in
-    let start = c.start.ensures ∙ part_start flat place c.args.token.now step (ref_view c.args.node) c.requires.at in
+    let is = leaf_shows c.requires.at c.in_ok-content.ensures c.in-Leaf.is in
+    let start = c.start.ensures ∙ part_start c.requires.at in
     leaf_clean T c.args.trace.now.places.items (part place step) (plain_view c.in-Leaf.plain) is (e.broken flat T (plain_view c.in-Leaf.plain) c.requires.starts start is) e.counted
 
 pub walk_part-returns-in_ok-visit_leaf-in-Leaf-clause-means : goal.walk_part-returns-in_ok-visit_leaf-in-Leaf-clause-means
 walk_part-returns-in_ok-visit_leaf-in-Leaf-clause-means t c =
-    means_leaf (part_shows c.args.flat.now c.args.place.now c.args.token.now c.args.step.now (ref_view c.args.node) c.in_ok-content.content c.requires.at c.in_ok-content.ensures ∙ ap (λ x. Some (content_view x)) c.in-Leaf.is)
+    means_leaf (leaf_shows c.requires.at c.in_ok-content.ensures c.in-Leaf.is)
 
 pub walk_part-returns-in_ok-visit_leaf-in-Leaf-clause-links : goal.walk_part-returns-in_ok-visit_leaf-in-Leaf-clause-links
 walk_part-returns-in_ok-visit_leaf-in-Leaf-clause-links t c =
     let flat = c.args.flat.now in
-    let is = part_shows flat c.args.place.now c.args.token.now c.args.step.now (ref_view c.args.node) c.in_ok-content.content c.requires.at c.in_ok-content.ensures ∙ ap (λ x. Some (content_view x)) c.in-Leaf.is in
-    leaf_grown (written_in flat) (own_in flat) (group_in flat) c.args.own (part c.args.place.now c.args.step.now) (plain_view c.in-Leaf.plain) c.args.links.now is
+    leaf_grown (written_in flat) (own_in flat) (group_in flat) c.args.own (part c.args.place.now c.args.step.now) (plain_view c.in-Leaf.plain) c.args.links.now (leaf_shows c.requires.at c.in_ok-content.ensures c.in-Leaf.is)
