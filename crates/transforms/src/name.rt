@@ -1,6 +1,6 @@
 // The names of tokens on platforms.
 
-ghost use Rattle.std.specs.Prelude.{◌≡◌, ◌++◌, ◌∷◌, ◌<◌, true, length, codes, IfOk, OnOk};
+ghost use Rattle.std.specs.Prelude.{◌≡◌, ◌++◌, ◌∷◌, [], ◌<◌, true, length, codes, IfOk, OnOk};
 ghost use Rattle.std.specs.List.{flat_map, list_all};
 ghost use Rattle.std.specs.Str.{bytes_eq};
 ghost use Rattle.name_path.specs.Names.{IsTokenPath, root_name};
@@ -130,13 +130,23 @@ fn append_joined(
     Ok(())
 }
 
+/// No bytes, with room for as many as most names have, so that memory is asked for once.
+fn with_room(alloc: Global) -> Result<Bytes, NoMemory>
+    ensures { IfOk result (λ name. name ≡ []) }
+{
+    let mut name = Bytes::new(alloc);
+    name.append(&[0; 32])?;
+    name.truncate(0);
+    Ok(name)
+}
+
 fn property(alloc: Global, prefix: &[u8], path: &Path<'_>) -> Result<Bytes, NoMemory>
     ensures is { IfOk result (λ name. name
         ≡ codes "--" ++ joined Platform.Css prefix.now path.now) }
     ensures named { IfOk result (λ name. is_prefix prefix.now ≡ true → IsTokenPath path.now
         → is_property name ≡ true) }
 {
-    let mut name = Bytes::new(alloc);
+    let mut name = with_room(alloc)?;
     name.append(b"--")?;
     append_joined(Platform::Css, prefix, path, &mut name)?;
     Ok(name)
@@ -170,7 +180,7 @@ fn identifier(
     ensures named { joint platform ≡ joint Platform.Android → is_prefix prefix.now ≡ true
         → IsTokenPath path.now → IfOk result (λ name. is_identifier name ≡ true) }
 {
-    let mut name = Bytes::new(alloc);
+    let mut name = with_room(alloc)?;
     append_joined(platform, prefix, path, &mut name)?;
     if begins_with_digit(name.as_slice()) {
         let marked = behind_mark(alloc, name.as_slice())?;
@@ -204,7 +214,7 @@ pub fn name_for(
 pub fn name_with_ending(alloc: Global, name: &[u8], ending: &str) -> Result<Bytes, NoMemory>
     ensures { IfOk result (λ ended. ended ≡ name.now ++ ending.now) }
 {
-    let mut ended = Bytes::new(alloc);
+    let mut ended = with_room(alloc)?;
     ended.append(name)?;
     ended.append(ending.as_bytes())?;
     Ok(ended)

@@ -27,6 +27,10 @@ impl Platform {
     pub(crate) fn keeps(self, byte: u8) -> bool
         ensures { result ≡ is_kept self byte }
     {
-        byte.is_ascii_alphanumeric() || byte == b'_' || byte == self.joint()
+        // Most bytes of names are letters.
+        if byte.is_ascii_alphabetic() {
+            return true;
+        }
+        byte.is_ascii_digit() || byte == b'_' || byte == self.joint()
     }
 }
