@@ -14,3 +14,4 @@ pub mod QuotedReadsBack
 pub mod RunsAreFirst
 pub mod ScaledAreWritten
 mod SortedNames
+mod TextEnds

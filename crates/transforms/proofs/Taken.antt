@@ -1,5 +1,5 @@
 -- What is there after names were added: these names under their paths, and all others as before.
-use Rattle.std.proofs.Common.{◌≡◌, ℕ, Bool, true, false, ◌||◌, cond, List, [], ◌∷◌, Option, Some, None, Ordering, Less, Equal, Greater, refl, sym, ap, subst, ◌∙◌}
+use Rattle.std.proofs.Common.{◌≡◌, ℕ, zero, suc, ◌<◌, Bool, true, false, ◌||◌, Bor, cond, List, [], ◌∷◌, get_or, length, map as each, Option, Some, None, Ordering, Less, Equal, Greater, arith, refl, sym, ap, subst, ◌∙◌}
 use Rattle.std.specs.BTreeMap.{is_at}
 use Rattle.std.specs.Cmp.Lexicographic.{nat_list_cmp_total}
 use Rattle.std.specs.FinMap as map
@@ -22,6 +22,18 @@ get-with_names taken (name ∷ names) path q =
     get-with_names (map.insert taken name path) names path q
     ∙ (ap (λ o. cond (is_among q names) (Some path) o) (at_insert nat_list_cmp_total taken name path q)
     ∙ joined_tests (is_at (text_cmp name) q) (is_among q names) (Some path) (map.get taken q))
+
+neither : (a b : Bool) → (a || b) ≡ false → (a ≡ false) × (b ≡ false)
+neither true b e = cc
+neither false b e = (refl, e)
+
+-- a name that is none of these is not at the place of one of them
+pub elsewhere : (names : List (Bor (List ℕ))) (i : ℕ) (d : Bor (List ℕ)) (q : List ℕ) → i < length names → is_among q (each (λ name. name.now) names) ≡ false
+    → is_at (text_cmp (get_or names i d).now) q ≡ false
+elsewhere [] i d q within none = absurd (omega (arith, within))
+elsewhere (name ∷ names) zero d q within none = (neither (is_at (text_cmp name.now) q) (is_among q (each (λ name. name.now) names)) none).0
+elsewhere (name ∷ names) (suc i) d q within none =
+    elsewhere names i d q (omega (arith, within)) (neither (is_at (text_cmp name.now) q) (is_among q (each (λ name. name.now) names)) none).1
 
 tied : (o : Ordering) → is_eq o ≡ true → o ≡ Equal
 tied Less e = cc

@@ -3,3 +3,4 @@ pub mod Growing
 pub mod Elsewhere
 pub mod Unread
 pub mod Held
+pub mod Ends

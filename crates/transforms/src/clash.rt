@@ -1,18 +1,17 @@
 // Names that more than one token has.
 
-ghost use Rattle.std.specs.Prelude.{◌≡◌, IfOk, OnOk, OnErr};
-ghost use Rattle.std.specs.FinMap as map;
+ghost use Rattle.std.specs.Prelude.{◌≡◌, IfOk, OnOk, OnErr, map};
+ghost use Rattle.std.specs.FinMap as finite;
 ghost use Rattle.std.specs.Option.{option_copied};
 ghost use Rattle.transforms.specs.Clash.{first_taken, with_names, Leaves};
 ghost use Rattle.transforms.specs.inner.Elsewhere.{PutsName, SameElsewhere, RemovesName};
 ghost use Rattle.transforms.specs.inner.Elsewhere.{RemovesNames};
 
-use crate::Names;
 use name_path::Path;
 use std::alloc::Global;
 use std::collections::BTreeMap;
 use std::marker::Model;
-use tk_io::{Bytes, NoMemory};
+use tk_io::NoMemory;
 
 /// The names that tokens have on one platform, seen as a finite map from each name to the path of its token.
 #[derive(Debug, Drop)]
@@ -39,7 +38,7 @@ impl<'s> Model for Clash<'s> {
 impl<'s> Clash<'s> {
     /// No names.
     pub fn new(alloc: Global) -> Clash<'s>
-        ensures { result ≡ map.empty }
+        ensures { result ≡ finite.empty }
     {
         Clash {
             alloc,
@@ -49,35 +48,35 @@ impl<'s> Clash<'s> {
 
     /// Adds the names of the token at the path. Where one of them is there, the answer is the path under which the first of
     /// these was added, and nothing is added. Where memory runs out nothing is added.
-    pub fn add(&mut self, path: &Path<'s>, names: &Names) -> Result<Option<Path<'s>>, NoMemory>
-        ensures answer { IfOk result (λ answer. answer ≡ first_taken self.old names.now) }
-        ensures leaves { IfOk result (Leaves self.old names.now path.now self.new) }
+    pub fn add(&mut self, path: &Path<'s>, names: &[&[u8]]) -> Result<Option<Path<'s>>, NoMemory>
+        ensures answer { IfOk result (λ answer. answer ≡ first_taken self.old (map (λ name. name.now) names.now)) }
+        ensures leaves { IfOk result (Leaves self.old (map (λ name. name.now) names.now) path.now self.new) }
         ensures err { OnErr result (self.new ≡ self.old) }
     {
-        if let Some(other) = self.first_taken(names.as_slice()) {
+        if let Some(other) = self.first_taken(names) {
             let other = other.copy()?;
             return Ok(Some(other));
         }
-        match self.put_all(path, names.as_slice()) {
+        match self.put_all(path, names) {
             Ok(()) => Ok(None),
             Err(fault) => {
-                self.remove_all(names.as_slice());
+                self.remove_all(names);
                 Err(fault)
             }
         }
     }
 
     fn get(&self, name: &[u8]) -> Option<&Path<'s>>
-        ensures { option_copied result ≡ map.get self.now name.now }
+        ensures { option_copied result ≡ finite.get self.now name.now }
     {
         self.paths.get(name)
     }
 
-    fn first_taken(&self, names: &[Bytes]) -> Option<&Path<'s>>
-        ensures { option_copied result ≡ first_taken self.now names.now }
+    fn first_taken(&self, names: &[&[u8]]) -> Option<&Path<'s>>
+        ensures { option_copied result ≡ first_taken self.now (map (λ name. name.now) names.now) }
     {
         for name in names {
-            if let Some(path) = self.get(name.as_slice()) {
+            if let Some(path) = self.get(name) {
                 return Some(path);
             }
         }
@@ -85,7 +84,7 @@ impl<'s> Clash<'s> {
     }
 
     fn put(&mut self, name: &[u8], path: &Path<'s>) -> Result<(), NoMemory>
-        ensures ok { OnOk result (self.new ≡ map.insert self.old name.now path.now) }
+        ensures ok { OnOk result (self.new ≡ finite.insert self.old name.now path.now) }
         ensures at { OnOk result (PutsName self.old self.new name.now path.now) }
         ensures err { OnErr result (self.new ≡ self.old) }
     {
@@ -97,12 +96,12 @@ impl<'s> Clash<'s> {
     }
 
     /// Adds the names one after another. Where memory runs out some of them may be there.
-    fn put_all(&mut self, path: &Path<'s>, names: &[Bytes]) -> Result<(), NoMemory>
-        ensures ok { OnOk result (self.new ≡ with_names self.old names.now path.now) }
-        ensures err { OnErr result (SameElsewhere self.old self.new names.now) }
+    fn put_all(&mut self, path: &Path<'s>, names: &[&[u8]]) -> Result<(), NoMemory>
+        ensures ok { OnOk result (self.new ≡ with_names self.old (map (λ name. name.now) names.now) path.now) }
+        ensures err { OnErr result (SameElsewhere self.old self.new (map (λ name. name.now) names.now)) }
     {
         for name in names {
-            self.put(name.as_slice(), path)?;
+            self.put(name, path)?;
         }
         Ok(())
     }
@@ -113,11 +112,11 @@ impl<'s> Clash<'s> {
         let _ = self.paths.remove(name);
     }
 
-    fn remove_all(&mut self, names: &[Bytes])
-        ensures { RemovesNames self.old self.new names.now }
+    fn remove_all(&mut self, names: &[&[u8]])
+        ensures { RemovesNames self.old self.new (map (λ name. name.now) names.now) }
     {
         for name in names {
-            self.remove(name.as_slice());
+            self.remove(name);
         }
     }
 }

@@ -18,6 +18,7 @@ mod scaling;
 mod sheet;
 #[cfg(test)]
 mod tests;
+mod texts;
 
 pub use apart::are_apart;
 pub use clash::Clash;
@@ -30,3 +31,4 @@ pub use platform::Platform;
 pub use quoted::{append_escaped, is_printable};
 pub use scaling::scale_rem;
 pub use sheet::{Frame, Sheet};
+pub use texts::Texts;

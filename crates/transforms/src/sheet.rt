@@ -52,7 +52,7 @@ impl Sheet {
         })
     }
 
-    fn append_body(&mut self, body: &[u8]) -> Result<(), NoMemory>
+    fn append_glued(&mut self, body: &[u8]) -> Result<(), NoMemory>
         ensures ok { OnOk result (Gains self.old self.new body.now) }
         ensures err { OnErr result (OnlyTextGrows self.old self.new) }
     {
@@ -64,15 +64,22 @@ impl Sheet {
         Ok(())
     }
 
-    /// Adds the fragment's body at the end, after the glue where there is a body before it. Where memory runs out the sheet
-    /// stays.
+    /// Adds the body at the end, after the glue where there is a body before it. Where memory runs out the sheet stays.
+    pub fn add_body(&mut self, body: &[u8]) -> Result<(), NoMemory>
+        ensures ok { OnOk result (Gains self.old self.new body.now) }
+        ensures err { OnErr result (self.new ≡ self.old) }
+    {
+        let start = self.text.len();
+        let appended = self.append_glued(body);
+        self.text.all_or_nothing(start, appended)
+    }
+
+    /// Adds the fragment's body.
     pub fn add(&mut self, frag: &Frag) -> Result<(), NoMemory>
         ensures ok { OnOk result (Gains self.old self.new frag.now.body) }
         ensures err { OnErr result (self.new ≡ self.old) }
     {
-        let start = self.text.len();
-        let appended = self.append_body(frag.body.as_slice());
-        self.text.all_or_nothing(start, appended)
+        self.add_body(frag.body.as_slice())
     }
 
     /// The bytes of the sheet: the head, the bodies with the glue between, `last` where there is a body, and the tail. Where

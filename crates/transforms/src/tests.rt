@@ -1,13 +1,13 @@
 // Configurations, names, sheets and clashes, and each call once.
 use crate::{
-    Clash, Config, ConfigFault, Frag, Frame, Names, Platform, Sheet, are_apart, hex8, name_for,
-    read_config, scale_rem,
+    Clash, Config, ConfigFault, Frag, Frame, Names, Platform, Sheet, Texts, are_apart, hex8,
+    name_for, read_config, scale_rem,
 };
 use dec_fix::Dec;
 use name_path::Path;
 use std::alloc::Global;
 use std::test::Fail;
-use tk_io::{Bytes, NoMemory, Sequence, Text};
+use tk_io::{Bytes, NoMemory, Text};
 
 mod table;
 
@@ -104,14 +104,6 @@ fn bytes(alloc: Global, text: &str) -> Result<Bytes, NoMemory> {
     Ok(bytes)
 }
 
-fn names(alloc: Global, texts: &[&str]) -> Result<Names, NoMemory> {
-    let mut names = Sequence::new(alloc);
-    for text in texts {
-        names.push(bytes(alloc, text)?)?;
-    }
-    Ok(Names::several(names))
-}
-
 /// The frame of a JSON object with a member on each line.
 const MEMBERS: Frame = Frame {
     head: b"{\n",
@@ -164,13 +156,22 @@ fn is_answered(answer: &Option<Path<'_>>, wanted: &[&str]) -> bool {
     }
 }
 
+fn listed(alloc: Global, texts: &[&'static str]) -> Result<Vec<&'static [u8]>, NoMemory> {
+    let mut list = Vec::new(alloc);
+    for text in texts {
+        list.push(text.as_bytes())?;
+    }
+    Ok(list)
+}
+
 /// Whether a row's token has the row's answer.
 fn answers<'s>(
     alloc: Global,
     clash: &mut Clash<'s>,
     row: &(&'s str, &'static [&'static str], &'static [&'static str]),
 ) -> Result<bool, NoMemory> {
-    let answer = clash.add(&path(alloc, row.0)?, &names(alloc, row.1)?)?;
+    let names = listed(alloc, row.1)?;
+    let answer = clash.add(&path(alloc, row.0)?, names.as_slice())?;
     Ok(is_answered(&answer, row.2))
 }
 
@@ -194,11 +195,7 @@ const LISTS: [(&[&str], bool); 6] = [
 ];
 
 fn is_told_apart(alloc: Global, names: &[&'static str]) -> Result<bool, NoMemory> {
-    let mut list = Vec::new(alloc);
-    for name in names {
-        list.push(name.as_bytes())?;
-    }
-    are_apart(list)
+    are_apart(listed(alloc, names)?)
 }
 
 #[test]
@@ -206,6 +203,29 @@ fn equal_names_are_found(rt: HostRuntime) -> Result<(), Fail> {
     for (names, wanted) in LISTS {
         assert_eq!(rt; is_told_apart(rt.alloc(), names)?, wanted);
     }
+    Ok(())
+}
+
+/// Whether texts in one buffer are those that were put in, and no more.
+fn are_kept(alloc: Global, wanted: &[&str]) -> Result<bool, NoMemory> {
+    let mut texts = Texts::with_room(alloc, 4)?;
+    for text in wanted {
+        texts.push(text.as_bytes())?;
+    }
+    for (i, text) in wanted.iter().enumerate() {
+        if texts.at(i) != Some(text.as_bytes()) {
+            return Ok(false);
+        }
+    }
+    Ok(texts.len() == wanted.len() && texts.at(wanted.len()).is_none())
+}
+
+#[test]
+fn texts_are_kept(rt: HostRuntime) -> Result<(), Fail> {
+    // More than are kept without memory of their own, and empty ones at both ends.
+    let texts = ["", "a", "bc", "", "def", "g", "é", "hi", ""];
+    assert!(rt; are_kept(rt.alloc(), &texts)?);
+    assert!(rt; are_kept(rt.alloc(), &[])?);
     Ok(())
 }
 

@@ -3,8 +3,8 @@ use Rattle.tk_io.specs.Writing.{Extends}
 use Rattle.tk_io.proofs.Extending.{extends_self}
 use Rattle.transforms.specs.Sheet.{FrameData, OpenSheet}
 use Rattle.transforms.specs.inner.Growing.{OnlyTextGrows}
-use Rattle.transforms.proofs.sheet.Sheet.append_body.Goals.{then-self+in_ok-append, else-self}
-use Rattle.transforms.proofs.sheet.Sheet.append_body.Goals as goal
+use Rattle.transforms.proofs.sheet.Sheet.append_glued.Goals.{then-self+in_ok-append, else-self}
+use Rattle.transforms.proofs.sheet.Sheet.append_glued.Goals as goal
 
 -- whatever the answer is
 grown : {A B : Type 0} (r : Result A B) (old : OpenSheet) (frame : FrameData) (text : List ℕ) (has_body : Bool) → frame ≡ old.frame → Extends old.text text

@@ -1,0 +1,111 @@
+// Texts end to end in one buffer.
+
+ghost use Rattle.std.specs.Prelude.{◌≡◌, ◌+◌, ◌≤◌, [], ◌∷◌, ◌++◌, IfOk, OnOk, OnErr, IfSome, length};
+ghost use Rattle.std.specs.Prelude.{option_map, slice_range};
+ghost use Rattle.std.specs.List.{slice_get};
+ghost use Rattle.transforms.specs.inner.Ends.{texts_from, start_from, AreEnds};
+
+use smallvec::SmallVec;
+use std::alloc::Global;
+use std::marker::Model;
+use tk_io::NoMemory;
+
+/// Texts end to end in one buffer, seen as their list.
+#[derive(Debug, Drop)]
+pub struct Texts {
+    bytes: Vec<u8>,
+    /// Where each text ends, which is where the next one starts. Most lists have no more than six.
+    ends: SmallVec<u32, 6>,
+}
+
+impl Model for Texts {
+    ghost use Rattle.std.specs.Prelude.{List, ℕ, length};
+    ghost use Rattle.transforms.specs.inner.Ends.{texts_from, AreEnds};
+
+    ghost Value = { List (List ℕ) };
+
+    ghost view = { λ t. texts_from 0 t.ends.items t.bytes.items };
+
+    ghost invariant = { λ t. AreEnds 0 t.ends.items (length t.bytes.items) };
+}
+
+// Where a text of this length ends behind others; none from 4 GiB on.
+fn end_behind(start: usize, len: usize) -> Option<u32>
+    ensures { IfSome result (λ end. end ≡ start + len) }
+{
+    let end = start.checked_add(len)?;
+    if end > 0xffff_ffff {
+        return None;
+    }
+    Some(end as u32)
+}
+
+fn start_of(ends: &[u32], i: usize) -> usize
+    ensures { result ≡ start_from 0 ends.now i }
+{
+    if i == 0 {
+        return 0;
+    }
+    match ends.get(i - 1) {
+        Some(end) => *end as usize,
+        None => 0,
+    }
+}
+
+fn between(bytes: &[u8], start: usize, end: usize) -> &[u8]
+    requires order { start ≤ end }
+    requires fits { end ≤ length bytes.now }
+    ensures { result.now ≡ slice_range bytes.now start end }
+{
+    &bytes[start..end]
+}
+
+fn text_at<'t>(bytes: &'t [u8], ends: &[u32], i: usize) -> Option<&'t [u8]>
+    requires { AreEnds 0 ends.now (length bytes.now) }
+    ensures { option_map (λ text. text.now) result ≡ slice_get (texts_from 0 ends.now bytes.now) i }
+{
+    match ends.get(i) {
+        Some(end) => Some(between(bytes, start_of(ends, i), *end as usize)),
+        None => None,
+    }
+}
+
+impl Texts {
+    /// No texts, with room for this many bytes.
+    pub fn with_room(alloc: Global, bytes: usize) -> Result<Texts, NoMemory>
+        ensures { IfOk result (λ texts. texts ≡ []) }
+    {
+        Ok(Texts {
+            bytes: Vec::with_capacity(alloc, bytes)?,
+            ends: SmallVec::new(alloc),
+        })
+    }
+
+    /// Adds the text at the end. Where memory runs out nothing changes; all texts have less than 4 GiB.
+    pub fn push(&mut self, text: &[u8]) -> Result<(), NoMemory>
+        ensures ok { OnOk result (self.new ≡ self.old ++ text.now ∷ []) }
+        ensures err { OnErr result (self.new ≡ self.old) }
+    {
+        let Some(end) = end_behind(self.bytes.len(), text.len()) else {
+            return Err(NoMemory);
+        };
+        self.ends.reserve(1)?;
+        self.bytes.extend_from_slice(text)?;
+        self.ends.push_reserved(end);
+        Ok(())
+    }
+
+    /// How many texts there are.
+    pub fn len(&self) -> usize
+        ensures { result ≡ length self.now }
+    {
+        self.ends.len()
+    }
+
+    /// The i-th text, counted from 0; none where i is not below the length.
+    pub fn at(&self, i: usize) -> Option<&[u8]>
+        ensures { option_map (λ text. text.now) result ≡ slice_get self.now i }
+    {
+        text_at(self.bytes.as_slice(), self.ends.as_slice(), i)
+    }
+}
