@@ -1,5 +1,5 @@
 -- Sheets from cells.
-use Rattle.std.proofs.Common.{◌≡◌, ℕ, ◌+◌, ◌<◌, List, [], ◌∷◌, ◌++◌, take, get_or, length, sym, ap, subst, ◌∙◌, flat_map}
+use Rattle.std.proofs.Common.{◌≡◌, ℕ, ◌+◌, ◌<◌, true, refl, List, [], ◌∷◌, ◌++◌, take, get_or, length, sym, ap, subst, ◌∙◌, flat_map}
 use Rattle.std.proofs.lemmas.Grind.{flat_map-append}
 use Rattle.std.proofs.lemmas.List.{append-nil, take_more, take_all}
 use Rattle.std.specs.Prelude.{◌≤◌}
@@ -7,10 +7,17 @@ use Rattle.transforms.specs.Sheet.{Holds, FrameData, OpenSheet}
 use Rattle.token_cells.specs.Sheets.{bodies_for, frame_for}
 use Rattle.token_cells.specs.declared.format.Format.{Format}
 use Rattle.token_cells.specs.declared.token_cell.TokenCell.{TokenCell}
+use Rattle.token_cells.specs.declared.token_cell.TokenCell.TheVariants.{Refused, Made}
+use Rattle.token_cells.specs.inner.Kept.{is_refused}
 
 -- nothing is added
 pub same_bodies : (before after : OpenSheet) → after ≡ before → (frame : FrameData) (bodies : List (List ℕ)) → Holds before frame bodies → Holds after frame (bodies ++ [])
 same_bodies before after is frame bodies h = subst (λ s. Holds s frame (bodies ++ [])) (sym is) (subst (Holds before frame) (sym (append-nil bodies)) h)
+
+-- a token that breaks a rule gives none
+pub refused_bodies : (format : Format) (cell : TokenCell) → is_refused cell ≡ true → bodies_for format cell ≡ []
+refused_bodies format (Refused rule place ring) e = refl
+refused_bodies format (Made css android ios json) e = cc
 
 -- the bodies of one cell more
 pub more_bodies : (format : Format) (sheet : OpenSheet) (cells : List TokenCell) (i : ℕ) (cell : TokenCell) → i < length cells → cell ≡ get_or cells i cell

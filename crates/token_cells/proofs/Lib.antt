@@ -16,3 +16,5 @@ mod Sides
 mod SwiftDenotes
 mod TextsOfTokens
 mod ValuesFit
+mod Runs
+mod NamedAlike

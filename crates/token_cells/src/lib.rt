@@ -3,6 +3,7 @@
 
 mod cells;
 mod format;
+mod fragments;
 mod laws;
 mod names;
 mod shared_cell;

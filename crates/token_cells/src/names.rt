@@ -1,46 +1,30 @@
 // The names that cells have on a platform.
 
-ghost use Rattle.std.specs.Prelude.{◌≡◌, ◌++◌, [], IfOk, OnOk, flat_map, map, unwrap_or};
-ghost use Rattle.std.specs.Option.{option_map};
+ghost use Rattle.std.specs.Prelude.{◌≡◌, ◌++◌, true, IfOk, OnOk, flat_map, map};
 ghost use Rattle.token_cells.specs.Breaks.{names_on};
 ghost use Rattle.token_cells.specs.View.{cells_view};
 
 use crate::shared_cell::SharedCell;
-use crate::token_cell::TokenCell;
 use std::alloc::Global;
 use tk_io::NoMemory;
-use transforms::{Names, Platform};
+use transforms::Platform;
 
-/// The names that the cell has on the platform; none where a rule is broken.
-pub(crate) fn names_on<'a>(platform: Platform, cell: &'a TokenCell<'_>) -> Option<&'a Names>
-    ensures { unwrap_or (option_map (λ names. names.now) result) [] ≡ names_on platform cell.now }
-{
-    match cell {
-        TokenCell::Made {
-            css,
-            android,
-            ios,
-            ..
-        } => match platform {
-            Platform::Css => Some(&css.names),
-            Platform::Android => Some(&android.names),
-            Platform::Swift => Some(&ios.names),
-        },
-        TokenCell::Refused { .. } => None,
-    }
-}
-
-fn push_names<'a>(all: &mut Vec<&'a [u8]>, names: &'a Names) -> Result<(), NoMemory>
+/// Adds the names that the cell has on the platform; none where a rule is broken. None is copied.
+pub(crate) fn push_names<'a>(
+    platform: Platform,
+    cell: &'a SharedCell<'_>,
+    all: &mut Vec<&'a [u8]>,
+) -> Result<(), NoMemory>
     ensures { OnOk result (map (λ name. name.now) all.new.items
-        ≡ map (λ name. name.now) all.old.items ++ names.now) }
+        ≡ map (λ name. name.now) all.old.items ++ names_on platform cell.now) }
 {
-    for name in names.as_slice() {
-        all.push(name.as_slice())?;
+    match cell.fragments() {
+        Some(fragments) => fragments.push_names(platform, all),
+        None => Ok(()),
     }
-    Ok(())
 }
 
-/// All names that cells have on the platform, in their order. None is copied.
+/// All names that cells have on the platform, in their order.
 pub(crate) fn all_names<'a>(
     alloc: Global,
     platform: Platform,
@@ -51,9 +35,30 @@ pub(crate) fn all_names<'a>(
 {
     let mut all = Vec::with_capacity(alloc, cells.len())?;
     for cell in cells {
-        if let Some(names) = names_on(platform, cell.as_cell()) {
-            push_names(&mut all, names)?;
-        }
+        push_names(platform, cell, &mut all)?;
     }
     Ok(all)
+}
+
+fn is_named_alike(cell: &SharedCell<'_>) -> bool
+    ensures { result ≡ true
+        → names_on Platform.Swift cell.now ≡ names_on Platform.Android cell.now }
+{
+    match cell.fragments() {
+        Some(fragments) => fragments.is_named_alike(),
+        None => true,
+    }
+}
+
+/// Whether all names in Swift are known to be those on Android, as they mostly are.
+pub(crate) fn are_named_alike(cells: &[SharedCell<'_>]) -> bool
+    ensures { result ≡ true → map (names_on Platform.Swift) (cells_view cells.now)
+        ≡ map (names_on Platform.Android) (cells_view cells.now) }
+{
+    for cell in cells {
+        if !is_named_alike(cell) {
+            return false;
+        }
+    }
+    true
 }

@@ -6,30 +6,19 @@ ghost use Rattle.token_cells.specs.View.{cells_view};
 
 use crate::format::Format;
 use crate::shared_cell::SharedCell;
-use crate::token_cell::TokenCell;
 use std::alloc::Global;
 use tk_io::{Bytes, NoMemory};
 use transforms::Sheet;
 
 // Adds what the token gives to a sheet of this format.
-fn add_body(sheet: &mut Sheet, format: Format, cell: &TokenCell<'_>) -> Result<(), NoMemory>
+fn add_body(sheet: &mut Sheet, format: Format, cell: &SharedCell<'_>) -> Result<(), NoMemory>
     ensures { OnOk result ((frame : FrameData) (bodies : List (List ℕ))
         → Holds sheet.old frame bodies
         → Holds sheet.new frame (bodies ++ bodies_for format cell.now)) }
 {
-    match cell {
-        TokenCell::Made {
-            css,
-            android,
-            ios,
-            json,
-        } => match format {
-            Format::Css => sheet.add(css),
-            Format::Android => sheet.add(android),
-            Format::Swift => sheet.add(ios),
-            Format::Json => sheet.add(json),
-        },
-        TokenCell::Refused { .. } => Ok(()),
+    match cell.fragments() {
+        Some(fragments) => sheet.add_body(fragments.body(format)),
+        None => Ok(()),
     }
 }
 
@@ -39,7 +28,7 @@ pub fn sheet_of(alloc: Global, format: Format, cells: &[SharedCell<'_>]) -> Resu
 {
     let mut sheet = Sheet::start(alloc, format.frame())?;
     for cell in cells {
-        add_body(&mut sheet, format, cell.as_cell())?;
+        add_body(&mut sheet, format, cell)?;
     }
     sheet.finish()
 }

@@ -2,7 +2,7 @@
 
 ghost use Rattle.std.specs.Prelude.{◌≡◌, ◌<◌};
 
-use crate::{TokenCell, cell};
+use crate::{Format, SharedCell, TokenCell, cell, sheet_of};
 use group_inherit::flatten;
 use json_span::read;
 use name_path::print_place;
@@ -10,9 +10,9 @@ use refusals::Rule;
 use std::alloc::Global;
 use std::marker::Brand;
 use std::process::Abort;
-use std::str;
 use std::sync::ledger::{Blank, Ledger};
 use std::test::Fail;
+use std::{slice, str};
 use tk_io::{Bytes, NoMemory, Steps};
 use token_tree::shape;
 use transforms::Config;
@@ -37,6 +37,15 @@ fn append_cell(out: &mut Bytes, cell: &TokenCell<'_>) -> Result<(), NoMemory> {
             print_place(place, out)
         }
     }
+}
+
+/// The files of CSS and JSON.
+fn append_files(alloc: Global, out: &mut Bytes, cells: &[SharedCell<'_>]) -> Result<(), NoMemory> {
+    out.append(b"\n")?;
+    for format in [Format::Css, Format::Json] {
+        out.append(sheet_of(alloc, format, cells)?.as_slice())?;
+    }
+    Ok(())
 }
 
 /// What the first token of a file comes to; none where the file has no token.
@@ -64,6 +73,8 @@ fn first_cell<L: Ledger>(alloc: Global, text: &[u8], page: Blank) -> Option<Byte
     let cell = cell(alloc, &flat, path, &cfg, &mut steps).ok()?;
     let mut out = Bytes::new(alloc);
     append_cell(&mut out, &cell).ok()?;
+    let shared = SharedCell::new(alloc, cell).ok()?;
+    append_files(alloc, &mut out, slice::from_ref(&shared)).ok()?;
     Some(out)
 }
 
@@ -78,15 +89,22 @@ static TOKENS: [(&str, &str); 3] = [
         r#"  --space-s: 4px;
   <dimen name="space_s">4dp</dimen>
   public static let space_s: CGFloat = 4.0
-  "space.s": {"$type": "dimension", "$value": {"value": 4, "unit": "px"}, "$deprecated": "Use gap."}"#,
+  "space.s": {"$type": "dimension", "$value": {"value": 4, "unit": "px"}, "$deprecated": "Use gap."}
+:root {
+  --space-s: 4px;
+}
+{
+  "space.s": {"$type": "dimension", "$value": {"value": 4, "unit": "px"}, "$deprecated": "Use gap."}
+}
+"#,
     ),
     (
         r#"{"space":{"$type":"dimension","t":{"$value":"{space.u}"}}}"#,
-        "alias-target #/space/t/$value",
+        "alias-target #/space/t/$value\n:root {\n}\n{\n}\n",
     ),
     (
         r#"{"space":{"$type":"dimension","t":{"$value":{"value":4,"unit":"pt"}}}}"#,
-        "dimension-unit #/space/t/$value/unit",
+        "dimension-unit #/space/t/$value/unit\n:root {\n}\n{\n}\n",
     ),
 ];
 

@@ -8,16 +8,15 @@ ghost use Rattle.token_cells.specs.Breaks.{place_span, token_report, cell_report
 ghost use Rattle.token_cells.specs.View.{cells_view};
 ghost use Rattle.transforms.specs.Clash.{first_taken, Leaves};
 
-use crate::names::{all_names, names_on};
-use crate::shared_cell::SharedCell;
-use crate::token_cell::TokenCell;
+use crate::names::{all_names, are_named_alike, push_names};
+use crate::shared_cell::{Refusal, SharedCell};
 use alias_ref::span_of;
 use file_plan::Files;
 use group_inherit::{Entry, FileSpan, Flat};
-use name_path::{Path, Place, Ring};
+use name_path::{Path, Place};
 use refusals::{
-    CellRule, Rule, append_other, append_place, append_platform, append_ring_places, append_token,
-    refuse, refuse_span,
+    Rule, append_other, append_place, append_platform, append_ring_places, append_token, refuse,
+    refuse_span,
 };
 use std::alloc::Global;
 use tk_io::{Bytes, NoMemory};
@@ -48,18 +47,17 @@ fn token_text<'s>(
     files: &Files<'s>,
     flat: &Flat<'s>,
     path: &Path<'s>,
-    rule: CellRule,
-    place: &Place<'s>,
-    ring: &Ring<'s>,
+    refusal: &Refusal<'s>,
 ) -> Result<Bytes, NoMemory>
     ensures { IfOk result (λ b. b ≡ report_text files.now
-        (token_report flat.now path.now (token_break rule place.now ring.now))) }
+        (token_report flat.now path.now
+        (token_break refusal.now.rule refusal.now.place refusal.now.ring))) }
 {
-    let span = place_span(flat, place);
-    let mut out = refuse_span(alloc, files, Rule::Token(rule), &span)?;
+    let span = place_span(flat, &refusal.place);
+    let mut out = refuse_span(alloc, files, Rule::Token(refusal.rule), &span)?;
     append_token(&mut out, path)?;
-    append_place(&mut out, place)?;
-    append_ring_places(&mut out, ring)?;
+    append_place(&mut out, &refusal.place)?;
+    append_ring_places(&mut out, &refusal.ring)?;
     Ok(out)
 }
 
@@ -75,8 +73,8 @@ fn first_refused<'s>(
         (flat_map (cell_reports flat.now) (zip tokens.now (cells_view cells.now)))) }
 {
     for (token, cell) in tokens.iter().zip(cells) {
-        if let TokenCell::Refused { rule, place, ring } = cell.as_cell() {
-            let text = token_text(alloc, files, flat, &token.0, *rule, place, ring)?;
+        if let Some(refusal) = cell.refusal() {
+            let text = token_text(alloc, files, flat, &token.0, refusal)?;
             return Ok(Some(text));
         }
     }
@@ -85,20 +83,20 @@ fn first_refused<'s>(
 
 // Adds the names that the token has on the platform; the answer is an earlier token that has one of them.
 fn add_names<'s>(
+    alloc: Global,
     clash: &mut Clash<'s>,
     platform: Platform,
     path: &Path<'s>,
-    cell: &TokenCell<'s>,
+    cell: &SharedCell<'s>,
 ) -> Result<Option<Path<'s>>, NoMemory>
     ensures answer { IfOk result (λ other. other
         ≡ first_taken clash.old (names_on platform cell.now)) }
     ensures leaves { IfOk result
         (Leaves clash.old (names_on platform cell.now) path.now clash.new) }
 {
-    match names_on(platform, cell) {
-        Some(names) => clash.add(path, names),
-        None => Ok(None),
-    }
+    let mut names = Vec::new(alloc);
+    push_names(platform, cell, &mut names)?;
+    clash.add(path, names.as_slice())
 }
 
 // The first lines of what is printed of that, at the token's object.
@@ -142,7 +140,7 @@ fn told_clash<'s>(
 {
     let mut clash = Clash::new(alloc);
     for (token, cell) in tokens.iter().zip(cells) {
-        if let Some(other) = add_names(&mut clash, platform, &token.0, cell.as_cell())? {
+        if let Some(other) = add_names(alloc, &mut clash, platform, &token.0, cell)? {
             let text = clash_text(alloc, files, platform, &token.0, &token.1, &other)?;
             return Ok(Some(text));
         }
@@ -168,7 +166,7 @@ fn first_clash<'s>(
     told_clash(alloc, files, platform, tokens, cells)
 }
 
-// The same on CSS, then on Android, then in Swift.
+// The same on CSS, then on Android, then in Swift, where names that are all those on Android have no clash of their own.
 fn first_name_clash<'s>(
     alloc: Global,
     files: &Files<'s>,
@@ -183,6 +181,9 @@ fn first_name_clash<'s>(
     }
     if let Some(text) = first_clash(alloc, files, Platform::Android, tokens, cells)? {
         return Ok(Some(text));
+    }
+    if are_named_alike(cells) {
+        return Ok(None);
     }
     first_clash(alloc, files, Platform::Swift, tokens, cells)
 }
