@@ -8,20 +8,26 @@ use std::process::Abort;
 use std::test::Fail;
 use tk_io::Bytes;
 
-/// What the text is written as, with a point or without, or `none` where it is refused.
-fn written(rt: &impl AllocGlobal, text: &str, point: bool) -> Result<Bytes, Fail> {
+/// Whether the number is written as the text.
+fn writes(rt: &impl AllocGlobal, number: &Dec, text: &str) -> Result<bool, Fail> {
     let mut out = Bytes::new(rt.alloc());
+    number.write(&mut out)?;
+    Ok(out.as_slice() == text.as_bytes())
+}
+
+/// Whether the number is written as the text, with a point.
+fn writes_point(rt: &impl AllocGlobal, number: &Dec, text: &str) -> Result<bool, Fail> {
+    let mut out = Bytes::new(rt.alloc());
+    number.write_point(&mut out)?;
+    Ok(out.as_slice() == text.as_bytes())
+}
+
+/// Whether the text is read and then written so, without a point and with one; `none` where it is refused.
+fn is_written(rt: &impl AllocGlobal, text: &str, plain: &str, pointed: &str) -> Result<bool, Fail> {
     match Dec::read(text) {
-        Ok(number) => {
-            if point {
-                number.write_point(&mut out)?
-            } else {
-                number.write(&mut out)?
-            }
-        }
-        Err(NotDec) => out.append(b"none")?,
+        Ok(number) => Ok(writes(rt, &number, plain)? && writes_point(rt, &number, pointed)?),
+        Err(NotDec) => Ok(plain == "none" && pointed == "none"),
     }
-    Ok(out)
 }
 
 /// Compares each line of a table: a text, what it is written as, and what with a point.
@@ -34,16 +40,7 @@ fn lines_hold(rt: &(impl AllocGlobal + Abort), lines: &str) -> Result<u32, Fail>
         let Some((plain, pointed)) = answers.split_once('|') else {
             continue;
         };
-        assert_eq!(rt;
-            written(rt, text, false)?.as_slice(),
-            plain.as_bytes(),
-            "{line}"
-        );
-        assert_eq!(rt;
-            written(rt, text, true)?.as_slice(),
-            pointed.as_bytes(),
-            "{line}"
-        );
+        assert!(rt; is_written(rt, text, plain, pointed)?, "{line}");
         count = count.saturating_add(1);
     }
     Ok(count)
@@ -64,12 +61,6 @@ fn table_holds(rt: HostRuntime) -> Result<(), Fail> {
     }
     assert_eq!(rt; count, 345);
     Ok(())
-}
-
-fn plain(rt: &impl AllocGlobal, number: &Dec) -> Result<Bytes, Fail> {
-    let mut out = Bytes::new(rt.alloc());
-    number.write(&mut out)?;
-    Ok(out)
 }
 
 #[test]
@@ -99,22 +90,10 @@ fn products_and_quotients(rt: HostRuntime) -> Result<(), Fail> {
             assert!(rt; false, "{text}");
             continue;
         };
-        assert_eq!(rt;
-            plain(&rt, &number.times_whole(16))?.as_slice(),
-            times_16.as_bytes()
-        );
-        assert_eq!(rt;
-            plain(&rt, &number.times_100())?.as_slice(),
-            times_100.as_bytes()
-        );
-        assert_eq!(rt;
-            plain(&rt, &number.times_1000())?.as_slice(),
-            times_1000.as_bytes()
-        );
-        assert_eq!(rt;
-            plain(&rt, &number.over_1000())?.as_slice(),
-            over_1000.as_bytes()
-        );
+        assert!(rt; writes(&rt, &number.times_whole(16), times_16)?, "{text}");
+        assert!(rt; writes(&rt, &number.times_100(), times_100)?, "{text}");
+        assert!(rt; writes(&rt, &number.times_1000(), times_1000)?, "{text}");
+        assert!(rt; writes(&rt, &number.over_1000(), over_1000)?, "{text}");
     }
     Ok(())
 }
@@ -156,10 +135,7 @@ fn bytes_and_parts(rt: HostRuntime) -> Result<(), Fail> {
         (128, "0.502"),
         (255, "1"),
     ] {
-        assert_eq!(rt;
-            plain(&rt, &Dec::from_byte(byte))?.as_slice(),
-            text.as_bytes()
-        );
+        assert!(rt; writes(&rt, &Dec::from_byte(byte), text)?, "{text}");
     }
     for byte in 0..=255u8 {
         assert_eq!(rt; Dec::from_byte(byte).to_byte(), byte);
@@ -199,17 +175,8 @@ fn exponents_of_any_length(rt: HostRuntime) -> Result<(), Fail> {
         near.push('0')?;
     }
     near.push('2')?;
-    assert_eq!(rt;
-        written(&rt, far.as_str(), false)?.as_slice(),
-        b"none".as_slice()
-    );
-    assert_eq!(rt;
-        written(&rt, zero.as_str(), false)?.as_slice(),
-        b"0".as_slice()
-    );
-    assert_eq!(rt;
-        written(&rt, near.as_str(), false)?.as_slice(),
-        b"0.12".as_slice()
-    );
+    assert!(rt; is_written(&rt, far.as_str(), "none", "none")?);
+    assert!(rt; is_written(&rt, zero.as_str(), "0", "0.0")?);
+    assert!(rt; is_written(&rt, near.as_str(), "0.12", "0.12")?);
     Ok(())
 }
