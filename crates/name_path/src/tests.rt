@@ -1,6 +1,6 @@
 // Spellings of paths, places and groups, and the order of paths.
 use crate::{
-    Kind, Path, PathMap, RefStop, is_name, print_group, print_path, print_place, read_curly,
+    Kind, Path, PathMap, Place, RefStop, is_name, print_group, print_path, print_place, read_curly,
     read_group, read_pointer,
 };
 use std::alloc::Global;
@@ -8,20 +8,25 @@ use std::cmp::Ordering;
 use std::test::Fail;
 use tk_io::{Bytes, NoMemory, Text};
 
-// The texts, with a line's end after each.
-fn lines(alloc: Global, texts: &[Text<'_>]) -> Result<Bytes, NoMemory> {
-    let mut lines = Bytes::new(alloc);
+// Whether these are the texts, with a line's end after each.
+fn are_lines(texts: &[Text<'_>], lines: &str) -> bool {
+    let mut rest = lines;
     for text in texts {
-        lines.append(text.as_str().as_bytes())?;
-        lines.append(b"\n")?;
+        let Some(after) = rest.strip_prefix(text.as_str()) else {
+            return false;
+        };
+        let Some(after) = after.strip_prefix('\n') else {
+            return false;
+        };
+        rest = after;
     }
-    Ok(lines)
+    rest.is_empty()
 }
 
-fn curly(alloc: Global, text: &str) -> Result<Bytes, RefStop> {
+// Whether the text is a curly alias of these names.
+fn is_curly(alloc: Global, text: &str, names: &str) -> Result<bool, RefStop> {
     let path = read_curly(alloc, &Text::of(text))?;
-    let names = lines(alloc, path.as_slice())?;
-    Ok(names)
+    Ok(are_lines(path.as_slice(), names))
 }
 
 #[test]
@@ -35,14 +40,13 @@ fn reads_curly_aliases(rt: HostRuntime) -> Result<(), Fail> {
         ("{a/b.c~d}", "a/b\nc~d\n"),
     ];
     for (text, names) in right {
-        let found = curly(rt.alloc(), text)?;
-        assert_eq!(rt; found.as_slice(), names.as_bytes());
+        assert!(rt; is_curly(rt.alloc(), text, names)?, "{text}");
     }
     Ok(())
 }
 
 fn curly_is_refused(alloc: Global, text: &str) -> bool {
-    matches!(curly(alloc, text), Err(RefStop::BadRef))
+    matches!(read_curly(alloc, &Text::of(text)), Err(RefStop::BadRef))
 }
 
 #[test]
@@ -64,18 +68,31 @@ fn refuses_what_is_no_curly_alias(rt: HostRuntime) {
         "#/a",
     ];
     for text in wrong {
-        assert!(rt; curly_is_refused(rt.alloc(), text));
+        assert!(rt; curly_is_refused(rt.alloc(), text), "{text}");
     }
 }
 
-// The names, the steps and the place as it is printed.
-fn pointer(alloc: Global, text: &str) -> Result<(Bytes, Bytes, Bytes), RefStop> {
+// Whether the place has these names and steps.
+fn has(place: &Place<'_>, names: &str, steps: &str) -> bool {
+    are_lines(place.token.as_slice(), names) && are_lines(place.trail.as_slice(), steps)
+}
+
+fn prints(place: &Place<'_>, alloc: Global, printed: &str) -> Result<bool, NoMemory> {
+    let mut out = Bytes::new(alloc);
+    print_place(place, &mut out)?;
+    Ok(out.as_slice() == printed.as_bytes())
+}
+
+// Whether the text is a pointer to these names and steps, which is printed so.
+fn is_pointer(
+    alloc: Global,
+    text: &str,
+    names: &str,
+    steps: &str,
+    printed: &str,
+) -> Result<bool, RefStop> {
     let place = read_pointer(alloc, &Text::of(text))?.copy()?;
-    let names = lines(alloc, place.token.as_slice())?;
-    let steps = lines(alloc, place.trail.as_slice())?;
-    let mut printed = Bytes::new(alloc);
-    print_place(&place, &mut printed)?;
-    Ok((names, steps, printed))
+    Ok(has(&place, names, steps) && prints(&place, alloc, printed)?)
 }
 
 #[test]
@@ -101,16 +118,16 @@ fn reads_pointers_back(rt: HostRuntime) -> Result<(), Fail> {
         ("#/ä ö/$value/ü", "ä ö\n", "ü\n", "#/ä ö/$value/ü"),
     ];
     for (text, names, steps, printed) in right {
-        let (found, trail, again) = pointer(rt.alloc(), text)?;
-        assert_eq!(rt; found.as_slice(), names.as_bytes());
-        assert_eq!(rt; trail.as_slice(), steps.as_bytes());
-        assert_eq!(rt; again.as_slice(), printed.as_bytes());
+        assert!(rt;
+            is_pointer(rt.alloc(), text, names, steps, printed)?,
+            "{text}"
+        );
     }
     Ok(())
 }
 
 fn pointer_is_refused(alloc: Global, text: &str) -> bool {
-    matches!(pointer(alloc, text), Err(RefStop::BadRef))
+    matches!(read_pointer(alloc, &Text::of(text)), Err(RefStop::BadRef))
 }
 
 #[test]
@@ -132,18 +149,27 @@ fn refuses_what_is_no_pointer(rt: HostRuntime) {
         "{a}",
     ];
     for text in wrong {
-        assert!(rt; pointer_is_refused(rt.alloc(), text));
+        assert!(rt; pointer_is_refused(rt.alloc(), text), "{text}");
     }
 }
 
-// The names joined, and as a pointer.
-fn group(alloc: Global, text: &str) -> Result<(Bytes, Bytes), RefStop> {
+// Whether the path's names are joined so.
+fn joins(path: &Path<'_>, alloc: Global, joined: &str) -> Result<bool, NoMemory> {
+    let mut out = Bytes::new(alloc);
+    print_path(path, &mut out)?;
+    Ok(out.as_slice() == joined.as_bytes())
+}
+
+fn prints_group(path: &Path<'_>, alloc: Global, printed: &str) -> Result<bool, NoMemory> {
+    let mut out = Bytes::new(alloc);
+    print_group(path, &mut out)?;
+    Ok(out.as_slice() == printed.as_bytes())
+}
+
+// Whether the text is a group whose names are joined so, and which is printed so.
+fn is_group(alloc: Global, text: &str, joined: &str, printed: &str) -> Result<bool, RefStop> {
     let path = read_group(alloc, &Text::of(text))?;
-    let mut joined = Bytes::new(alloc);
-    print_path(&path, &mut joined)?;
-    let mut printed = Bytes::new(alloc);
-    print_group(&path, &mut printed)?;
-    Ok((joined, printed))
+    Ok(joins(&path, alloc, joined)? && prints_group(&path, alloc, printed)?)
 }
 
 #[test]
@@ -155,15 +181,13 @@ fn reads_groups_back(rt: HostRuntime) -> Result<(), Fail> {
         ("#/a/b", "a.b", "#/a/b"),
     ];
     for (text, joined, printed) in right {
-        let (found, again) = group(rt.alloc(), text)?;
-        assert_eq!(rt; found.as_slice(), joined.as_bytes());
-        assert_eq!(rt; again.as_slice(), printed.as_bytes());
+        assert!(rt; is_group(rt.alloc(), text, joined, printed)?, "{text}");
     }
     Ok(())
 }
 
 fn group_is_refused(alloc: Global, text: &str) -> bool {
-    matches!(group(alloc, text), Err(RefStop::BadRef))
+    matches!(read_group(alloc, &Text::of(text)), Err(RefStop::BadRef))
 }
 
 #[test]
@@ -177,7 +201,7 @@ fn refuses_what_is_no_group(rt: HostRuntime) {
         "#/",
         "#/a~2",
     ] {
-        assert!(rt; group_is_refused(rt.alloc(), text));
+        assert!(rt; group_is_refused(rt.alloc(), text), "{text}");
     }
 }
 
@@ -257,12 +281,16 @@ fn keeps_values_in_path_order(rt: HostRuntime) -> Result<(), Fail> {
     Ok(())
 }
 
+// Whether the pointer has names and steps.
+fn names_and_steps(alloc: Global, text: &str) -> Result<(bool, bool), RefStop> {
+    let place = read_pointer(alloc, &Text::of(text))?;
+    Ok((!place.token.is_empty(), !place.trail.is_empty()))
+}
+
 #[test]
 fn tells_whether_there_are_names_and_steps(rt: HostRuntime) -> Result<(), Fail> {
-    let whole = read_pointer(rt.alloc(), &Text::of("#/a"))?;
-    assert!(rt; !whole.token.is_empty() && whole.trail.is_empty());
-    let part = read_pointer(rt.alloc(), &Text::of("#/a/$value/0"))?;
-    assert!(rt; !part.trail.is_empty());
+    assert!(rt; names_and_steps(rt.alloc(), "#/a")? == (true, false));
+    assert!(rt; names_and_steps(rt.alloc(), "#/a/$value/0")? == (true, true));
     assert!(rt; Path::new(rt.alloc()).is_empty());
     Ok(())
 }
@@ -270,12 +298,20 @@ fn tells_whether_there_are_names_and_steps(rt: HostRuntime) -> Result<(), Fail> 
 #[test]
 fn reads_a_pointer_of_ten_thousand_steps(rt: HostRuntime) -> Result<(), Fail> {
     let mut text = String::from_str(rt.alloc(), "#/a/$value")?;
+    let mut steps = String::new(rt.alloc());
     for _step in 0..10_000 {
         text.push_str("/x~0")?;
+        steps.push_str("x~\n")?;
     }
-    let (_, steps, printed) = pointer(rt.alloc(), text.as_str())?;
-    assert_eq!(rt; steps.len(), 30_000);
-    assert_eq!(rt; printed.as_slice(), text.as_str().as_bytes());
+    assert!(rt;
+        is_pointer(
+            rt.alloc(),
+            text.as_str(),
+            "a\n",
+            steps.as_str(),
+            text.as_str()
+        )?
+    );
     Ok(())
 }
 
