@@ -1,4 +1,4 @@
-use Rattle.std.proofs.Common.{◌≡◌, ◌∙◌, ◌⊎◌, inl, inr, ◌≤◌, ℕ, Bool, true, false, List, length, Ok, Err, ap, sym, subst, arith}
+use Rattle.std.proofs.Common.{◌≡◌, ◌∙◌, ◌⊎◌, inl, inr, ◌≤◌, ℕ, Bool, true, false, List, Option, length, Ok, Err, ap, sym, subst, arith}
 use Rattle.edit_script.specs.Script.{EventData, IsScriptStop}
 use Rattle.command_words.specs.declared.command.Command.TheVariants.{Gen}
 use Rattle.token_cli.specs.inner.Ending.{status_of, place_of}
@@ -12,6 +12,21 @@ use Rattle.token_cli.proofs.JobEnds.{ends_as}
 use Rattle.token_cli.proofs.Outcomes.{Made, said_by, stopped_as, all_written, not_read, too_many, taken, at_some, no_command, of_script, of_events, whole_said, no_stop, said}
 use Rattle.token_cli.proofs.Once.{part_or_whole, none_or_whole, one_end}
 use Rattle.token_cli.proofs.running.run.Goals as goal
+
+-- all of what the events tell was written, or a part of it, from what the sink held to what it holds
+abbrev WroteAllOf : Option (List ℕ) → Option (List ℕ) → Bool → Telling → List EventData → Type 0
+WroteAllOf old new refused told es = WroteWhole told es refused old new
+
+abbrev WrotePartOf : Option (List ℕ) → Option (List ℕ) → Telling → List EventData → Type 0
+WrotePartOf old new told es = WrotePart told es old new
+
+-- a script of no more than the limit is refused at this byte
+abbrev IsRefusedAt : ℕ → List ℕ → Type 0
+IsRefusedAt at script = (length script ≤ most_bytes) × IsScriptStop script at
+
+-- the run says that all was written, or that memory ran out
+abbrev IsWritten : Status → Type 0
+IsWritten s = (s ≡ status.Done) ⊎ ((s ≡ status.Refused) ⊎ (s ≡ status.NoMemory))
 
 pub returns-clause-done : goal.returns-clause-done
 returns-clause-done g c e =
@@ -40,7 +55,10 @@ returns-clause-bad_script g c e =
     let is = said_by r status.BadScript (sym c.status_of.ensures ∙ e) in (
       at,
       ends_as r _ _ c.main_job-ended.ensures.ends (Err (stop.BadScript at)) is,
-      subst (λ (s : Status). Reports (g.E.Sink.written c.args.err.now) (g.E.Sink.written c.report.new.err) (g.E.Sink.faults c.args.err.now) (g.E.Sink.faults c.report.new.err) (error_text s at)) (sym c.status_of.ensures) c.report.ensures,
+      subst
+      (λ (s : Status). Reports (g.E.Sink.written c.args.err.now) (g.E.Sink.written c.report.new.err)
+          (g.E.Sink.faults c.args.err.now) (g.E.Sink.faults c.report.new.err) (error_text s at))
+      (sym c.status_of.ensures) c.report.ensures,
     )
 
 pub returns-clause-read_fault : goal.returns-clause-read_fault
@@ -80,22 +98,19 @@ pub returns-clause-complete : goal.returns-clause-complete
 returns-clause-complete g c command script es which given told short reads no_read no_write =
     let h = ends_as c.main_job-ended.result _ _ c.main_job-ended.ensures.ends in
     let left = g.S.Source.left c.args.src.now in
-    let Bad : ℕ → List ℕ → Type 0 = λ at s. (length s ≤ most_bytes) × IsScriptStop s at in
-    let P : Status → Type 0 = λ s. (s ≡ status.Done) ⊎ ((s ≡ status.Refused) ⊎ (s ≡ status.NoMemory)) in
-    subst P (sym c.status_of.ensures)
+    subst IsWritten (sym c.status_of.ensures)
     (all_written c.main_job-ended.result
     (λ e. no_read (h (Err stop.ReadFault) e).0)
     (λ e. no_write (h (Err stop.WriteFault) e).0)
     (λ e. let long = taken 67108865 script left (g.S.Source.left c.main_job-ended.new.src) told (h (Err stop.TooLong) e).0 in omega (arith, long, short))
     (λ e. no_command (asked_by c.args.words.now) command which (h (Err stop.Usage) e))
-    (λ at e. (at_some script left (Bad at) told (h (Err (stop.BadScript at)) e).1.1).1.none es reads))
+    (λ at e. (at_some script left (IsRefusedAt at) told (h (Err (stop.BadScript at)) e).1.1).1.none es reads))
 
 pub returns-clause-generates : goal.returns-clause-generates
 returns-clause-generates g c seed size which no_write =
     let h = ends_as c.main_job-ended.result _ _ c.main_job-ended.ensures.ends in
     let (same, bad, read, long) = c.main_job-ended.ensures.generated seed size which in
-    let P : Status → Type 0 = λ s. (s ≡ status.Done) ⊎ ((s ≡ status.Refused) ⊎ (s ≡ status.NoMemory)) in
-    subst P (sym c.status_of.ensures)
+    subst IsWritten (sym c.status_of.ensures)
     (all_written c.main_job-ended.result
     read
     (λ e. no_write (h (Err stop.WriteFault) e).0)
@@ -111,14 +126,12 @@ returns-clause-unread g c command script which given told short none no_read =
     let words = asked_by c.args.words.now in
     let old = g.K.Sink.written c.args.out.now in
     let new = g.K.Sink.written c.main_job-ended.new.out in
-    let Whole : Bool → Telling → List EventData → Type 0 = λ refused t xs. WroteWhole t xs refused old new in
-    let Part : Telling → List EventData → Type 0 = λ t xs. WrotePart t xs old new in
     let P : Status → Type 0 = λ s. (s ≡ status.BadScript) ⊎ (s ≡ status.NoMemory) in
     subst P (sym c.status_of.ensures)
     (not_read c.main_job-ended.result
-    (λ refused e. let (some, (es, is, holds)) = of_script words left rest (Whole refused) command script which given told (h (Ok refused) e) in none es is)
+    (λ refused e. let (some, (es, is, holds)) = of_script words left rest (WroteAllOf old new refused) command script which given told (h (Ok refused) e) in none es is)
     (λ e. no_read (h (Err stop.ReadFault) e).0)
-    (λ e. let (some, (es, is, holds)) = of_script words left rest Part command script which given told (h (Err stop.WriteFault) e).1 in none es is)
+    (λ e. let (some, (es, is, holds)) = of_script words left rest (WrotePartOf old new) command script which given told (h (Err stop.WriteFault) e).1 in none es is)
     (λ e. let long = taken 67108865 script left rest told (h (Err stop.TooLong) e).0 in omega (arith, long, short))
     (λ e. no_command words command which (h (Err stop.Usage) e)))
 
@@ -130,17 +143,14 @@ returns-clause-endless g c command script which given told long no_read =
     let words = asked_by c.args.words.now in
     let old = g.K.Sink.written c.args.out.now in
     let new = g.K.Sink.written c.main_job-ended.new.out in
-    let Whole : Bool → Telling → List EventData → Type 0 = λ refused t xs. WroteWhole t xs refused old new in
-    let Part : Telling → List EventData → Type 0 = λ t xs. WrotePart t xs old new in
-    let Bad : ℕ → List ℕ → Type 0 = λ at s. (length s ≤ most_bytes) × IsScriptStop s at in
     let P : Status → Type 0 = λ s. (s ≡ status.TooLong) ⊎ (s ≡ status.NoMemory) in
     subst P (sym c.status_of.ensures)
     (too_many c.main_job-ended.result
-    (λ refused e. let (short, holds) = of_script words left rest (Whole refused) command script which given told (h (Ok refused) e) in omega (arith, short, long))
+    (λ refused e. let (short, holds) = of_script words left rest (WroteAllOf old new refused) command script which given told (h (Ok refused) e) in omega (arith, short, long))
     (λ e. no_read (h (Err stop.ReadFault) e).0)
-    (λ e. let (short, holds) = of_script words left rest Part command script which given told (h (Err stop.WriteFault) e).1 in omega (arith, short, long))
+    (λ e. let (short, holds) = of_script words left rest (WrotePartOf old new) command script which given told (h (Err stop.WriteFault) e).1 in omega (arith, short, long))
     (λ e. no_command words command which (h (Err stop.Usage) e))
-    (λ at e. let short = (at_some script left (Bad at) told (h (Err (stop.BadScript at)) e).1.1).0 in omega (arith, short, long)))
+    (λ at e. let short = (at_some script left (IsRefusedAt at) told (h (Err (stop.BadScript at)) e).1.1).0 in omega (arith, short, long)))
 
 pub returns-clause-all : goal.returns-clause-all
 returns-clause-all g c command script es before refused which is reads holds wrote =
@@ -154,9 +164,19 @@ returns-clause-all g c command script es before refused which is reads holds wro
     let new = g.K.Sink.written c.main_job-ended.new.out in
     let told = telling_of command in
     let events = events_for command es in
-    let Whole : Bool → Telling → List EventData → Type 0 = λ x t xs. WroteWhole t xs x old new in
-    let Part : Telling → List EventData → Type 0 = λ t xs. WrotePart t xs old new in
     let none : new ≡ old → ⊥ = λ same. none_or_whole told events refused old new before holds same wrote in
-    let part : Made words left rest Part → ⊥ = λ p. part_or_whole told one events refused old new before holds (of_events words left rest Part command script es which is reads p) wrote in
-    c.status_of.ensures ∙ (whole_said r refused (λ x e. one_end told one events x refused old new (of_events words left rest (Whole x) command script es which is reads (h (Ok x) e)) wrote) (no_stop r (λ e. no_command words command which (h (Err stop.Usage) e)) (λ at e. none (h (Err (stop.BadScript at)) e).0) (λ e. none (h (Err stop.ReadFault) e).1) (λ e. part (h (Err stop.WriteFault) e).1) (λ e. elim (h (Err stop.NoMemory) e) [ inl same ↦ none same | inr p ↦ part p ]) (λ e. none (h (Err stop.TooLong) e).1))
+    let written : (t : Telling → List EventData → Type 0) → Made words left rest t → t told events =
+        λ t m. of_events words left rest t command script es which is reads m in
+    let part : Made words left rest (WrotePartOf old new) → ⊥ =
+        λ m. part_or_whole told one events refused old new before holds (written (WrotePartOf old new) m) wrote in
+    c.status_of.ensures
+    ∙ (whole_said r refused
+    (λ x e. one_end told one events x refused old new (written (WroteAllOf old new x) (h (Ok x) e)) wrote)
+    (no_stop r
+    (λ e. no_command words command which (h (Err stop.Usage) e))
+    (λ at e. none (h (Err (stop.BadScript at)) e).0)
+    (λ e. none (h (Err stop.ReadFault) e).1)
+    (λ e. part (h (Err stop.WriteFault) e).1)
+    (λ e. elim (h (Err stop.NoMemory) e) [ inl same ↦ none same | inr m ↦ part m ])
+    (λ e. none (h (Err stop.TooLong) e).1))
     ∙ said refused)
