@@ -14,6 +14,9 @@ same_steps-is xs ys h = (pointwise_decides bytes_eq-Decides xs ys).0 h
 steps_same : (xs : List Step) → pointwise bytes_eq xs xs ≡ true
 steps_same xs = (pointwise_decides bytes_eq-Decides xs xs).1 refl
 
+pub same_steps : (xs ys : List Step) → xs ≡ ys → pointwise bytes_eq xs ys ≡ true
+same_steps xs ys e = (pointwise_decides bytes_eq-Decides xs ys).1 e
+
 place_of : (p q : Place) → p.token ≡ q.token → p.trail ≡ q.trail → p ≡ q
 place_of p q e f = let make : List Step → List Step → Place = λ t s. record { token = t; trail = s } in ap₂ make e f
 

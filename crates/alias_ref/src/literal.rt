@@ -15,13 +15,13 @@ use std::alloc::Global;
 use tk_io::NoMemory;
 use token_tree::TokenDef;
 
-/// How many values a literal may be made of, itself among them: so few that its walk can't become too deep or too long.
+/// How many values may be counted: so few that their walk can't become too deep or too long.
 const MOST_VALUES: u32 = 256;
 
 /// Why a value is not read as a literal.
 #[derive(Debug, Drop)]
 enum Stop {
-    /// A reference is written in it, or it is made of too many values.
+    /// A reference is written in it, or there are too many values.
     NoLiteral,
     /// Memory ran out.
     NoMemory,
@@ -33,17 +33,21 @@ impl From<NoMemory> for Stop {
     }
 }
 
-/// What the whole value of a token is, where it is a literal of few values.
-pub(crate) fn literal<'s>(alloc: Global, def: &TokenDef<'s>) -> Result<Option<Plain<'s>>, NoMemory>
-    ensures { IfOk result (λ o. IfSome o (λ v. IsWholeLiteral def.now (plain_view v))) }
+/// What the whole value of a token is, where it is a literal of few values. They are counted behind those before.
+pub(crate) fn literal<'s>(
+    alloc: Global,
+    def: &TokenDef<'s>,
+    values: &mut u32,
+) -> Result<Option<Plain<'s>>, NoMemory>
+    ensures { IfOk result (λ o. IfSome o (λ v.
+        IsWholeLiteral def.now (plain_view v) values.old values.new)) }
 {
     def.keeps();
     let _ = def.source.len();
     if def.by_ref {
         return Ok(None);
     }
-    let mut values = 0;
-    match literal_value(alloc, def.value.as_ref(), &mut values) {
+    match literal_value(alloc, def.value.as_ref(), values) {
         Ok(plain) => Ok(Some(plain)),
         Err(Stop::NoLiteral) => Ok(None),
         Err(Stop::NoMemory) => Err(NoMemory),

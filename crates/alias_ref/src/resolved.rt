@@ -107,7 +107,8 @@ fn find<'s>(
     ensures kind { IfOk result (λ f. IsKindAt flat.now (whole path.now) f.kind) }
     ensures links { OnOk result (HasLinks true flat.now (whole path.now) links.old links.new) }
 {
-    if let Some(plain) = literal(alloc, &entry.def)? {
+    let mut values = 0;
+    if let Some(plain) = literal(alloc, &entry.def, &mut values)? {
         return Ok(Found {
             plain,
             kind: kind_here(entry, None),

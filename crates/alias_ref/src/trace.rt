@@ -1,22 +1,26 @@
 //! The trace of a walk: the places that are being visited, and how many visits there were.
 
 ghost use Rattle.std.specs.Prelude.{◌≡◌, ◌≤◌, ◌+◌, ◌∷◌, ◌++◌, [], ℕ, List, Contains, length, drop};
-ghost use Rattle.std.specs.Prelude.{◌<◌, map, Some, IfOk, OnOk, IsTrue, false};
+ghost use Rattle.std.specs.Prelude.{◌<◌, map, Some, IfOk, OnOk, IfSome, IfNone, IsTrue, false};
 ghost use Rattle.name_path.specs.declared.place.Place.{Place};
 ghost use Rattle.alias_ref.specs.Written.{WrittenPlaces, leaf, part, is_misspelled};
-ghost use Rattle.json_span.specs.PlainView.{Value};
+ghost use Rattle.json_span.specs.PlainView.{Value, plain_view};
 ghost use Rattle.alias_ref.specs.Visits.{visit, since, ref_break, most_visits};
 ghost use Rattle.alias_ref.specs.inner.Contents.{content_view};
 ghost use Rattle.alias_ref.specs.inner.Seen.{IsFault, HasBegun};
 ghost use Rattle.alias_ref.specs.inner.Spots.{start_in, HasStarts, IsSameBranch, IsClear};
 ghost use Rattle.alias_ref.specs.Laws.{Flat};
+ghost use Rattle.alias_ref.specs.inner.Literals.{has_token, IsApart, IsLiteralVisit};
 
 use crate::fault::{RefFault, RefRule};
+use crate::literal::literal;
 use crate::spot::{Spot, part_place};
-use name_path::{Place, Ring};
+use json_span::Plain;
+use name_path::{Path, Place, Ring};
 use smallvec::SmallVec;
 use std::alloc::Global;
 use tk_io::{NoMemory, Text};
+use token_tree::TokenDef;
 
 /// How many places may stand on a branch before a visit.
 const MOST_ON_BRANCH: usize = 256;
@@ -74,6 +78,18 @@ fn ring_from<'s>(
         }
     }
     Ok(None)
+}
+
+/// Whether one of the places is of the token.
+fn has_token<'s>(places: &[Place<'s>], token: &Path<'s>) -> bool
+    ensures { result ≡ has_token token.now places.now }
+{
+    for place in places {
+        if place.token == *token {
+            return true;
+        }
+    }
+    false
 }
 
 impl<'s> Trace<'s> {
@@ -211,6 +227,38 @@ impl<'s> Trace<'s> {
         self.check_leaf(alloc, place, step, start)?;
         self.visits += 1;
         Ok(())
+    }
+
+    /// Visits the whole value of a token that is a literal; none where it is not one, or where a visit might break a rule.
+    pub(crate) fn visit_literal(
+        &mut self,
+        alloc: Global,
+        place: &Place<'s>,
+        def: &TokenDef<'s>,
+    ) -> Result<Option<Plain<'s>>, NoMemory>
+        ensures some { IfOk result (λ o. IfSome o (λ v.
+            IsLiteralVisit self.old self.new place.now def.now (plain_view v))) }
+        ensures none { IfOk result (λ o. IfNone o (self.new.visits ≡ self.old.visits)) }
+        ensures branch { IsSameBranch self.old self.new }
+    {
+        if !self.is_apart(place) {
+            return Ok(None);
+        }
+        let mut visits = self.visits;
+        let Some(plain) = literal(alloc, def, &mut visits)? else {
+            return Ok(None);
+        };
+        self.visits = visits;
+        Ok(Some(plain))
+    }
+
+    /// Whether the place is the whole value of a token of which no place stands on the branch, whose places were all visited.
+    fn is_apart(&self, place: &Place<'s>) -> bool
+        ensures { IsTrue result → IsApart self.now place.now }
+    {
+        place.trail.is_empty()
+            && self.places.len() <= self.visits as usize
+            && !has_token(self.places.as_slice(), &place.token)
     }
 
     /// Ends the last visit that began.

@@ -146,11 +146,39 @@ fn walk_on<'a, 's>(
         }
         Content::Refers(named) => {
             let target = follow(alloc, flat, &place, &named, trace)?;
-            let found = walk(alloc, flat, target, false, trace, links)?;
+            let found = walk_target(alloc, flat, target, trace, links)?;
             Ok(refer(&place, token, named, own, found, links)?)
         }
         Content::Misspelled => unreachable!(),
     }
+}
+
+/// Walks the target of a reference. A literal is what it is.
+#[cycle(walking)]
+fn walk_target<'a, 's>(
+    alloc: Global,
+    flat: &'a Flat<'s>,
+    spot: Spot<'a, 's>,
+    trace: &mut Trace<'s>,
+    links: &mut Links<'s>,
+) -> Result<Found<'s>, RefFault<'s>>
+    requires at { IsSpot flat.now spot }
+    requires room { length trace.old.places.items ≤ most_on_branch }
+    requires starts { HasStarts flat.now trace.old }
+    ensures seen { HasSeen flat.entry.now trace.old trace.new result (walking spot.entry.place) }
+    ensures means { IfOk result (λ v. IsMeantAt flat.entry.now spot.entry.place v.plain) }
+    ensures kind { IfOk result (λ v. IsKindAt flat.entry.now spot.entry.place v.kind) }
+    ensures links { OnOk result (links.new ≡ links.old) }
+    ensures branch { OnOk result (IsSameBranch trace.old trace.new) }
+{
+    let token = spot.token;
+    if let Some(plain) = trace.visit_literal(alloc, &spot.place, &token.def)? {
+        return Ok(Found {
+            plain,
+            kind: kind_here(token, None),
+        });
+    }
+    walk(alloc, flat, spot, false, trace, links)
 }
 
 /// Walks the items of an array, in order.

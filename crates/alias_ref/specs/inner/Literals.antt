@@ -1,5 +1,8 @@
 -- Values in which no reference is written.
-use Rattle.std.specs.Prelude.{◌≡◌, ℕ, ◌+◌, ◌<◌, List, [], ◌∷◌, ◌++◌, false, map}
+use Rattle.std.specs.Prelude.{◌≡◌, ℕ, ◌+◌, ◌<◌, ◌≤◌, List, [], ◌∷◌, ◌++◌, length, Bool, true, false, if◌then◌else◌, map}
+use Rattle.std.specs.Cmp.Lexicographic.{pointwise}
+use Rattle.std.specs.Str.{bytes_eq}
+use Rattle.name_path.specs.declared.place.Place.{Place}
 use Rattle.json_span.specs.Tree.{Placed, tree_of}
 use Rattle.json_span.specs.PlainView.{Value, ValueEntry, plain_items_view, plain_fields_view}
 use Rattle.json_span.specs.declared.fields.Fields.{Fields}
@@ -11,6 +14,7 @@ use Rattle.alias_ref.specs.Written.{Step, Container, leaf, parts, Parts, parts_o
 use Rattle.alias_ref.specs.Meaning.{put_together}
 use Rattle.alias_ref.specs.Visits.{most_on_branch}
 use Rattle.alias_ref.specs.inner.Spots.{IsFlawless}
+use Rattle.alias_ref.specs.declared.trace.Trace.{Trace}
 use Rattle.alias_ref.specs.inner.Walks.{item_parts, field_parts}
 
 mutual
@@ -39,8 +43,23 @@ abbrev pub FieldsAreLiterals : ℕ → Fields → PlainFields → ℕ → Type 0
 FieldsAreLiterals i fields l j = AreLiterals i (field_parts fields) (plain_fields_view l) j
 
 -- the whole value of a definition is a literal
-pub record IsWholeLiteral (d : Definition) (v : Value) : Type 0 where
+pub record IsWholeLiteral (d : Definition) (v : Value) (i j : ℕ) : Type 0 where
   pub own : d.by_ref ≡ false
-  pub count : ℕ
-  pub literal : IsLiteral 0 d.value v count
+  pub literal : IsLiteral i d.value v j
   pub sound : IsFlawless d.value
+
+-- one of the places is of the token
+abbrev pub has_token : List Step → List Place → Bool
+has_token token [] = false
+has_token token (q ∷ b) = if pointwise bytes_eq q.token token then true else has_token token b
+
+-- the place is the whole value of a token of which no place stands on the branch, whose places were all visited
+pub record IsApart (t : Trace) (p : Place) : Type 0 where
+  pub whole : p.trail ≡ []
+  pub visited : length t.places.items ≤ t.visits
+  pub is_new : has_token p.token t.places.items ≡ false
+
+-- such a place was visited, whose value is a literal
+pub record IsLiteralVisit (old new : Trace) (p : Place) (d : Definition) (v : Value) : Type 0 where
+  pub apart : IsApart old p
+  pub literal : IsWholeLiteral d v old.visits new.visits

@@ -13,7 +13,6 @@ returns-in-Ok c =
     let own : d.by_ref ≡ false = search rules in
     record {
       own = own;
-      count = c.literal_value.new.values;
-      literal = subst (λ n. IsLiteral 0 n (plain_view c.in-Ok.plain) c.literal_value.new.values) view c.in-Ok.ensures;
+      literal = subst (λ n. IsLiteral c.args.values.now n (plain_view c.in-Ok.plain) c.literal_value.new.values) view c.in-Ok.ensures;
       sound = sound_definition d c.keeps.ensures few;
     }

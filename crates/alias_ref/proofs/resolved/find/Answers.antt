@@ -12,10 +12,10 @@ returns-in-Some c =
     let flat = c.args.flat.now in
     let token = c.args.path.now in
     let v = plain_view c.in-Some.plain in
-    let is : IsWholeLiteral c.args.entry.now.def v = search rules in
-    let k = whole_literal flat c.args.entry.now token v c.requires.token is in
+    let is : IsWholeLiteral c.args.entry.now.def v 0 c.literal.new.values = search rules in
+    let k = whole_literal flat c.args.entry.now token v 0 c.literal.new.values c.requires.token is in
     record {
-      unbroken = literal_unbroken flat c.args.entry.now token v is.count k;
+      unbroken = literal_unbroken flat c.args.entry.now token v c.literal.new.values k;
       broken = tt;
       means = k.means;
       kind = k.kind _ c.kind_here.ensures;

@@ -1,4 +1,4 @@
-use Rattle.std.proofs.Common.{◌≡◌, ◌+◌, ◌∷◌, [], length, Some, arith, refl, sym, ap, ap₂, ◌∙◌, subst, length-append}
+use Rattle.std.proofs.Common.{rules, ◌≡◌, ◌+◌, ◌∷◌, [], length, Some, arith, refl, sym, ap, ap₂, ◌∙◌, subst, length-append}
 use Rattle.std.proofs.lemmas.Result.{err_from_is_err_and}
 use Rattle.group_inherit.specs.Merging.{either}
 use Rattle.json_span.specs.Plain.{plains_of, plain_array}
@@ -10,10 +10,12 @@ use Rattle.alias_ref.specs.Kinds.{own_in, group_in}
 use Rattle.alias_ref.specs.inner.Contents.{content_view}
 use Rattle.json_span.specs.View.{ref_view, items_view, fields_view}
 use Rattle.alias_ref.specs.inner.Linking.{lent}
+use Rattle.alias_ref.specs.inner.Literals.{IsLiteralVisit}
 use Rattle.alias_ref.specs.inner.Seen.{Clean, IsFault}
 use Rattle.alias_ref.specs.inner.Spots.{start_in}
 use Rattle.alias_ref.proofs.FirstBreaks.{clean_nil, enters, walked-fault}
 use Rattle.alias_ref.proofs.LinksOfParts.{alone, refers_kind}
+use Rattle.alias_ref.proofs.LiteralsMean.{literal_visited, visited_clean}
 use Rattle.alias_ref.proofs.PartsInTurn.{none_walked, next_item, next_field, walked_more, items_more, walked_fault, leaf_grown, grown_parts, lead_by, refers_grown}
 use Rattle.alias_ref.proofs.PlainViews.{array_view, object_view}
 use Rattle.alias_ref.proofs.SpotsStand.{spot_written, spot_start, spot_shows, own_is, group_is, kinds_at, leaf_shows, part_start, holder_part, holder_few}
@@ -259,16 +261,16 @@ walk_on-returns-in-Refers t c =
     let q = c.in_ok-target-in-Refers.target.place in
     let found = c.in_ok-found-in-Refers in
     let refer = c.in_ok-refer-in-Refers in
-    let clean = subst (λ b. Clean T c.follow.new.trace.visits c.walk.new.trace.visits (walked T b q)) k.branch.0 found.ensures.seen in
+    let clean = subst (λ b. Clean T c.follow.new.trace.visits c.walk_target.new.trace.visits (walked T b q)) k.branch.0 found.ensures.seen in
     let own = own_is flat spot.place spot.token.now c.requires.at.value c.requires.at.stands in
     let group = group_is flat spot.place spot.token.now c.requires.at.value c.requires.at.stands in
     record {
-      seen = subst (λ w. Clean T n c.walk.new.trace.visits (walk_written T settle walk spot.place (Some w))) (sym view) (target_clean T settle walk spot.place q token trail k.ends k.seen clean);
+      seen = subst (λ w. Clean T n c.walk_target.new.trace.visits (walk_written T settle walk spot.place (Some w))) (sym view) (target_clean T settle walk spot.place q token trail k.ends k.seen clean);
       means = subst (λ v. Means T spot.place (plain_view v)) (sym refer.ensures.plain) (means_target (lead_by T branch spot.place q token trail is k.ends) found.ensures.means);
       kind = λ at. refers_kind T (own_in flat) (group_in flat) settle spot.place q token trail found.found.kind refer.field-0.kind is k.ends found.ensures.kind
           (refer.ensures.kind ∙ ap₂ (λ x y. either x (either (lent found.found.kind trail) y)) (sym own) (sym group)) at;
-      links = refers_grown T (own_in flat) (group_in flat) c.args.own settle spot.place q token trail found.found.kind c.args.links.now c.walk.new.links c.refer.new.links is k.ends found.ensures.kind found.ensures.links refer.ensures.links;
-      branch = same_then c.args.trace.now c.follow.new.trace c.walk.new.trace k.branch found.ensures.branch;
+      links = refers_grown T (own_in flat) (group_in flat) c.args.own settle spot.place q token trail found.found.kind c.args.links.now c.walk_target.new.links c.refer.new.links is k.ends found.ensures.kind found.ensures.links refer.ensures.links;
+      branch = same_then c.args.trace.now c.follow.new.trace c.walk_target.new.trace k.branch found.ensures.branch;
     }
 
 pub walk_part-returns-in_err-visit_leaf-in-Leaf-clause-seen : goal.walk_part-returns-in_err-visit_leaf-in-Leaf-clause-seen
@@ -303,3 +305,17 @@ pub walk_part-returns-in_ok-visit_leaf-in-Leaf-clause-links : goal.walk_part-ret
 walk_part-returns-in_ok-visit_leaf-in-Leaf-clause-links t c =
     let flat = c.args.flat.now in
     leaf_grown (written_in flat) (own_in flat) (group_in flat) c.args.own (part c.args.place.now c.args.step.now) (plain_view c.in-Leaf.plain) c.args.links.now (leaf_shows c.requires.at c.in_ok-content.ensures c.in-Leaf.is)
+
+pub walk_target-returns-in-Some : goal.walk_target-returns-in-Some
+walk_target-returns-in-Some t c =
+    let flat = c.args.flat.now in
+    let f = c.args.spot.token.now in
+    let k : IsLiteralVisit c.args.trace.now c.visit_literal.new.self c.args.spot.place f.def (plain_view c.in-Some.plain) = search rules in
+    let found = literal_visited flat f c.requires.at.stands k in
+    record {
+      seen = visited_clean flat f k found;
+      means = found.means;
+      kind = found.kind _ c.kind_here.ensures;
+      links = refl;
+      branch = c.in_ok-plain.ensures.branch;
+    }

@@ -14,6 +14,9 @@ decreases-walk l = 8 * (suc most_on_branch - length l.trace.now.places.items)
 abbrev pub decreases-walk_on : goal.decreases-walk_on
 decreases-walk_on l = 8 * (suc most_on_branch - length l.trace.now.places.items) + 3
 
+abbrev pub decreases-walk_target : goal.decreases-walk_target
+decreases-walk_target l = 8 * (suc most_on_branch - length l.trace.now.places.items) + 1
+
 abbrev pub decreases-walk_items : goal.decreases-walk_items
 decreases-walk_items l = 8 * (suc most_on_branch - length l.trace.now.places.items) + 2
 
