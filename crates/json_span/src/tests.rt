@@ -7,7 +7,7 @@ use crate::objects::MANY;
 use crate::spanned::{FIFTH, FIRST, FOURTH, SECOND, SIXTH, THIRD};
 use crate::texts::{DUP, LEVELS, READ, SYNTAX};
 use crate::{
-    JsonFault, Node, NodeRef, Plain, PlainField, PlainFields, PlainItems, ValueType, read,
+    Field, JsonFault, Node, NodeRef, Plain, PlainField, PlainFields, PlainItems, ValueType, read,
     write_string, write_string_bytes, write_string_inside,
 };
 use std::alloc::Global;
@@ -15,7 +15,7 @@ use std::marker::Brand;
 use std::str;
 use std::sync::ledger::{Blank, Ledger};
 use std::test::Fail;
-use tk_io::{Bytes, Steps, Text};
+use tk_io::{Bytes, NoMemory, Steps, Text};
 
 fn read_by<'s, L: Ledger>(alloc: Global, text: &'s [u8], page: Blank) -> Result<Node<'s>, JsonFault>
     requires page { (page.name ≡ L.name) × (page.parts ≡ L.parts) × (0 < L.parts) }
@@ -82,18 +82,22 @@ fn equal_names_of_many(rt: HostRuntime) {
     }
 }
 
+/// The pieces, each as many times as it says.
+fn repeated(alloc: Global, pieces: &[(&str, usize)]) -> Result<Vec<u8>, Fail> {
+    let mut text = Vec::new(alloc);
+    for (piece, times) in pieces {
+        push_times(piece, *times, &mut text)?;
+    }
+    Ok(text)
+}
+
 #[test]
 fn levels(rt: HostRuntime) -> Result<(), Fail> {
     for (first, open, inside, close, last, expected) in &LEVELS {
-        let mut text = Vec::new(rt.alloc());
-        text.extend_from_slice(first.as_bytes())?;
-        push_times(open.0, open.1, &mut text)?;
-        text.extend_from_slice(inside.as_bytes())?;
-        push_times(close.0, close.1, &mut text)?;
-        text.extend_from_slice(last.as_bytes())?;
-        assert_eq!(rt;
-            fault(rt.alloc(), &text),
-            *expected,
+        let pieces = [(*first, 1), *open, (*inside, 1), *close, (*last, 1)];
+        let text = repeated(rt.alloc(), &pieces)?;
+        assert!(rt;
+            fault(rt.alloc(), &text) == *expected,
             "{first}{}{inside}{}{last}",
             open.1,
             close.1
@@ -106,15 +110,15 @@ fn levels(rt: HostRuntime) -> Result<(), Fail> {
 fn open_brackets(rt: HostRuntime) -> Result<(), Fail> {
     let mut text = Vec::new(rt.alloc());
     push_times("[", 100000, &mut text)?;
-    assert_eq!(rt; fault(rt.alloc(), &text), Some(JsonFault::Syntax(100000)));
+    assert!(rt; fault(rt.alloc(), &text) == Some(JsonFault::Syntax(100000)));
     push_times("]", 100000, &mut text)?;
-    assert_eq!(rt; fault(rt.alloc(), &text), Some(JsonFault::Deep(64, 65)));
+    assert!(rt; fault(rt.alloc(), &text) == Some(JsonFault::Deep(64, 65)));
     Ok(())
 }
 
-#[test]
-fn many_members(rt: HostRuntime) -> Result<(), Fail> {
-    let mut text = Vec::new(rt.alloc());
+/// The beginning of an object: 500,000 names, and the empty name last.
+fn many_names(alloc: Global) -> Result<Vec<u8>, Fail> {
+    let mut text = Vec::new(alloc);
     text.push(b'{')?;
     for i in 0..500000u32 {
         text.push(b'"')?;
@@ -124,27 +128,52 @@ fn many_members(rt: HostRuntime) -> Result<(), Fail> {
         }
         text.extend_from_slice(br#"":0,"#)?;
     }
-    text.extend_from_slice(br#""":0}"#)?;
-    assert_eq!(rt; fault(rt.alloc(), &text), None);
-    // A name again, by an escape.
-    text.pop();
-    text.extend_from_slice(br#","99999\u0034":0}"#)?;
-    let end = text.len().saturating_sub(3);
-    let start = end.saturating_sub(13);
-    assert_eq!(rt; fault(rt.alloc(), &text), Some(JsonFault::Dup(start, end)));
+    text.extend_from_slice(br#""":0"#)?;
+    Ok(text)
+}
+
+#[test]
+fn many_members(rt: HostRuntime) -> Result<(), Fail> {
+    let mut text = many_names(rt.alloc())?;
+    text.push(b'}')?;
+    assert!(rt; fault(rt.alloc(), &text).is_none());
     Ok(())
 }
 
 #[test]
-fn long_string(rt: HostRuntime) -> Result<(), Fail> {
-    let mut text = Vec::new(rt.alloc());
-    text.push(b'"')?;
-    for _ in 0..60000u32 {
-        text.extend_from_slice(&[b'a'; 1000])?;
+fn equal_name_behind_many(rt: HostRuntime) -> Result<(), Fail> {
+    let mut text = many_names(rt.alloc())?;
+    // A name again, by an escape.
+    text.extend_from_slice(br#","99999\u0034":0}"#)?;
+    let end = text.len().saturating_sub(3);
+    let start = end.saturating_sub(13);
+    assert!(rt; fault(rt.alloc(), &text) == Some(JsonFault::Dup(start, end)));
+    Ok(())
+}
+
+/// The pieces with a thousand times as many of a byte between them.
+fn long_text(
+    alloc: Global,
+    first: &str,
+    byte: u8,
+    thousands: u32,
+    last: &str,
+) -> Result<Vec<u8>, Fail> {
+    let mut text = Vec::new(alloc);
+    text.extend_from_slice(first.as_bytes())?;
+    for _ in 0..thousands {
+        text.extend_from_slice(&[byte; 1000])?;
     }
-    assert_eq!(rt; fault(rt.alloc(), &text), Some(JsonFault::Syntax(60000001)));
+    text.extend_from_slice(last.as_bytes())?;
+    Ok(text)
+}
+
+#[test]
+fn long_string(rt: HostRuntime) -> Result<(), Fail> {
+    let mut text = long_text(rt.alloc(), "\"", b'a', 60000, "")?;
+    assert!(rt; fault(rt.alloc(), &text) == Some(JsonFault::Syntax(60000001)));
     text.push(b'"')?;
-    assert_eq!(rt; fault(rt.alloc(), &text), None);
+    assert!(rt; fault(rt.alloc(), &text).is_none());
     Ok(())
 }
 
@@ -154,15 +183,9 @@ static LONG: [(&str, usize); 2] = [("\u{1f}", 1000006), (r"\q", 1000007)];
 #[test]
 fn long_string_refused(rt: HostRuntime) -> Result<(), Fail> {
     for (end, at) in &LONG {
-        let mut text = Vec::new(rt.alloc());
-        text.extend_from_slice(br#"{"a":""#)?;
-        for _ in 0..1000u32 {
-            text.extend_from_slice(&[b'x'; 1000])?;
-        }
-        text.extend_from_slice(end.as_bytes())?;
-        assert_eq!(rt;
-            fault(rt.alloc(), &text),
-            Some(JsonFault::Syntax(*at)),
+        let text = long_text(rt.alloc(), r#"{"a":""#, b'x', 1000, end)?;
+        assert!(rt;
+            fault(rt.alloc(), &text) == Some(JsonFault::Syntax(*at)),
             "{end}"
         );
     }
@@ -212,30 +235,42 @@ fn push_span(
     Ok(())
 }
 
+/// Writes the spans of a level's values, and answers the level below.
+fn push_level<'d, 's>(
+    alloc: Global,
+    level: &Level<'d, 's>,
+    out: &mut String,
+) -> Result<Level<'d, 's>, Fail> {
+    let mut below: Level<'d, 's> = Vec::new(alloc);
+    for (name, name_end, node) in level.as_slice() {
+        push_span(alloc, *name, *name_end, *node, out)?;
+        push_parts(*node, &mut below)?;
+    }
+    Ok(below)
+}
+
 fn spans_of(alloc: Global, root: &Node<'_>) -> Result<String, Fail> {
     let mut out = String::new(alloc);
     let mut level: Level<'_, '_> = Vec::new(alloc);
     level.push((0, 0, root.as_ref()))?;
     for _ in 0..4u32 {
-        let mut next: Level<'_, '_> = Vec::new(alloc);
-        for (name, name_end, node) in level.as_slice() {
-            push_span(alloc, *name, *name_end, *node, &mut out)?;
-            push_parts(*node, &mut next)?;
-        }
-        level = next;
+        level = push_level(alloc, &level, &mut out)?;
     }
     Ok(out)
 }
 
+fn has_spans(alloc: Global, text: &str, expected: &str) -> Result<bool, Fail> {
+    let Ok(node) = root(alloc, text.as_bytes()) else {
+        return Ok(false);
+    };
+    let found = spans_of(alloc, &node)?;
+    Ok(found.as_str() == expected)
+}
+
 /// The number of the first text whose spans are others.
 fn other_spans(alloc: Global, table: &[(&str, &str)]) -> Result<Option<usize>, Fail> {
-    for i in 0..table.len() {
-        let (text, expected) = table[i];
-        let Ok(node) = root(alloc, text.as_bytes()) else {
-            return Ok(Some(i));
-        };
-        let found = spans_of(alloc, &node)?;
-        if found.as_str() != expected {
+    for (i, (text, expected)) in table.iter().enumerate() {
+        if !has_spans(alloc, text, expected)? {
             return Ok(Some(i));
         }
     }
@@ -278,56 +313,97 @@ fn spans_of_sixth(rt: HostRuntime) -> Result<(), Fail> {
     Ok(())
 }
 
-/// Each call once, on one text.
-fn parts(alloc: Global) -> Option<(usize, usize, usize, usize)> {
-    let text = r#" { "b" : null , "é" : [ 1.50, true, "x\n\ud83d\ude00" ], "\u00e9\u0065": {} } "#;
-    let node = root(alloc, text.as_bytes()).ok()?;
-    let kept = node.copy().ok()?;
-    let mut fields = kept.as_object()?;
+/// A text on which each call is tried once.
+const PARTS: &str =
+    r#" { "b" : null , "é" : [ 1.50, true, "x\n\ud83d\ude00" ], "\u00e9\u0065": {} } "#;
+
+fn is_name(alloc: Global, field: Field<'_, '_>, name: &str) -> bool {
+    match field.name(alloc) {
+        Ok(found) => found.as_str() == name,
+        Err(_) => false,
+    }
+}
+
+fn is_text(alloc: Global, node: NodeRef<'_, '_>, text: &str) -> bool {
+    match node.as_text(alloc) {
+        Ok(Some(found)) => found.as_str() == text,
+        _ => false,
+    }
+}
+
+fn is_no_text(alloc: Global, node: NodeRef<'_, '_>) -> bool {
+    matches!(node.as_text(alloc), Ok(None))
+}
+
+/// Whether the first of the members is "b" with null, two follow it, and the last is found by its name.
+fn has_members(alloc: Global, object: NodeRef<'_, '_>) -> Option<bool> {
+    let mut fields = object.as_object()?;
     let first = fields.next()?;
-    if fields.len() != 2 || !first.value().is_null() || first.name(alloc).ok()?.as_str() != "b" {
-        return None;
-    }
-    let last = kept.as_object()?.get("ée")?;
-    if last.value_type() != ValueType::Object || last.as_array().is_some() {
-        return None;
-    }
-    let list = kept.as_object()?.get("é")?.node().ok()?;
+    let begins = fields.len() == 2 && first.value().is_null() && is_name(alloc, first, "b");
+    let last = fields.get("ée")?;
+    let ends = last.value_type() == ValueType::Object && last.as_array().is_none();
+    Some(begins && ends && object.as_object()?.get("a").is_none())
+}
+
+/// The span of the last of three items, where they are what the text says.
+fn last_item(alloc: Global, list: NodeRef<'_, '_>) -> Option<(usize, usize)> {
     let mut items = list.as_array()?;
-    let parts = items.len();
+    if items.len() != 3 {
+        return None;
+    }
     let (number, truth, characters) = (items.next()?, items.next()?, items.next()?);
-    if number.as_number()? != "1.50" || !truth.as_bool()? || items.next().is_some() || parts != 3 {
+    if number.as_number()? != "1.50" || !truth.as_bool()? || items.next().is_some() {
         return None;
     }
-    if characters.as_text(alloc).ok()??.as_str() != "x\n😀" || characters.as_number().is_some() {
+    if !is_text(alloc, characters, "x\n😀") || characters.as_number().is_some() {
         return None;
     }
-    if number.as_text(alloc).ok()?.is_some() || kept.as_object()?.get("a").is_some() {
+    if !is_no_text(alloc, number) {
+        return None;
+    }
+    Some((characters.start(), characters.end()))
+}
+
+/// The span of the text's list's last item, by a copy of the list.
+fn last_of_list(alloc: Global, object: NodeRef<'_, '_>) -> Option<(usize, usize)> {
+    let list = object.as_object()?.get("é")?.node().ok()?;
+    last_item(alloc, list.as_ref())
+}
+
+/// The spans of the whole and of the list's last item.
+fn parts(alloc: Global) -> Option<((usize, usize), (usize, usize))> {
+    let node = root(alloc, PARTS.as_bytes()).ok()?;
+    let kept = node.copy().ok()?;
+    if !has_members(alloc, kept.as_ref())? {
         return None;
     }
     Some((
-        kept.start(),
-        kept.end(),
-        characters.start(),
-        characters.end(),
+        (kept.start(), kept.end()),
+        last_of_list(alloc, kept.as_ref())?,
     ))
+}
+
+/// How long the number or the text is; 0 where it is neither.
+fn length(alloc: Global, node: NodeRef<'_, '_>) -> Option<usize> {
+    if let Some(number) = node.as_number() {
+        return Some(number.len());
+    }
+    match node.as_text(alloc) {
+        Ok(Some(text)) => Some(text.as_str().len()),
+        Ok(None) => Some(0),
+        Err(_) => None,
+    }
 }
 
 fn leaf(alloc: Global, text: &str) -> Option<(ValueType, Option<bool>, bool, usize)> {
     let node = root(alloc, text.as_bytes()).ok()?;
-    let spelling = node.as_number().map(|number| number.len());
-    let characters = node.as_text(alloc).ok()?.map(|text| text.as_str().len());
-    Some((
-        node.value_type(),
-        node.as_bool(),
-        node.is_null(),
-        spelling.or(characters).unwrap_or(0),
-    ))
+    let length = length(alloc, node.as_ref())?;
+    Some((node.value_type(), node.as_bool(), node.is_null(), length))
 }
 
 #[test]
 fn handles(rt: HostRuntime) {
-    assert_eq!(rt; parts(rt.alloc()), Some((1, 78, 37, 54)));
+    assert_eq!(rt; parts(rt.alloc()), Some(((1, 78), (37, 54))));
     for (text, expected) in [
         ("true", (ValueType::Boolean, Some(true), false, 0)),
         ("false", (ValueType::Boolean, Some(false), false, 0)),
@@ -341,10 +417,8 @@ fn handles(rt: HostRuntime) {
     }
 }
 
-/// Each call on a plain value once.
-fn plain_parts(alloc: Global) -> Option<(usize, bool, usize)> {
-    let text = r#" { "b" : null , "é" : [ 1.50, true, "x\n\ud83d\ude00" ], "\u00e9\u0065": {} } "#;
-    let plain = root(alloc, text.as_bytes()).ok()?.to_plain(alloc).ok()?;
+/// How many items the list has, its truth, and how many members the last object has, where they are what the text says.
+fn parts_of_plain(plain: &Plain<'_>) -> Option<(usize, bool, usize)> {
     let members = plain.as_object()?;
     let (first, list, last) = (members.at(0)?, members.at(1)?, members.at(2)?);
     if !matches!(first.value, Plain::Null) || last.name.as_str() != "ée" || members.len() != 3 {
@@ -364,40 +438,69 @@ fn plain_parts(alloc: Global) -> Option<(usize, bool, usize)> {
     Some((items.len(), truth.as_bool()?, last.value.as_object()?.len()))
 }
 
+/// Each call on a plain value once.
+fn plain_parts(alloc: Global) -> Option<(usize, bool, usize)> {
+    let plain = root(alloc, PARTS.as_bytes()).ok()?.to_plain(alloc).ok()?;
+    parts_of_plain(&plain)
+}
+
 #[test]
 fn plain_values(rt: HostRuntime) {
     assert_eq!(rt; plain_parts(rt.alloc()), Some((3, true, 0)));
 }
 
-#[test]
-fn written_strings(rt: HostRuntime) {
-    let mut out = Bytes::new(rt.alloc());
-    assert!(rt; write_string("a\"\\\u{1}\u{1f}é", &mut out).is_ok());
-    assert_eq!(rt; out.as_slice(), r#""a\"\\\u0001\u001fé""#.as_bytes());
-    assert!(rt; write_string_bytes(br#"/""#, &mut out).is_ok());
-    assert_eq!(rt; out.as_slice(), r#""a\"\\\u0001\u001fé""/\"""#.as_bytes());
-    let mut inside = Bytes::new(rt.alloc());
-    assert!(rt; write_string_inside("\u{1f}a", &mut inside).is_ok());
-    assert!(rt; inside.append(b".").is_ok());
-    assert!(rt; write_string_inside(r#""é"#, &mut inside).is_ok());
-    assert_eq!(rt; inside.as_slice(), r#"\u001fa.\"é"#.as_bytes());
+fn strings_are_written(alloc: Global) -> Result<bool, NoMemory> {
+    let mut out = Bytes::new(alloc);
+    write_string("a\"\\\u{1}\u{1f}é", &mut out)?;
+    write_string_bytes(br#"/""#, &mut out)?;
+    Ok(out.as_slice() == r#""a\"\\\u0001\u001fé""/\"""#.as_bytes())
+}
+
+fn insides_are_written(alloc: Global) -> Result<bool, NoMemory> {
+    let mut out = Bytes::new(alloc);
+    write_string_inside("\u{1f}a", &mut out)?;
+    out.append(b".")?;
+    write_string_inside(r#""é"#, &mut out)?;
+    Ok(out.as_slice() == r#"\u001fa.\"é"#.as_bytes())
 }
 
 #[test]
-fn plain_lists(rt: HostRuntime) {
-    let mut plains = PlainItems::new(rt.alloc());
-    assert!(rt; plains.is_empty());
-    assert!(rt; plains.push(Plain::Num("1")).is_ok());
-    assert_eq!(rt; (plains.is_empty(), plains.as_slice().len()), (false, 1));
-    assert!(rt; plains.at(0).is_some() && plains.at(1).is_none());
+fn written_strings(rt: HostRuntime) -> Result<(), Fail> {
+    assert!(rt; strings_are_written(rt.alloc())?);
+    assert!(rt; insides_are_written(rt.alloc())?);
+    Ok(())
+}
+
+fn is_one_item(items: &PlainItems<'_>) -> bool {
+    let one = items.len() == 1 && items.as_slice().len() == 1 && !items.is_empty();
+    one && items.at(0).is_some() && items.at(1).is_none()
+}
+
+fn is_one_member(members: &PlainFields<'_>, name: &str) -> bool {
+    let one = members.len() == 1 && members.as_slice().len() == 1 && !members.is_empty();
+    match members.at(0) {
+        Some(member) => one && member.name.as_str() == name,
+        None => false,
+    }
+}
+
+#[test]
+fn plain_lists(rt: HostRuntime) -> Result<(), Fail> {
+    let mut items = PlainItems::new(rt.alloc());
+    assert!(rt; items.is_empty());
+    items.push(Plain::Num("1"))?;
+    assert!(rt; is_one_item(&items));
+    Ok(())
+}
+
+#[test]
+fn plain_objects(rt: HostRuntime) -> Result<(), Fail> {
     let mut members = PlainFields::new(rt.alloc());
-    let member = PlainField {
+    assert!(rt; members.is_empty());
+    members.push(PlainField {
         name: Text::of("b"),
         value: Plain::Null,
-    };
-    assert!(rt; members.is_empty());
-    assert!(rt; members.push(member).is_ok());
-    assert_eq!(rt; (members.is_empty(), members.as_slice().len()), (false, 1));
-    assert_eq!(rt; members.at(0).map(|member| member.name.as_str()), Some("b"));
-    assert_eq!(rt; (plains.len(), members.len()), (1, 1));
+    })?;
+    assert!(rt; is_one_member(&members, "b"));
+    Ok(())
 }
