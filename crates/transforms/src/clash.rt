@@ -49,8 +49,10 @@ impl<'s> Clash<'s> {
     /// Adds the names of the token at the path. Where one of them is there, the answer is the path under which the first of
     /// these was added, and nothing is added. Where memory runs out nothing is added.
     pub fn add(&mut self, path: &Path<'s>, names: &[&[u8]]) -> Result<Option<Path<'s>>, NoMemory>
-        ensures answer { IfOk result (λ answer. answer ≡ first_taken self.old (map (λ name. name.now) names.now)) }
-        ensures leaves { IfOk result (Leaves self.old (map (λ name. name.now) names.now) path.now self.new) }
+        ensures answer { IfOk result (λ answer. answer
+            ≡ first_taken self.old (map (λ name. name.now) names.now)) }
+        ensures leaves { IfOk result
+            (Leaves self.old (map (λ name. name.now) names.now) path.now self.new) }
         ensures err { OnErr result (self.new ≡ self.old) }
     {
         if let Some(other) = self.first_taken(names) {
@@ -97,8 +99,10 @@ impl<'s> Clash<'s> {
 
     /// Adds the names one after another. Where memory runs out some of them may be there.
     fn put_all(&mut self, path: &Path<'s>, names: &[&[u8]]) -> Result<(), NoMemory>
-        ensures ok { OnOk result (self.new ≡ with_names self.old (map (λ name. name.now) names.now) path.now) }
-        ensures err { OnErr result (SameElsewhere self.old self.new (map (λ name. name.now) names.now)) }
+        ensures ok { OnOk result (self.new
+            ≡ with_names self.old (map (λ name. name.now) names.now) path.now) }
+        ensures err { OnErr result
+            (SameElsewhere self.old self.new (map (λ name. name.now) names.now)) }
     {
         for name in names {
             self.put(name, path)?;
