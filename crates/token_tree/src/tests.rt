@@ -124,7 +124,7 @@ fn fault_of(alloc: Global, text: &[u8]) -> Option<ShapeFault> {
 fn shapes(rt: HostRuntime) {
     for (text, broken) in &FILES {
         let wanted = broken.map(|b| ShapeFault::Broken(b.0, b.1, b.2));
-        assert_eq!(rt; fault_of(rt.alloc(), text.as_bytes()), wanted, "{text}");
+        assert!(rt; fault_of(rt.alloc(), text.as_bytes()) == wanted, "{text}");
     }
 }
 
@@ -161,52 +161,79 @@ fn group<'a, 's>(members: &'a Members<'s>, name: &'s str) -> Option<&'a Group<'s
     }
 }
 
+fn is_because(mark: &Option<Mark<'_>>, reason: &str) -> bool {
+    matches!(mark, Some(Mark::Because(text)) if text.as_str() == reason)
+}
+
+/// Whether these are the names, in this order, by `at` and in the list.
+fn are_names(members: &Members<'_>, names: &[&str]) -> bool {
+    let list = members.as_slice();
+    for (i, name) in names.iter().enumerate() {
+        match (members.at(i), list.get(i)) {
+            (Some((first, _)), Some(member)) if first.as_str() == *name => {
+                if member.name.as_str() != *name {
+                    return false;
+                }
+            }
+            _ => return false,
+        }
+    }
+    members.len() == names.len() && list.len() == names.len()
+}
+
+fn root_is_read(root: &Group<'_>) -> bool {
+    let alone = root.kind == Some(Kind::Color) && root.extends.is_none();
+    alone && is_because(&root.deprecated, "old") && are_names(&root.members, &["$root", "a", "b"])
+}
+
+/// Whether "a" is an empty group that extends the one of the file.
+fn a_is_read(root: &Group<'_>) -> Option<bool> {
+    let a = group(&root.members, "a")?;
+    let extends = a.extends.as_ref()?;
+    let placed = (extends.file, extends.start, extends.end) == ("t", 182, 189);
+    let named = extends.target.at(1)?.as_str() == "c";
+    let empty = a.kind.is_none() && a.members.is_empty();
+    Some(placed && named && empty && matches!(a.deprecated, Some(Mark::No)))
+}
+
 #[test]
 fn groups(rt: HostRuntime) -> Result<(), Fail> {
     let root = file(rt.alloc()).expect(&rt, "the file has a shape");
-    assert_eq!(rt; root.kind, Some(Kind::Color));
-    assert!(rt; matches!(&root.deprecated, Some(Mark::Because(text)) if text.as_str() == "old"));
-    assert!(rt; root.extends.is_none());
-    let names = ["$root", "a", "b"];
-    assert_eq!(rt; root.members.len(), names.len());
-    let list = root.members.as_slice();
-    for (i, name) in names.iter().enumerate() {
-        assert_eq!(rt; root.members.at(i).map(|e| e.0.as_str()), Some(*name));
-        assert_eq!(rt; list.get(i).map(|member| member.name.as_str()), Some(*name));
-    }
-    let inner = group(&root.members, "a").expect(&rt, "a is a group");
-    assert!(rt; matches!(inner.deprecated, Some(Mark::No)) && inner.kind.is_none());
-    assert!(rt; inner.members.is_empty());
-    let extends = inner.extends.as_ref().expect(&rt, "a extends a group");
-    assert_eq!(rt; (extends.file, extends.start, extends.end), ("t", 182, 189));
-    assert_eq!(rt; extends.target.at(1).map(|name| name.as_str()), Some("c"));
+    assert!(rt; root_is_read(&root));
+    assert!(rt; a_is_read(&root) == Some(true));
     Ok(())
+}
+
+/// Whether "b" is read, with each of its properties.
+fn b_is_read(root: &Group<'_>) -> Option<bool> {
+    let b = token(&root.members, "b")?;
+    b.keeps();
+    let placed = (b.file, b.start, b.end) == ("t", 41, 142) && b.source == &FILE[41..142];
+    let valued = (b.value.start(), b.value.end(), b.by_ref) == (51, 64, false);
+    let typed = b.value.as_array().is_some() && b.kind == Some(Kind::Number);
+    let said = b.description.as_ref()?.as_str() == "d" && b.extensions == Some(r#"{"e":1}"#);
+    Some(placed && valued && typed && said && matches!(b.deprecated, Some(Mark::Yes)))
+}
+
+fn is_text(alloc: Global, value: &Node<'_>, text: &str) -> bool {
+    match value.as_text(alloc) {
+        Ok(Some(found)) => found.as_str() == text,
+        _ => false,
+    }
+}
+
+/// Whether the root's own token is a reference to "b".
+fn root_token_is_read(alloc: Global, root: &Group<'_>) -> Option<bool> {
+    let def = token(&root.members, "$root")?;
+    let valued = (def.value.start(), def.value.end(), def.by_ref) == (159, 164, true);
+    Some(valued && is_text(alloc, &def.value, "#/b"))
 }
 
 #[test]
 fn tokens(rt: HostRuntime) -> Result<(), Fail> {
     let root = file(rt.alloc()).expect(&rt, "the file has a shape");
-    let b = token(&root.members, "b").expect(&rt, "b is a token");
-    b.keeps();
-    assert_eq!(rt; (b.file, b.start, b.end), ("t", 41, 142));
-    assert_eq!(rt; b.source, &FILE[41..142]);
-    assert_eq!(rt; (b.value.start(), b.value.end(), b.by_ref), (51, 64, false));
-    assert!(rt; b.value.as_array().is_some());
-    assert_eq!(rt; b.kind, Some(Kind::Number));
-    assert_eq!(rt; b.description.as_ref().map(|text| text.as_str()), Some("d"));
-    assert_eq!(rt; b.extensions, Some(r#"{"e":1}"#));
-    assert!(rt; matches!(b.deprecated, Some(Mark::Yes)));
-    let root_token = token(&root.members, "$root").expect(&rt, "the root has a token");
-    assert_eq!(rt;
-        (
-            root_token.value.start(),
-            root_token.value.end(),
-            root_token.by_ref
-        ),
-        (159, 164, true)
-    );
-    let reference = root_token.value.as_text(rt.alloc())?;
-    assert_eq!(rt; reference.as_ref().map(|text| text.as_str()), Some("#/b"));
+    assert!(rt; b_is_read(&root) == Some(true));
+    assert!(rt; root_token_is_read(rt.alloc(), &root) == Some(true));
     Ok(())
 }
 
@@ -233,38 +260,87 @@ static PUT: [(&str, Kind); 5] = [
     ("m", Kind::Shadow),
 ];
 
+fn put<'s>(
+    members: &mut Members<'s>,
+    alloc: Global,
+    name: &'s str,
+    kind: Kind,
+) -> Result<(), NoMemory> {
+    let group = typed(alloc, kind)?;
+    members.put(&Text::of(name), group)
+}
+
+/// Whether these are the names, in this order, each of a group of the kind.
+fn are_kinds(members: &Members<'_>, kinds: &[(&'static str, Kind)]) -> bool {
+    for (i, (name, kind)) in kinds.iter().enumerate() {
+        match members.at(i) {
+            Some((found, _)) if found.as_str() == *name => {
+                if kind_under(members, name) != Some(*kind) {
+                    return false;
+                }
+            }
+            _ => return false,
+        }
+    }
+    members.len() == kinds.len()
+}
+
+static FOUR: [(&str, Kind); 4] = [
+    ("a", Kind::Duration),
+    ("b", Kind::Border),
+    ("m", Kind::Shadow),
+    ("z", Kind::Number),
+];
+
+static FIVE: [(&str, Kind); 5] = [
+    ("a", Kind::Duration),
+    ("b", Kind::Border),
+    ("c", Kind::Gradient),
+    ("m", Kind::Shadow),
+    ("z", Kind::Number),
+];
+
 #[test]
 fn members(rt: HostRuntime) -> Result<(), Fail> {
     let mut members = Members::new(rt.alloc());
     for (name, kind) in &PUT {
-        members.put(&Text::of(name), typed(rt.alloc(), *kind)?)?;
+        put(&mut members, rt.alloc(), name, *kind)?;
     }
     let kept = members.copy()?;
-    members.put(&Text::of("c"), typed(rt.alloc(), Kind::Gradient)?)?;
-    assert_eq!(rt; (kept.len(), members.len()), (4, 5));
-    assert_eq!(rt; kind_under(&members, "c"), Some(Kind::Gradient));
-    assert_eq!(rt; kind_under(&kept, "c"), None);
-    assert_eq!(rt; kind_under(&kept, "m"), Some(Kind::Shadow));
-    for (i, name) in ["a", "b", "c", "m", "z"].iter().enumerate() {
-        assert_eq!(rt; members.at(i).map(|e| e.0.as_str()), Some(*name));
-    }
+    put(&mut members, rt.alloc(), "c", Kind::Gradient)?;
+    assert!(rt; are_kinds(&members, &FIVE));
+    assert!(rt; are_kinds(&kept, &FOUR));
+    assert!(rt; kind_under(&kept, "c").is_none());
     Ok(())
+}
+
+/// Where the target of "a" stands, by a copy of the member and one of its group.
+fn target_in_copies(root: &Group<'_>) -> Result<Option<(usize, usize)>, NoMemory> {
+    let Some(a) = root.members.as_slice().get(1) else {
+        return Ok(None);
+    };
+    let again = a.copy()?;
+    let Child::Group(inner) = &again.child else {
+        return Ok(None);
+    };
+    let inner = inner.copy()?;
+    match &inner.extends {
+        Some(extends) => Ok(Some((extends.start, extends.end))),
+        None => Ok(None),
+    }
+}
+
+fn start_of(root: &Group<'_>, name: &'static str) -> Option<usize> {
+    let def = token(&root.members, name)?;
+    Some(def.start)
 }
 
 #[test]
 fn copies(rt: HostRuntime) -> Result<(), Fail> {
     let root = file(rt.alloc()).expect(&rt, "the file has a shape");
     let copy = root.copy()?;
-    assert!(rt; matches!(&copy.deprecated, Some(Mark::Because(text)) if text.as_str() == "old"));
-    let a = copy.members.as_slice().get(1).expect(&rt, "a is a member");
-    let again = a.copy()?;
-    let Child::Group(inner) = &again.child else {
-        panic!(rt; "a is a group");
-    };
-    let inner = inner.copy()?;
-    let extends = inner.extends.as_ref().expect(&rt, "a extends a group");
-    assert_eq!(rt; (extends.start, extends.end), (182, 189));
-    let b = token(&copy.members, "b").expect(&rt, "b is a token");
-    assert_eq!(rt; b.start, 41);
+    assert!(rt; is_because(&copy.deprecated, "old"));
+    assert!(rt; target_in_copies(&copy)? == Some((182, 189)));
+    assert!(rt; start_of(&copy, "b") == Some(41));
     Ok(())
 }
