@@ -7,7 +7,7 @@ use json_span::{Plain, PlainField, PlainFields, PlainItems};
 use name_path::Kind;
 use std::alloc::Global;
 use std::test::Fail;
-use tk_io::{NoMemory, Text};
+use tk_io::{NoMemory, Sequence, Text};
 
 /// A number, a text, or a list of numbers.
 #[derive(Clone, Copy)]
@@ -58,43 +58,85 @@ const COLOR: [(&str, Leaf<'static>); 3] = [
     ("hex", Leaf::Word("#00AAff")),
 ];
 
-#[test]
-fn simple_values(rt: HostRuntime) -> Result<(), Fail> {
-    let alloc = rt.alloc();
+fn size_is_read(alloc: Global) -> Result<bool, NoMemory> {
     let size = Plain::Obj(object(alloc, &SIZE)?);
-    let size = check_simple(alloc, Kind::Dimension, &size).ok();
-    assert!(rt;
-        matches!(&size, Some(Simple::Dimension(size)) if size.unit == SizeUnit::Rem && size.value == Dec::whole(2))
-    );
-    if let Some(size) = &size {
-        assert_eq!(rt; size.kind(), Kind::Dimension);
-    }
+    let found = check_simple(alloc, Kind::Dimension, &size);
+    Ok(matches!(&found, Ok(found) if found.kind() == Kind::Dimension && is_two_rem(found)))
+}
+
+fn is_two_rem(found: &Simple<'_>) -> bool {
+    matches!(found, Simple::Dimension(size) if size.unit == SizeUnit::Rem && size.value == Dec::whole(2))
+}
+
+fn time_is_read(alloc: Global) -> Result<bool, NoMemory> {
     let time = Plain::Obj(object(alloc, &TIME)?);
-    let time = check_simple(alloc, Kind::Duration, &time).ok();
-    assert!(rt;
-        matches!(&time, Some(Simple::Duration(time)) if time.unit == TimeUnit::S && time.value == Dec::whole(2))
-    );
+    let found = check_simple(alloc, Kind::Duration, &time);
+    Ok(
+        matches!(&found, Ok(Simple::Duration(time)) if time.unit == TimeUnit::S && time.value == Dec::whole(2)),
+    )
+}
+
+fn color_is_read(alloc: Global) -> Result<bool, NoMemory> {
     let color = Plain::Obj(object(alloc, &COLOR)?);
-    let color = check_simple(alloc, Kind::Color, &color).ok();
-    assert!(rt;
-        matches!(&color, Some(Simple::Color(color)) if color.space == Space::Hsl && color.hex == Some(*b"00aaff"))
-    );
+    let found = check_simple(alloc, Kind::Color, &color);
+    Ok(
+        matches!(&found, Ok(Simple::Color(color)) if color.space == Space::Hsl && color.hex == Some(*b"00aaff")),
+    )
+}
+
+fn curve_is_read(alloc: Global) -> Result<bool, NoMemory> {
     let curve = Plain::Arr(numbers(alloc, &["0", "2", "1", "2"])?);
-    let curve = check_simple(alloc, Kind::CubicBezier, &curve).ok();
-    assert!(rt;
-        matches!(&curve, Some(Simple::CubicBezier(curve)) if curve.x2 == Dec::whole(1) && curve.y2 == Dec::whole(2))
-    );
-    let weight = check_simple(alloc, Kind::FontWeight, &Plain::Str(Text::of("bold"))).ok();
-    assert!(rt; matches!(&weight, Some(Simple::FontWeight(weight)) if *weight == Dec::whole(700)));
-    let family = check_simple(alloc, Kind::FontFamily, &Plain::Str(Text::of("Inter"))).ok();
-    assert!(rt; matches!(&family, Some(Simple::FontFamily(families)) if families.len() == 1));
-    let number = check_simple(alloc, Kind::Number, &Plain::Num("2")).ok();
-    assert!(rt; matches!(&number, Some(Simple::Number(number)) if *number == Dec::whole(2)));
-    Ok(())
+    let found = check_simple(alloc, Kind::CubicBezier, &curve);
+    Ok(
+        matches!(&found, Ok(Simple::CubicBezier(curve)) if curve.x2 == Dec::whole(1) && curve.y2 == Dec::whole(2)),
+    )
+}
+
+fn is_one_family(alloc: Global, text: &str) -> bool {
+    let found = check_simple(alloc, Kind::FontFamily, &Plain::Str(Text::of(text)));
+    matches!(&found, Ok(Simple::FontFamily(families)) if families.len() == 1)
+}
+
+fn is_weight(alloc: Global, text: &str, wanted: &Dec) -> bool {
+    let found = check_simple(alloc, Kind::FontWeight, &Plain::Str(Text::of(text)));
+    matches!(&found, Ok(Simple::FontWeight(weight)) if weight == wanted)
+}
+
+fn is_number(alloc: Global, spelling: &str, wanted: &Dec) -> bool {
+    let found = check_simple(alloc, Kind::Number, &Plain::Num(spelling));
+    matches!(&found, Ok(Simple::Number(number)) if number == wanted)
 }
 
 #[test]
-fn parts_and_lists(rt: HostRuntime) -> Result<(), Fail> {
+fn simple_values(rt: HostRuntime) -> Result<(), Fail> {
+    let alloc = rt.alloc();
+    assert!(rt; size_is_read(alloc)?);
+    assert!(rt; time_is_read(alloc)?);
+    assert!(rt; color_is_read(alloc)?);
+    assert!(rt; curve_is_read(alloc)?);
+    assert!(rt; is_one_family(alloc, "Inter"));
+    assert!(rt; is_weight(alloc, "bold", &Dec::whole(700)));
+    assert!(rt; is_number(alloc, "2", &Dec::whole(2)));
+    Ok(())
+}
+
+fn is_text_under<'s>(
+    alloc: Global,
+    members: &PlainFields<'s>,
+    name: &'s str,
+    wanted: &str,
+) -> bool {
+    let found = part_under::<Text>(alloc, members, name);
+    matches!(&found, Ok(text) if text.as_str() == wanted)
+}
+
+fn is_y1_under<'s>(alloc: Global, members: &PlainFields<'s>, name: &'s str, wanted: &Dec) -> bool {
+    let found = part_under::<Curve>(alloc, members, name);
+    matches!(&found, Ok(curve) if curve.y1 == *wanted)
+}
+
+#[test]
+fn parts_stand_under_names(rt: HostRuntime) -> Result<(), Fail> {
     let alloc = rt.alloc();
     let members = object(
         alloc,
@@ -105,42 +147,39 @@ fn parts_and_lists(rt: HostRuntime) -> Result<(), Fail> {
         ],
     )?;
     let two = Dec::whole(2);
-    assert_eq!(rt; part_under::<Dec>(alloc, &members, "n").ok(), Some(two));
-    assert_eq!(rt;
-        part_under::<Weight>(alloc, &members, "w").ok(),
-        Some(Dec::whole(700))
-    );
-    assert_eq!(rt;
-        part_under::<Text>(alloc, &members, "w")
-            .ok()
-            .map(|text| text.as_str().len()),
-        Some(4)
-    );
-    assert_eq!(rt;
-        part_under::<Curve>(alloc, &members, "b")
-            .ok()
-            .map(|curve| curve.y1),
-        Some(two)
-    );
+    assert!(rt; part_under::<Dec>(alloc, &members, "n").ok() == Some(two));
+    assert!(rt; part_under::<Weight>(alloc, &members, "w").ok() == Some(Dec::whole(700)));
+    assert!(rt; is_text_under(alloc, &members, "w", "bold"));
+    assert!(rt; is_y1_under(alloc, &members, "b", &two));
+    Ok(())
+}
+
+// How many numbers `each_part`, `list_of` and `some_of` read of the spellings; none where they refuse them.
+fn counts(alloc: Global, spellings: &[&str]) -> Result<[Option<usize>; 3], NoMemory> {
+    let items = numbers(alloc, spellings)?;
+    let each = count(each_part::<Dec>(alloc, &items));
+    let list = Plain::Arr(items);
+    Ok([
+        each,
+        count(list_of::<Dec>(alloc, &list)),
+        count(some_of::<Dec>(alloc, &list)),
+    ])
+}
+
+fn count(parts: Result<Sequence<Dec>, ValueFault<'_>>) -> Option<usize> {
+    match parts {
+        Ok(parts) => Some(parts.len()),
+        Err(_) => None,
+    }
+}
+
+#[test]
+fn parts_stand_in_lists(rt: HostRuntime) -> Result<(), Fail> {
+    let alloc = rt.alloc();
     let items = numbers(alloc, &["1", "2"])?;
-    assert_eq!(rt; part_at::<Dec>(alloc, &items, 1).ok(), Some(two));
-    assert_eq!(rt;
-        each_part::<Dec>(alloc, &items)
-            .ok()
-            .map(|parts| parts.len()),
-        Some(2)
-    );
-    let empty = Plain::Arr(PlainItems::new(alloc));
-    assert_eq!(rt;
-        list_of::<Dec>(alloc, &empty).ok().map(|parts| parts.len()),
-        Some(0)
-    );
-    assert!(rt; some_of::<Dec>(alloc, &empty).is_err());
-    let items = Plain::Arr(items);
-    assert_eq!(rt;
-        some_of::<Dec>(alloc, &items).ok().map(|parts| parts.len()),
-        Some(2)
-    );
+    assert!(rt; part_at::<Dec>(alloc, &items, 1).ok() == Some(Dec::whole(2)));
+    assert!(rt; counts(alloc, &["1", "2"])? == [Some(2), Some(2), Some(2)]);
+    assert!(rt; counts(alloc, &[])? == [Some(0), Some(0), None]);
     Ok(())
 }
 
