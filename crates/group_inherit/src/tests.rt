@@ -62,13 +62,13 @@ fn append_entry(out: &mut Bytes, path: &Path<'_>, entry: &Entry<'_>) -> Result<(
     out.append(b";")
 }
 
-/// The tokens of a flat tree, each as its path, its value, and what the groups around it say.
-fn text_of(alloc: Global, flat: &Flat<'_>) -> Result<Bytes, NoMemory> {
+/// Whether the flat tree has these tokens, each as its path, its value, and what the groups around it say.
+fn has_tokens(alloc: Global, flat: &Flat<'_>, tokens: &str) -> Result<bool, NoMemory> {
     let mut out = Bytes::new(alloc);
     for (path, entry) in flat.as_slice() {
         append_entry(&mut out, path, entry)?;
     }
-    Ok(out)
+    Ok(out.as_slice() == tokens.as_bytes())
 }
 
 /// A later tree, an earlier one, and the tokens of the one over the other.
@@ -125,27 +125,37 @@ fn laws_hold(_rt: HostRuntime) -> Result<(), Fail> {
     Ok(())
 }
 
-/// The tokens of one file's tree over another's; nothing where one of them has no shape.
-fn over_text(alloc: Global, later: &str, earlier: &str) -> Result<Bytes, NoMemory> {
+fn is_over<'s>(
+    alloc: Global,
+    later: &Group<'s>,
+    earlier: &Group<'s>,
+    tokens: &str,
+) -> Result<bool, NoMemory> {
+    let both = over(alloc, later, earlier)?;
+    let flat = flat_of(alloc, &both)?;
+    has_tokens(alloc, &flat, tokens)
+}
+
+/// Whether one file's tree over another's has these tokens.
+fn lies_over<'s>(
+    alloc: Global,
+    later: &'s str,
+    earlier: &'s str,
+    tokens: &str,
+) -> Result<bool, NoMemory> {
     let Some(later) = tree_of(alloc, later) else {
-        return Ok(Bytes::new(alloc));
+        return Ok(false);
     };
     let Some(earlier) = tree_of(alloc, earlier) else {
-        return Ok(Bytes::new(alloc));
+        return Ok(false);
     };
-    let both = over(alloc, &later, &earlier)?;
-    let flat = flat_of(alloc, &both)?;
-    text_of(alloc, &flat)
+    is_over(alloc, &later, &earlier, tokens)
 }
 
 #[test]
 fn lays_one_tree_over_another(rt: HostRuntime) -> Result<(), Fail> {
     for (later, earlier, tokens) in &OVER {
-        assert_eq!(rt;
-            over_text(rt.alloc(), later, earlier)?.as_slice(),
-            tokens.as_bytes(),
-            "{tokens}"
-        );
+        assert!(rt; lies_over(rt.alloc(), later, earlier, tokens)?, "{tokens}");
     }
     Ok(())
 }
@@ -192,18 +202,19 @@ fn append_fault(alloc: Global, out: &mut Bytes, fault: &TreeFault<'_>) -> Result
     }
 }
 
-/// The tokens of a file's flat tree, or the rule of extension that it breaks.
-fn outcome(alloc: Global, text: &str) -> Result<Bytes, NoMemory> {
+fn has_fault(alloc: Global, fault: &TreeFault<'_>, wanted: &str) -> Result<bool, NoMemory> {
     let mut out = Bytes::new(alloc);
+    append_fault(alloc, &mut out, fault)?;
+    Ok(out.as_slice() == wanted.as_bytes())
+}
+
+/// Whether a file's flat tree has these tokens, or breaks this rule of extension.
+fn has_outcome(alloc: Global, text: &str, wanted: &str) -> Result<bool, NoMemory> {
     let Some(tree) = tree_of(alloc, text) else {
-        out.append(b"no shape")?;
-        return Ok(out);
+        return Ok(false);
     };
     match flat_tree(alloc, &tree) {
-        Ok(flat) => text_of(alloc, &flat),
-        Err(fault) => {
-            append_fault(alloc, &mut out, &fault)?;
-            Ok(out)
-        }
+        Ok(flat) => has_tokens(alloc, &flat, wanted),
+        Err(fault) => has_fault(alloc, &fault, wanted),
     }
 }
