@@ -75,6 +75,13 @@ fn write_permutation(out: &mut Bytes, perm: &Perm<'_, '_>) -> Result<(), NoMemor
     out.append(b";")
 }
 
+fn write_all(out: &mut Bytes, perms: &Perms<'_, '_>) -> Result<(), NoMemory> {
+    for perm in perms.as_slice() {
+        write_permutation(out, perm)?;
+    }
+    Ok(())
+}
+
 fn write_listed(alloc: Global, text: &str, out: &mut Bytes) -> Result<(), NoMemory> {
     let root = root(alloc, text.as_bytes())?;
     let Ok(plan) = read_resolver(alloc, &root) else {
@@ -83,19 +90,19 @@ fn write_listed(alloc: Global, text: &str, out: &mut Bytes) -> Result<(), NoMemo
     let Ok(perms) = list(alloc, &plan) else {
         return Err(NoMemory);
     };
-    for perm in perms.as_slice() {
-        write_permutation(out, perm)?;
-    }
-    Ok(())
+    write_all(out, &perms)
+}
+
+fn is_listed(alloc: Global, text: &str, wanted: &str) -> Result<bool, NoMemory> {
+    let mut out = Bytes::new(alloc);
+    write_listed(alloc, text, &mut out)?;
+    Ok(out.as_slice() == wanted.as_bytes())
 }
 
 #[test]
 fn permutations_are_listed(rt: HostRuntime) -> Result<(), Fail> {
-    let alloc = rt.alloc();
     for (text, wanted) in &table::LISTS {
-        let mut out = Bytes::new(alloc);
-        write_listed(alloc, text, &mut out)?;
-        assert!(rt; out.as_slice() == wanted.as_bytes(), "{text}");
+        assert!(rt; is_listed(rt.alloc(), text, wanted)?, "{text}");
     }
     Ok(())
 }
@@ -121,9 +128,13 @@ fn answer(alloc: Global, text: &[u8]) -> Result<Wanted, NoMemory> {
     }
 }
 
+fn comes_to(alloc: Global, document: Document, wanted: Wanted) -> Result<bool, NoMemory> {
+    let text = documents::written(alloc, document)?;
+    Ok(answer(alloc, text.as_slice())? == wanted)
+}
+
 #[test]
 fn limits_are_kept(rt: HostRuntime) -> Result<(), Fail> {
-    let alloc = rt.alloc();
     let cases = [
         (Document::Modifiers(6, 2), Wanted::Lists(64, 0)),
         (Document::Modifiers(7, 2), Wanted::TooMany(128)),
@@ -141,10 +152,8 @@ fn limits_are_kept(rt: HostRuntime) -> Result<(), Fail> {
         (Document::Sets(12, 2, 1), Wanted::TooManySources(2048)),
         (Document::Sets(2000, 1, 3), Wanted::Lists(1, 3)),
     ];
-    for (document, wanted) in cases {
-        let text = documents::written(alloc, document)?;
-        let found = answer(alloc, text.as_slice())?;
-        assert!(rt; found == wanted);
+    for (i, (document, wanted)) in cases.iter().enumerate() {
+        assert!(rt; comes_to(rt.alloc(), *document, *wanted)?, "case {i}");
     }
     Ok(())
 }
