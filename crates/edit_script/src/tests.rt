@@ -5,9 +5,8 @@ use crate::{
     write_line,
 };
 use std::alloc::Global;
-use std::process::Abort;
 use std::test::Fail;
-use tk_io::{Bytes, MemSink, Outputs};
+use tk_io::{Bytes, MemSink, NoMemory, Outputs};
 
 // What comes of a text: so many events, or the byte at which it is refused.
 #[derive(Clone, Copy, Debug, PartialEq, Eq)]
@@ -16,13 +15,12 @@ enum Outcome {
     Stop(usize),
 }
 
-fn check(rt: &impl Abort, alloc: Global, text: &str, expected: Outcome) -> Result<(), Fail> {
+fn come_of(alloc: Global, text: &str) -> Result<Outcome, NoMemory> {
     match read_script(alloc, text) {
-        Ok(events) => assert_eq!(rt; Outcome::Read(events.len()), expected),
-        Err(ScriptStop::BadScript(at)) => assert_eq!(rt; Outcome::Stop(at), expected),
-        Err(ScriptStop::NoMemory) => return Err("out of memory".into()),
+        Ok(events) => Ok(Outcome::Read(events.len())),
+        Err(ScriptStop::BadScript(at)) => Ok(Outcome::Stop(at)),
+        Err(ScriptStop::NoMemory) => Err(NoMemory),
     }
-    Ok(())
 }
 
 const TEXTS: &[(&str, Outcome)] = &[
@@ -75,124 +73,145 @@ const CUTS: &[(usize, usize, Outcome)] = &[
     (70, 70, Outcome::Read(5)),
 ];
 
-fn check_cuts(
-    rt: &impl Abort,
+// Whether each number of bytes from the first to the last comes to this.
+fn are_cut(
     alloc: Global,
     script: &str,
     first: usize,
     last: usize,
     expected: Outcome,
-) -> Result<(), Fail> {
+) -> Result<bool, Fail> {
     for n in first..=last {
-        check(rt, alloc, script.get(..n).ok_or("no such cut")?, expected)?;
+        let text = script.get(..n).ok_or("no such cut")?;
+        if come_of(alloc, text)? != expected {
+            return Ok(false);
+        }
     }
-    Ok(())
-}
-
-fn check_texts(rt: &impl Abort, alloc: Global, texts: &[(&str, Outcome)]) -> Result<(), Fail> {
-    for (text, expected) in texts {
-        check(rt, alloc, text, *expected)?;
-    }
-    Ok(())
-}
-
-fn check_all_cuts(
-    rt: &impl Abort,
-    alloc: Global,
-    script: &str,
-    cuts: &[(usize, usize, Outcome)],
-) -> Result<(), Fail> {
-    for (first, last, expected) in cuts {
-        check_cuts(rt, alloc, script, *first, *last, *expected)?;
-    }
-    Ok(())
+    Ok(true)
 }
 
 #[test]
 fn reads_scripts_and_refuses_other_texts(rt: HostRuntime) -> Result<(), Fail> {
-    check_texts(&rt, rt.alloc(), TEXTS)?;
-    check_all_cuts(&rt, rt.alloc(), EVENTS, CUTS)?;
-    let Ok(events) = read_script(rt.alloc(), EVENTS) else {
-        return Err("not read".into());
-    };
-    assert_eq!(rt; events.at(0), Some(&Event::Put("a/b.json", "ab\n\n")));
-    assert_eq!(rt; events.at(1), Some(&Event::Commit));
-    assert_eq!(rt; events.at(2), Some(&Event::Del("a/b.json")));
-    assert!(rt; events.at(5).is_none());
+    for (text, expected) in TEXTS {
+        assert_eq!(rt; come_of(rt.alloc(), text)?, *expected, "{text}");
+    }
+    for (first, last, expected) in CUTS {
+        assert!(rt;
+            are_cut(rt.alloc(), EVENTS, *first, *last, *expected)?,
+            "{first} to {last}"
+        );
+    }
     Ok(())
 }
 
-fn outputs_of(alloc: Global, files: &[(&str, &str)]) -> Result<Outputs, Fail> {
+// Whether these are the events of the whole text.
+fn are_events(events: &Events<'_>) -> bool {
+    events.at(0) == Some(&Event::Put("a/b.json", "ab\n\n"))
+        && events.at(1) == Some(&Event::Commit)
+        && events.at(2) == Some(&Event::Del("a/b.json"))
+        && events.at(5).is_none()
+}
+
+#[test]
+fn reads_each_event(rt: HostRuntime) -> Result<(), Fail> {
+    let Ok(events) = read_script(rt.alloc(), EVENTS) else {
+        return Err("not read".into());
+    };
+    assert!(rt; are_events(&events));
+    Ok(())
+}
+
+fn put(outputs: &mut Outputs, alloc: Global, path: &str, text: &str) -> Result<(), NoMemory> {
+    let mut bytes = Bytes::new(alloc);
+    bytes.append(text.as_bytes())?;
+    outputs.insert(path, bytes)
+}
+
+fn outputs_of(alloc: Global, files: &[(&str, &str)]) -> Result<Outputs, NoMemory> {
     let mut outputs = Outputs::new(alloc);
     for (path, text) in files {
-        let mut bytes = Bytes::new(alloc);
-        bytes.append(text.as_bytes())?;
-        outputs.insert(path, bytes)?;
+        put(&mut outputs, alloc, path, text)?;
     }
     Ok(outputs)
 }
 
-// Compares the records from the old outputs to the new.
-fn check_records(
-    rt: &impl Abort,
+fn append_record(records: &mut Bytes, change: &Change<'_>) -> Result<(), NoMemory> {
+    match change {
+        Change::Gone(_, line) => records.append(line.as_slice()),
+        Change::Written(_, bytes, line) => {
+            records.append(line.as_slice())?;
+            records.append(bytes)?;
+            records.append(b"\n")
+        }
+    }
+}
+
+fn are_records(alloc: Global, changes: &[Change<'_>], expected: &[u8]) -> Result<bool, NoMemory> {
+    let mut records = Bytes::new(alloc);
+    for change in changes {
+        append_record(&mut records, change)?;
+    }
+    Ok(records.as_slice() == expected)
+}
+
+// Whether these are the records from the old outputs to the new.
+fn is_told(
     alloc: Global,
     old: &[(&str, &str)],
     new: &[(&str, &str)],
     expected: &[u8],
-) -> Result<(), Fail> {
+) -> Result<bool, NoMemory> {
     let old_outputs = outputs_of(alloc, old)?;
     let new_outputs = outputs_of(alloc, new)?;
     let changes = delta(alloc, &old_outputs, &new_outputs)?;
-    let mut records = Bytes::new(alloc);
-    for change in changes.as_slice() {
-        match change {
-            Change::Gone(_, line) => records.append(line.as_slice())?,
-            Change::Written(_, bytes, line) => {
-                records.append(line.as_slice())?;
-                records.append(bytes)?;
-                records.append(b"\n")?;
-            }
-        }
-    }
-    assert_eq!(rt; records.as_slice(), expected);
-    Ok(())
+    are_records(alloc, changes.as_slice(), expected)
 }
 
 const FEW: &[(&str, &str)] = &[("a.css", "x"), ("b/c.xml", "12345678901"), ("d.json", "{}")];
 
+const FEW_LATER: &[(&str, &str)] = &[("a.css", "y"), ("a/z", ""), ("d.json", "{}")];
+
 #[test]
 fn tells_changes_by_records(rt: HostRuntime) -> Result<(), Fail> {
     let alloc: Global = rt.alloc();
-    check_records(&rt, alloc, FEW, FEW, b"")?;
-    check_records(&rt, alloc, &[("a.css", "x")], &[], b"gone a.css\n")?;
-    check_records(
-        &rt,
-        alloc,
-        &[],
-        &[("b/c.xml", "12345678901")],
-        b"file b/c.xml 11\n12345678901\n",
-    )?;
-    check_records(
-        &rt,
-        alloc,
-        FEW,
-        &[("a.css", "y"), ("a/z", ""), ("d.json", "{}")],
-        b"file a.css 1\ny\nfile a/z 0\n\ngone b/c.xml\n",
-    )?;
+    let long = [("b/c.xml", "12345678901")];
+    assert!(rt; is_told(alloc, FEW, FEW, b"")?);
+    assert!(rt; is_told(alloc, &[("a.css", "x")], &[], b"gone a.css\n")?);
+    assert!(rt; is_told(alloc, &[], &long, b"file b/c.xml 11\n12345678901\n")?);
+    let later = b"file a.css 1\ny\nfile a/z 0\n\ngone b/c.xml\n";
+    assert!(rt; is_told(alloc, FEW, FEW_LATER, later)?);
     Ok(())
+}
+
+// Whether the line is written.
+fn writes(out: &mut MemSink<'_>, line: &Line) -> bool {
+    write_line(out, line).is_ok()
+}
+
+fn writes_gone(out: &mut MemSink<'_>, alloc: Global, path: &str) -> Result<bool, NoMemory> {
+    let gone = Change::Gone(path, gone_line(alloc, path)?);
+    Ok(write_change(out, &gone).is_ok())
+}
+
+fn writes_file<'s>(
+    out: &mut MemSink<'_>,
+    alloc: Global,
+    path: &'s str,
+    bytes: &'s [u8],
+) -> Result<bool, NoMemory> {
+    let written = Change::Written(path, bytes, file_line(alloc, path, bytes)?);
+    Ok(write_change(out, &written).is_ok())
 }
 
 #[test]
 fn writes_lines_and_records(rt: HostRuntime) -> Result<(), Fail> {
     let mut room = [0u8; 100];
     let mut out = MemSink::new(&[], 7, &mut room);
-    assert!(rt; write_line(&mut out, &Line::StreamHead).is_ok());
-    assert!(rt; write_line(&mut out, &Line::Commit(1)).is_ok());
-    let gone = Change::Gone("a.css", gone_line(rt.alloc(), "a.css")?);
-    assert!(rt; write_change(&mut out, &gone).is_ok());
-    let written = Change::Written("b", b"xy", file_line(rt.alloc(), "b", b"xy")?);
-    assert!(rt; write_change(&mut out, &written).is_ok());
-    assert!(rt; write_line(&mut out, &Line::Done(18446744073709551615)).is_ok());
+    assert!(rt; writes(&mut out, &Line::StreamHead));
+    assert!(rt; writes(&mut out, &Line::Commit(1)));
+    assert!(rt; writes_gone(&mut out, rt.alloc(), "a.css")?);
+    assert!(rt; writes_file(&mut out, rt.alloc(), "b", b"xy")?);
+    assert!(rt; writes(&mut out, &Line::Done(18446744073709551615)));
     assert_eq!(rt;
         out.written(),
         b"tokc-stream 1\ncommit 1\ngone a.css\nfile b 2\nxy\ndone 18446744073709551615\n".as_slice()
@@ -200,21 +219,27 @@ fn writes_lines_and_records(rt: HostRuntime) -> Result<(), Fail> {
     Ok(())
 }
 
+// The line of the first commit, from the old outputs to the new.
+fn short_of(alloc: Global, old: &[(&str, &str)], new: &[(&str, &str)]) -> Result<Line, NoMemory> {
+    let old_outputs = outputs_of(alloc, old)?;
+    let new_outputs = outputs_of(alloc, new)?;
+    let changes = delta(alloc, &old_outputs, &new_outputs)?;
+    Ok(short_line(1, &changes))
+}
+
 #[test]
 fn writes_the_short_statistics(rt: HostRuntime) -> Result<(), Fail> {
-    let old = outputs_of(rt.alloc(), FEW)?;
-    let new = outputs_of(rt.alloc(), &[("a.css", "y"), ("a/z", ""), ("d.json", "{}")])?;
-    let changes = delta(rt.alloc(), &old, &new)?;
-    let mut room = [0u8; 200];
-    let mut out = MemSink::new(&[], 7, &mut room);
-    assert!(rt; write_line(&mut out, &Line::StatsHead).is_ok());
-    assert!(rt; write_line(&mut out, &short_line(1, &changes)).is_ok());
+    let first = short_of(rt.alloc(), FEW, FEW_LATER)?;
     let most = Line::Short {
         commit: 18446744073709551615,
         written: 18446744073709551615,
         gone: 0,
     };
-    assert!(rt; write_line(&mut out, &most).is_ok());
+    let mut room = [0u8; 200];
+    let mut out = MemSink::new(&[], 7, &mut room);
+    assert!(rt; writes(&mut out, &Line::StatsHead));
+    assert!(rt; writes(&mut out, &first));
+    assert!(rt; writes(&mut out, &most));
     assert_eq!(rt;
         out.written(),
         b"tokc-stats 1\ncommit 1 written 2 gone 1\ncommit 18446744073709551615 written 18446744073709551615 gone 0\n".as_slice()
@@ -222,18 +247,26 @@ fn writes_the_short_statistics(rt: HostRuntime) -> Result<(), Fail> {
     Ok(())
 }
 
+fn are_one_gone(changes: &Changes<'_>, path: &str) -> bool {
+    let one = changes.len() == 1 && !changes.is_empty();
+    one && matches!(changes.at(0), Some(Change::Gone(found, _)) if *found == path)
+}
+
 #[test]
-fn lists_grow_at_their_end(rt: HostRuntime) -> Result<(), Fail> {
-    let alloc: Global = rt.alloc();
-    let mut events = Events::new(alloc);
+fn events_grow_at_their_end(rt: HostRuntime) -> Result<(), Fail> {
+    let mut events = Events::new(rt.alloc());
     assert!(rt; events.is_empty());
     events.push(Event::Del("a"))?;
-    assert_eq!(rt; events.len(), 1);
-    assert_eq!(rt; events.as_slice(), [Event::Del("a")].as_slice());
-    let mut changes = Changes::new(alloc);
+    assert!(rt; events.len() == 1);
+    assert!(rt; events.as_slice() == [Event::Del("a")].as_slice());
+    Ok(())
+}
+
+#[test]
+fn changes_grow_at_their_end(rt: HostRuntime) -> Result<(), Fail> {
+    let mut changes = Changes::new(rt.alloc());
     assert!(rt; changes.is_empty());
-    changes.push(Change::Gone("a", Bytes::new(alloc)))?;
-    assert_eq!(rt; changes.len(), 1);
-    assert!(rt; matches!(changes.at(0), Some(Change::Gone("a", _))));
+    changes.push(Change::Gone("a", Bytes::new(rt.alloc())))?;
+    assert!(rt; are_one_gone(&changes, "a"));
     Ok(())
 }
