@@ -149,33 +149,50 @@ fn write_plan(alloc: Global, text: &[u8], out: &mut Bytes) -> Result<(), NoMemor
     write_plan_by::<Brand>(alloc, text, Blank::new(1), out)
 }
 
+fn is_planned(alloc: Global, text: &str, wanted: &str) -> Result<bool, NoMemory> {
+    let mut out = Bytes::new(alloc);
+    write_plan(alloc, text.as_bytes(), &mut out)?;
+    Ok(out.as_slice() == wanted.as_bytes())
+}
+
 #[test]
 fn documents_are_planned(rt: HostRuntime) -> Result<(), Fail> {
-    let alloc = rt.alloc();
     for (text, wanted) in &PLANS {
-        let mut out = Bytes::new(alloc);
-        write_plan(alloc, text.as_bytes(), &mut out)?;
-        assert!(rt; out.as_slice() == wanted.as_bytes(), "{text}");
+        assert!(rt; is_planned(rt.alloc(), text, wanted)?, "{text}");
     }
-    let mut out = Bytes::new(alloc);
-    write_planned(&mut out, plan_of(alloc, None))?;
-    assert!(rt; out.as_slice() == b"default:[tokens.json 0 0];".as_slice());
     Ok(())
 }
 
 #[test]
+fn no_document_is_a_plan_of_tokens_json(rt: HostRuntime) -> Result<(), Fail> {
+    let mut out = Bytes::new(rt.alloc());
+    write_planned(&mut out, plan_of(rt.alloc(), None))?;
+    assert!(rt; out.as_slice() == b"default:[tokens.json 0 0];".as_slice());
+    Ok(())
+}
+
+/// Whether these are the files, in this order, by their places and by their paths.
+fn are_files(files: &Files<'_>, entries: &[(&str, &str)]) -> bool {
+    for (i, (path, text)) in entries.iter().enumerate() {
+        if files.at(i) != Some((*path, *text)) || files.get(path) != Some(*text) {
+            return false;
+        }
+        if files.entry(path) != Some((*path, *text)) {
+            return false;
+        }
+    }
+    files.len() == entries.len()
+}
+
+#[test]
 fn files_are_kept(rt: HostRuntime) -> Result<(), Fail> {
-    let alloc = rt.alloc();
-    let mut files = Files::new(alloc);
+    let mut files = Files::new(rt.alloc());
     files.put("b.json", "{}")?;
     files.put("a.json", "[]")?;
-    assert!(rt; files.len() == 2);
-    assert!(rt; files.get("a.json") == Some("[]"));
-    assert!(rt; files.entry("b.json") == Some(("b.json", "{}")));
+    assert!(rt; are_files(&files, &[("a.json", "[]"), ("b.json", "{}")]));
     assert!(rt; files.entry("c.json") == None);
-    assert!(rt; files.at(0) == Some(("a.json", "[]")));
     files.del("a.json");
-    assert!(rt; files.at(0) == Some(("b.json", "{}")));
+    assert!(rt; are_files(&files, &[("b.json", "{}")]));
     Ok(())
 }
 
@@ -187,8 +204,7 @@ fn files_are_copied(rt: HostRuntime) -> Result<(), Fail> {
     let copy = files.copy()?;
     files.del("a.json");
     files.put("b.json", "1")?;
-    assert!(rt; copy.len() == 2);
-    assert!(rt; copy.at(0) == Some(("a.json", "[]")));
-    assert!(rt; copy.at(1) == Some(("b.json", "{}")));
+    assert!(rt; are_files(&copy, &[("a.json", "[]"), ("b.json", "{}")]));
+    assert!(rt; are_files(&files, &[("b.json", "1")]));
     Ok(())
 }
