@@ -1,6 +1,6 @@
 //! Generated scripts: lines, lengths and sums that an independent program gives.
 use crate::{MOST_TOKENS, gen_script};
-use edit_script::{Event, read_script};
+use edit_script::{Event, Events, read_script};
 use std::alloc::Global;
 use std::process::Abort;
 use std::str;
@@ -45,15 +45,18 @@ fn text_of(script: &Bytes) -> Result<&str, Fail> {
     }
 }
 
+fn check_lines(rt: &impl Abort, text: &str, lines: &[&str]) {
+    for (line, expected) in text.split('\n').zip(lines.iter()) {
+        if !expected.is_empty() {
+            assert_eq!(rt; line, *expected);
+        }
+    }
+}
+
 #[test]
 fn the_least_script_has_these_lines(rt: HostRuntime) -> Result<(), Fail> {
     let script = script_of(rt.alloc(), 0, 1)?;
-    let text = text_of(&script)?;
-    for (line, expected) in text.split('\n').zip(LEAST.iter()) {
-        if !expected.is_empty() {
-            assert_eq!(&rt; line, *expected);
-        }
-    }
+    check_lines(&rt, text_of(&script)?, LEAST);
     Ok(())
 }
 
@@ -76,20 +79,26 @@ const SCRIPTS: &[(u32, u32, usize, u32)] = &[
     (7, 4_000, 2_670_121, 3_087_250_120),
 ];
 
-fn check_sum(rt: &impl Abort, alloc: Global, numbers: &(u32, u32, usize, u32)) -> Result<(), Fail> {
-    let (seed, size, len, sum) = *numbers;
+// The length of a script and the sum of its bytes.
+fn size_and_sum(alloc: Global, seed: u32, size: u32) -> Result<(usize, u32), Fail> {
     let script = script_of(alloc, seed, size)?;
-    assert_eq!(rt; script.len(), len);
-    assert_eq!(rt; sum_of(script.as_slice()), sum);
-    Ok(())
+    Ok((script.len(), sum_of(script.as_slice())))
 }
 
 #[test]
 fn scripts_are_those_of_the_independent_program(rt: HostRuntime) -> Result<(), Fail> {
-    for numbers in SCRIPTS {
-        check_sum(&rt, rt.alloc(), numbers)?;
+    for (seed, size, len, sum) in SCRIPTS {
+        let found = size_and_sum(rt.alloc(), *seed, *size)?;
+        assert_eq!(rt; found, (*len, *sum), "{seed} {size}");
     }
     Ok(())
+}
+
+// Whether there are so many events, and two of them are commits.
+fn are_events(events: &Events<'_>, many: usize, commit: usize, last: usize) -> bool {
+    events.len() == many
+        && events.at(commit) == Some(&Event::Commit)
+        && events.at(last) == Some(&Event::Commit)
 }
 
 #[test]
@@ -98,8 +107,6 @@ fn a_script_has_26_puts_and_21_commits(rt: HostRuntime) -> Result<(), Fail> {
     let Ok(events) = read_script(rt.alloc(), text_of(&script)?) else {
         return Err("no script".into());
     };
-    assert_eq!(&rt; events.len(), 47);
-    assert_eq!(&rt; events.at(6), Some(&Event::Commit));
-    assert_eq!(&rt; events.at(46), Some(&Event::Commit));
+    assert!(rt; are_events(&events, 47, 6, 46));
     Ok(())
 }
