@@ -20,14 +20,13 @@ fn words_of(alloc: Global, line: &str) -> Result<Vec<String>, Fail> {
     Ok(words)
 }
 
-// What the run writes, says and answers, by the numbers of the calls that fail.
-fn check(
-    rt: &impl Abort,
+// Whether the run writes, says and answers what the case says, where these calls fail by their numbers.
+fn runs_so(
     alloc: Global,
     case: &Case,
     read_fails: &[u64],
     report_fails: &[u64],
-) -> Result<(), Fail> {
+) -> Result<bool, Fail> {
     let words = words_of(alloc, case.words)?;
     let mut room = [0u8; 8000];
     let mut error_room = [0u8; 100];
@@ -35,25 +34,31 @@ fn check(
     let mut out = MemSink::new(&[], 8000, &mut room);
     let mut err = MemSink::new(report_fails, 3, &mut error_room);
     let ended = run(alloc, words.as_slice(), &mut src, &mut out, &mut err);
-    assert_eq!(rt; ended, case.status);
-    assert_eq!(rt; out.written(), case.written.as_bytes());
-    assert_eq!(rt; err.written(), case.said.as_bytes());
-    Ok(())
+    let told = out.written() == case.written.as_bytes() && err.written() == case.said.as_bytes();
+    Ok(told && ended == case.status)
 }
 
 #[test]
 fn runs_write_and_say_what_their_words_ask_for(rt: HostRuntime) -> Result<(), Fail> {
-    for case in &CASES {
-        check(&rt, rt.alloc(), case, &[], &[])?;
-        assert_eq!(&rt; case.status.number() == 0, case.status == Status::Done);
+    for (i, case) in CASES.iter().enumerate() {
+        assert!(rt;
+            runs_so(rt.alloc(), case, &[], &[])?,
+            "case {i}: {}",
+            case.words
+        );
+        assert_eq!(rt; case.status.number() == 0, case.status == Status::Done);
     }
     Ok(())
 }
 
 #[test]
 fn runs_that_stop_write_nothing_and_say_why(rt: HostRuntime) -> Result<(), Fail> {
-    for case in &STOPS {
-        check(&rt, rt.alloc(), case, &[], &[])?;
+    for (i, case) in STOPS.iter().enumerate() {
+        assert!(rt;
+            runs_so(rt.alloc(), case, &[], &[])?,
+            "case {i}: {}",
+            case.words
+        );
     }
     Ok(())
 }
@@ -76,8 +81,9 @@ static UNSAID: Case = Case {
 
 #[test]
 fn a_read_that_fails_ends_the_run(rt: HostRuntime) -> Result<(), Fail> {
-    check(&rt, rt.alloc(), &READ_FAULT, &[1], &[])?;
-    check(&rt, rt.alloc(), &UNSAID, &[1], &[1])
+    assert!(rt; runs_so(rt.alloc(), &READ_FAULT, &[1], &[])?);
+    assert!(rt; runs_so(rt.alloc(), &UNSAID, &[1], &[1])?);
+    Ok(())
 }
 
 static GENERATED: Case = Case {
@@ -99,8 +105,9 @@ static UNREAD_USAGE: Case = Case {
 // Each read of the source would fail.
 #[test]
 fn neither_gen_nor_other_words_read_the_source(rt: HostRuntime) -> Result<(), Fail> {
-    check(&rt, rt.alloc(), &GENERATED, &[1], &[])?;
-    check(&rt, rt.alloc(), &UNREAD_USAGE, &[1], &[])
+    assert!(rt; runs_so(rt.alloc(), &GENERATED, &[1], &[])?);
+    assert!(rt; runs_so(rt.alloc(), &UNREAD_USAGE, &[1], &[])?);
+    Ok(())
 }
 
 static TWO_COMMITS: &[u8] =
@@ -150,14 +157,8 @@ static STATS_PIECES: [(u64, &str); 4] = [
     (4, "done 2\n"),
 ];
 
-// The run in which this write fails has written the pieces before it.
-fn check_write(
-    rt: &impl Abort,
-    alloc: Global,
-    word: &str,
-    fails: u64,
-    written: &[u8],
-) -> Result<(), Fail> {
+// Whether the run in which this write fails has written the pieces before it.
+fn stops_at(alloc: Global, word: &str, fails: u64, written: &[u8]) -> Result<bool, Fail> {
     let words = words_of(alloc, word)?;
     let mut room = [0u8; 2000];
     let mut error_room = [0u8; 100];
@@ -166,10 +167,8 @@ fn check_write(
     let mut out = MemSink::new(&numbers, 2000, &mut room);
     let mut err = MemSink::new(&[], 100, &mut error_room);
     let ended = run(alloc, words.as_slice(), &mut src, &mut out, &mut err);
-    assert_eq!(rt; ended, Status::WriteFault);
-    assert_eq!(rt; out.written(), written);
-    assert_eq!(rt; err.written(), "tokc: write failed\n".as_bytes());
-    Ok(())
+    let told = out.written() == written && err.written() == "tokc: write failed\n".as_bytes();
+    Ok(told && ended == Status::WriteFault)
 }
 
 fn check_writes(
@@ -180,7 +179,10 @@ fn check_writes(
 ) -> Result<(), Fail> {
     let mut written = Vec::new(alloc);
     for (number, piece) in pieces {
-        check_write(rt, alloc, word, *number, written.as_slice())?;
+        assert!(rt;
+            stops_at(alloc, word, *number, written.as_slice())?,
+            "{word}: write {number}"
+        );
         written.extend_from_slice(piece.as_bytes())?;
     }
     Ok(())
