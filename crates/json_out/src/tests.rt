@@ -10,6 +10,7 @@ use json_span::Plain;
 use name_path::{Kind, Path};
 use reading::plain;
 use std::alloc::Global;
+use std::process::Abort;
 use std::test::Fail;
 use tk_io::{Bytes, NoMemory, Text};
 use token_tree::Mark;
@@ -68,6 +69,24 @@ fn is_written(alloc: Global, path: &Path<'_>, kind: Kind, row: &str) -> Result<b
     Ok(frag.body.as_slice() == member.as_slice() && frag.names.as_slice().is_empty())
 }
 
+/// Compares the texts of each row of a table of values of the kind, and counts the rows.
+fn rows_hold(
+    rt: &(impl AllocGlobal + Abort),
+    path: &Path<'_>,
+    kind: Kind,
+    rows: &str,
+) -> Result<u32, Fail> {
+    let mut count = 0u32;
+    for row in rows.lines() {
+        if row.is_empty() {
+            continue;
+        }
+        assert!(rt; is_written(rt.alloc(), path, kind, row)?, "{row}");
+        count = count.saturating_add(1);
+    }
+    Ok(count)
+}
+
 #[test]
 fn values_have_their_texts(rt: HostRuntime) -> Result<(), Fail> {
     let path = path(rt.alloc(), &["t"])?;
@@ -87,13 +106,7 @@ fn values_have_their_texts(rt: HostRuntime) -> Result<(), Fail> {
         (Kind::Gradient, table::GRADIENTS),
         (Kind::Typography, table::TYPOGRAPHIES),
     ] {
-        for row in rows.lines() {
-            if row.is_empty() {
-                continue;
-            }
-            assert!(rt; is_written(rt.alloc(), &path, kind, row)?, "{row}");
-            count = count.saturating_add(1);
-        }
+        count = count.saturating_add(rows_hold(&rt, &path, kind, rows)?);
     }
     assert_eq!(rt; count, 99);
     Ok(())
@@ -146,25 +159,37 @@ const TWO_TOKENS: &str = r#"{
 }
 "#;
 
+fn add_number(
+    alloc: Global,
+    sheet: &mut Sheet,
+    draft: &mut Bytes,
+    name: &str,
+) -> Result<(), NoMemory> {
+    let path = path(alloc, &[name])?;
+    if let Some(typed) = typed(alloc, Kind::Number, &Plain::Num("1"))? {
+        let frag = fragment(alloc, draft, &path, &typed, &alone())?;
+        sheet.add(&frag)?;
+    }
+    Ok(())
+}
+
+/// Whether the sheet of tokens of these names is this text.
+fn is_sheet(alloc: Global, names: &[&str], wanted: &str) -> Result<bool, NoMemory> {
+    let mut draft = Bytes::new(alloc);
+    let mut sheet = Sheet::start(alloc, frame())?;
+    for name in names {
+        add_number(alloc, &mut sheet, &mut draft, name)?;
+    }
+    let text = sheet.finish()?;
+    Ok(text.as_slice() == wanted.as_bytes())
+}
+
 /// Sheets of no, one and two tokens.
 #[test]
 fn sheets_have_their_frame(rt: HostRuntime) -> Result<(), Fail> {
-    let alloc = rt.alloc();
-    for (names, wanted) in [("", "{\n}\n"), ("a", ONE_TOKEN), ("a b", TWO_TOKENS)] {
-        let mut draft = Bytes::new(alloc);
-        let mut sheet = Sheet::start(alloc, frame())?;
-        for name in names.split(' ') {
-            if name.is_empty() {
-                continue;
-            }
-            let path = path(alloc, &[name])?;
-            if let Some(typed) = typed(alloc, Kind::Number, &Plain::Num("1"))? {
-                sheet.add(&fragment(alloc, &mut draft, &path, &typed, &alone())?)?;
-            }
-        }
-        let text = sheet.finish()?;
-        assert_eq!(rt; text.as_slice(), wanted.as_bytes());
-    }
+    assert!(rt; is_sheet(rt.alloc(), &[], "{\n}\n")?);
+    assert!(rt; is_sheet(rt.alloc(), &["a"], ONE_TOKEN)?);
+    assert!(rt; is_sheet(rt.alloc(), &["a", "b"], TWO_TOKENS)?);
     Ok(())
 }
 
