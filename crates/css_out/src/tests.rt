@@ -130,15 +130,19 @@ fn is_written(
 }
 
 /// Compares the lines of each row of a table of values of the kind, and counts the rows.
-fn rows_hold(rt: &(impl AllocGlobal + Abort), kind: Kind, rows: &str) -> Result<u32, Fail> {
-    let path = path(rt.alloc(), "t")?;
-    let config = Config::plain(rt.alloc());
+fn rows_hold(
+    rt: &(impl AllocGlobal + Abort),
+    path: &Path<'_>,
+    config: &Config,
+    kind: Kind,
+    rows: &str,
+) -> Result<u32, Fail> {
     let mut count = 0u32;
     for row in rows.lines() {
         if row.is_empty() {
             continue;
         }
-        assert!(rt; is_written(rt.alloc(), &path, &config, kind, row)?, "{row}");
+        assert!(rt; is_written(rt.alloc(), path, config, kind, row)?, "{row}");
         count = count.saturating_add(1);
     }
     Ok(count)
@@ -146,6 +150,8 @@ fn rows_hold(rt: &(impl AllocGlobal + Abort), kind: Kind, rows: &str) -> Result<
 
 #[test]
 fn values_have_their_lines(rt: HostRuntime) -> Result<(), Fail> {
+    let path = path(rt.alloc(), "t")?;
+    let config = Config::plain(rt.alloc());
     let mut count = 0u32;
     for (kind, rows) in [
         (Kind::Dimension, table::DIMENSIONS),
@@ -162,7 +168,7 @@ fn values_have_their_lines(rt: HostRuntime) -> Result<(), Fail> {
         (Kind::Gradient, table::GRADIENTS),
         (Kind::Typography, table::TYPOGRAPHIES),
     ] {
-        count = count.saturating_add(rows_hold(&rt, kind, rows)?);
+        count = count.saturating_add(rows_hold(&rt, &path, &config, kind, rows)?);
     }
     assert_eq!(rt; count, 155);
     Ok(())
@@ -219,12 +225,11 @@ const FAMILIES: [(&str, &str); 12] = [
     ("x\u{ffff}", "/* omitted --t */"),
 ];
 
-/// Whether a family, alone and after another, gives the lines.
-fn is_family_written(alloc: Global, family: &'static str, lines: &str) -> Result<bool, Fail> {
+/// Whether the families that the value says give the lines.
+fn are_families_written(alloc: Global, value: &Plain<'_>, lines: &str) -> Result<bool, NoMemory> {
     let path = path(alloc, "t")?;
     let config = Config::plain(alloc);
-    let value = Plain::Str(Text::of(family));
-    match typed(alloc, Kind::FontFamily, &value) {
+    match typed(alloc, Kind::FontFamily, value) {
         Ok(typed) => {
             let mut draft = used_draft(alloc)?;
             let frag = fragment(
@@ -235,7 +240,7 @@ fn is_family_written(alloc: Global, family: &'static str, lines: &str) -> Result
                 &Links::new(alloc),
                 &config,
             )?;
-            Ok(has_lines(alloc, &frag, lines)?)
+            has_lines(alloc, &frag, lines)
         }
         Err(_) => Ok(false),
     }
@@ -244,7 +249,8 @@ fn is_family_written(alloc: Global, family: &'static str, lines: &str) -> Result
 #[test]
 fn families_are_quoted_or_omitted(rt: HostRuntime) -> Result<(), Fail> {
     for (family, lines) in FAMILIES {
-        assert!(rt; is_family_written(rt.alloc(), family, lines)?, "{lines}");
+        let value = Plain::Str(Text::of(family));
+        assert!(rt; are_families_written(rt.alloc(), &value, lines)?, "{lines}");
     }
     Ok(())
 }
@@ -257,52 +263,41 @@ fn later_families_are_looked_at(rt: HostRuntime) -> Result<(), Fail> {
     families.push(Plain::Str(Text::of("Inter")))?;
     families.push(Plain::Str(Text::of("\u{7f}")))?;
     let value = Plain::Arr(families);
-    let path = path(alloc, "t")?;
-    let config = Config::plain(alloc);
-    match typed(alloc, Kind::FontFamily, &value) {
-        Ok(typed) => {
-            let mut draft = used_draft(alloc)?;
-            let frag = fragment(
-                alloc,
-                &mut draft,
-                &path,
-                &typed,
-                &Links::new(alloc),
-                &config,
-            )?;
-            assert!(rt; has_lines(alloc, &frag, "/* omitted --t */")?);
-        }
-        Err(_) => assert!(rt; false),
+    assert!(rt; are_families_written(alloc, &value, "/* omitted --t */")?);
+    Ok(())
+}
+
+fn add_number(
+    alloc: Global,
+    sheet: &mut Sheet,
+    draft: &mut Bytes,
+    name: &str,
+    config: &Config,
+) -> Result<(), NoMemory> {
+    let path = path(alloc, name)?;
+    let value = Plain::Num("1");
+    if let Ok(typed) = typed(alloc, Kind::Number, &value) {
+        let frag = fragment(alloc, draft, &path, &typed, &Links::new(alloc), config)?;
+        sheet.add(&frag)?;
     }
     Ok(())
 }
 
-/// A sheet of two tokens.
-#[test]
-fn sheet_has_its_frame(rt: HostRuntime) -> Result<(), Fail> {
-    let alloc = rt.alloc();
+/// Whether a sheet of two tokens is this text.
+fn is_sheet_of_two(alloc: Global, wanted: &str) -> Result<bool, NoMemory> {
     let config = Config::plain(alloc);
     let mut draft = Bytes::new(alloc);
     let mut sheet = Sheet::start(alloc, frame())?;
     for name in ["a", "b"] {
-        let path = path(alloc, name)?;
-        let value = Plain::Num("1");
-        if let Ok(typed) = typed(alloc, Kind::Number, &value) {
-            sheet.add(&fragment(
-                alloc,
-                &mut draft,
-                &path,
-                &typed,
-                &Links::new(alloc),
-                &config,
-            )?)?;
-        }
+        add_number(alloc, &mut sheet, &mut draft, name, &config)?;
     }
     let text = sheet.finish()?;
-    assert_eq!(rt;
-        text.as_slice(),
-        b":root {\n  --a: 1;\n  --b: 1;\n}\n".as_slice()
-    );
+    Ok(text.as_slice() == wanted.as_bytes())
+}
+
+#[test]
+fn sheet_has_its_frame(rt: HostRuntime) -> Result<(), Fail> {
+    assert!(rt; is_sheet_of_two(rt.alloc(), ":root {\n  --a: 1;\n  --b: 1;\n}\n")?);
     Ok(())
 }
 
