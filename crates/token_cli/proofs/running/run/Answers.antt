@@ -56,9 +56,9 @@ returns-clause-bad_script g c e =
       at,
       ends_as r _ _ c.main_job-ended.ensures.ends (Err (stop.BadScript at)) is,
       subst
-      (λ (s : Status). Reports (g.E.Sink.written c.args.err.now) (g.E.Sink.written c.report.new.err)
+          (λ (s : Status). Reports (g.E.Sink.written c.args.err.now) (g.E.Sink.written c.report.new.err)
           (g.E.Sink.faults c.args.err.now) (g.E.Sink.faults c.report.new.err) (error_text s at))
-      (sym c.status_of.ensures) c.report.ensures,
+          (sym c.status_of.ensures) c.report.ensures,
     )
 
 pub returns-clause-read_fault : goal.returns-clause-read_fault
@@ -166,9 +166,9 @@ returns-clause-all g c command script es before refused which is reads holds wro
     let events = events_for command es in
     let none : new ≡ old → ⊥ = λ same. none_or_whole told events refused old new before holds same wrote in
     let written : (t : Telling → List EventData → Type 0) → Made words left rest t → t told events =
-        λ t m. of_events words left rest t command script es which is reads m in
+    λ t m. of_events words left rest t command script es which is reads m in
     let part : Made words left rest (WrotePartOf old new) → ⊥ =
-        λ m. part_or_whole told one events refused old new before holds (written (WrotePartOf old new) m) wrote in
+    λ m. part_or_whole told one events refused old new before holds (written (WrotePartOf old new) m) wrote in
     c.status_of.ensures
     ∙ (whole_said r refused
     (λ x e. one_end told one events x refused old new (written (WroteAllOf old new x) (h (Ok x) e)) wrote)
