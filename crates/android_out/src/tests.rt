@@ -105,6 +105,25 @@ fn is_written(
     }
 }
 
+/// Compares the lines of each row of a table of values of the kind, and counts the rows.
+fn rows_hold(
+    rt: &(impl AllocGlobal + Abort),
+    path: &Path<'_>,
+    config: &Config,
+    kind: Kind,
+    rows: &str,
+) -> Result<u32, Fail> {
+    let mut count = 0u32;
+    for row in rows.lines() {
+        if row.is_empty() {
+            continue;
+        }
+        assert!(rt; is_written(rt.alloc(), path, config, kind, row)?, "{row}");
+        count = count.saturating_add(1);
+    }
+    Ok(count)
+}
+
 #[test]
 fn values_have_their_lines(rt: HostRuntime) -> Result<(), Fail> {
     let path = path(rt.alloc(), "t")?;
@@ -119,13 +138,7 @@ fn values_have_their_lines(rt: HostRuntime) -> Result<(), Fail> {
         (Kind::FontFamily, table::FAMILIES),
         (Kind::Typography, table::TYPOGRAPHIES),
     ] {
-        for row in rows.lines() {
-            if row.is_empty() {
-                continue;
-            }
-            assert!(rt; is_written(rt.alloc(), &path, &config, kind, row)?, "{row}");
-            count = count.saturating_add(1);
-        }
+        count = count.saturating_add(rows_hold(&rt, &path, &config, kind, rows)?);
     }
     assert_eq!(rt; count, 103);
     Ok(())
