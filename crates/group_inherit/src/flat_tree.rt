@@ -1,6 +1,6 @@
 //! Flat trees.
 
-ghost use Rattle.std.specs.Prelude.{◌≡◌, IfOk, IfErr, OnOk, OnErr, T, ◌==◌};
+ghost use Rattle.std.specs.Prelude.{◌≡◌, [], IfOk, IfErr, OnOk, OnErr, T, ◌==◌};
 ghost use Rattle.std.specs.FinMap as map;
 ghost use Rattle.std.specs.FinMap.Entries.{is_sorted};
 ghost use Rattle.std.specs.List.{slice_get};
@@ -39,6 +39,16 @@ impl<'s> Model for Flat<'s> {
     ghost view = { λ f. map.from_sorted f.tokens.items };
 
     ghost invariant = { λ f. T (is_sorted names_cmp f.tokens.items) };
+}
+
+// No token, with room for so many where there is memory for it.
+fn room_for<'s>(alloc: Global, tokens: usize) -> Vec<(Path<'s>, Entry<'s>)>
+    ensures { result.items ≡ [] }
+{
+    match Vec::with_capacity(alloc, tokens) {
+        Ok(list) => list,
+        Err(_) => Vec::new(alloc),
+    }
 }
 
 // Where the path stands, or where it would stand.
@@ -98,6 +108,15 @@ impl<'s> Flat<'s> {
     {
         Flat {
             tokens: Vec::new(alloc),
+        }
+    }
+
+    /// No token, with room for so many where there is memory for it.
+    pub(crate) fn with_room(alloc: Global, tokens: usize) -> Flat<'s>
+        ensures { result ≡ map.empty }
+    {
+        Flat {
+            tokens: room_for(alloc, tokens),
         }
     }
 

@@ -39,7 +39,7 @@ pub fn flatten<'s, M: Ledger>(
         return flatten_extending(alloc, tree);
     };
     check_size(tree, size)?;
-    Ok(flat_of(alloc, tree)?)
+    Ok(flat_of(alloc, tree, size.members as usize)?)
 }
 
 // The same where groups extend others.
@@ -55,5 +55,5 @@ fn flatten_extending<'s>(alloc: Global, tree: &Group<'s>) -> Result<Flat<'s>, Tr
         ready.rows.as_slice(),
         ready.order.as_slice(),
     )?;
-    Ok(flat_of(alloc, &table[0])?)
+    Ok(flat_of(alloc, &table[0], table.len())?)
 }

@@ -132,7 +132,7 @@ fn is_over<'s>(
     tokens: &str,
 ) -> Result<bool, NoMemory> {
     let both = over(alloc, later, earlier)?;
-    let flat = flat_of(alloc, &both)?;
+    let flat = flat_of(alloc, &both, 1)?;
     has_tokens(alloc, &flat, tokens)
 }
 

@@ -21,11 +21,15 @@ struct Nearest<'a, 's> {
     mark: Option<&'a Mark<'s>>,
 }
 
-/// The tokens of an expanded group by their paths. The group has few levels, so recursion follows them.
-pub(crate) fn flat_of<'s>(alloc: Global, group: &Group<'s>) -> Result<Flat<'s>, NoMemory>
+/// The tokens of an expanded group by their paths, with room for so many. The group has few levels, so recursion follows them.
+pub(crate) fn flat_of<'s>(
+    alloc: Global,
+    group: &Group<'s>,
+    room: usize,
+) -> Result<Flat<'s>, NoMemory>
     ensures { IfOk result (λ f. f ≡ flat_of (group_view group.now)) }
 {
-    let mut flat = Flat::new(alloc);
+    let mut flat = Flat::with_room(alloc, room);
     let mut names = Vec::new(alloc);
     let above = Nearest {
         kind: None,

@@ -1,6 +1,6 @@
 //! Reading a JSON text.
 
-ghost use Rattle.std.specs.Prelude.{◌≡◌, ◌+◌, ◌<◌, ◌^◌, length, IfOk, IfErr};
+ghost use Rattle.std.specs.Prelude.{◌≡◌, ◌+◌, ◌<◌, ◌^◌, [], length, IfOk, IfErr};
 ghost use Rattle.json_span.specs.View.{node_view};
 ghost use Rattle.json_span.specs.Answer.{Answers, IsAnswer, IsJsonFault, ShowsOnly, fault_of};
 ghost use Rattle.json_span.specs.Answer.{shows};
@@ -45,6 +45,12 @@ impl From<Stop> for JsonFault {
 /// How many brackets may be open at once.
 const MOST_OPEN: u32 = 64;
 
+/// About how many bytes of a text have one value.
+const BYTES_OF_A_SPAN: usize = 10;
+
+/// For so many values room is made at first.
+const MOST_ROOM: usize = 65_536;
+
 /// How long a text may be whose offsets are counted in 32 bits.
 const LONGEST: usize = u32::MAX as usize;
 
@@ -69,13 +75,25 @@ fn root<'s>(alloc: Global, text: &'s str, nodes: Vec<Span>) -> Result<Node<'s>, 
     }
 }
 
+// No spans, with room for those of a short text, where there is memory for it. Other tables grow.
+fn no_spans(alloc: Global, text: &str) -> Vec<Span>
+    ensures { result.items ≡ [] }
+{
+    let mut nodes = Vec::new(alloc);
+    let room = text.len() / BYTES_OF_A_SPAN;
+    if room < MOST_ROOM {
+        let _ = nodes.reserve(room);
+    }
+    nodes
+}
+
 fn read_short<'s>(alloc: Global, text: &'s str) -> Result<Node<'s>, JsonFault>
     requires { length text.now < 2 ^ 32 }
     ensures found { IfOk result (λ n. IsAnswer text.entry.now (shows (node_view n))) }
     ensures refused { IfErr result (λ e. IsJsonFault text.entry.now e) }
 {
     let start = blanks_end(text, 0);
-    let mut nodes = Vec::new(alloc);
+    let mut nodes = no_spans(alloc, text);
     let mut names = Vec::new(alloc);
     let built = build_value(alloc, text, start, MOST_OPEN, 0, 0, &mut nodes, &mut names)?;
     let last = blanks_end(text, built.end());

@@ -1,5 +1,5 @@
 // Bytes that grow at their end.
-ghost use Rattle.std.specs.Prelude.{◌≡◌, ◌==◌, [], ◌++◌, OnOk, OnErr, length, take};
+ghost use Rattle.std.specs.Prelude.{◌≡◌, ◌==◌, [], ◌++◌, IfOk, OnOk, OnErr, length, take};
 
 use crate::NoMemory;
 use std::alloc::Global;
@@ -27,6 +27,14 @@ impl Bytes {
         Bytes {
             items: Vec::new(alloc),
         }
+    }
+
+    /// No bytes, with room for so many: memory is asked for once where no more are added.
+    pub fn with_room(alloc: Global, room: usize) -> Result<Bytes, NoMemory>
+        ensures { IfOk result (λ bytes. bytes ≡ []) }
+    {
+        let items = Vec::with_capacity(alloc, room)?;
+        Ok(Bytes { items })
     }
 
     /// No bytes, in the memory that these bytes grow in.
