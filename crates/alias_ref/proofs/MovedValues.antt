@@ -9,10 +9,11 @@ use Rattle.json_span.specs.Parts.{moved, moved_tree, moved_elements, moved_membe
 use Rattle.json_span.proofs.Unique.{shows_one}
 use Rattle.json_span.specs.Reading.{Shows}
 use Rattle.token_tree.specs.Tree.{Definition}
-use Rattle.token_tree.specs.Shape.{entries_at, has, said_kind, token_value}
+use Rattle.token_tree.specs.Shape.{entries_at, extensions_of, has, said_deprecated, said_description, said_kind, token_value}
 use Rattle.token_tree.specs.Promise.{IsDefinition}
 use Rattle.token_tree.proofs.Moved.{moved_entry, moved_tree_of, entries_at_moved, has_moved}
 use Rattle.alias_ref.specs.Written.{Step, array, object, Written, parts, Parts, parts_by_index, parts_by_name, parts_of, steps_of, part_under, part_behind, value_at, Role, of_value, reference_written, pointed, object_pointed, object_written, written_as, role_behind, role_at, written_at}
+use Rattle.alias_ref.specs.Laws.{ShowsSame}
 use Rattle.alias_ref.specs.Refs.{named_by, refs_in, refs_at, refs_in_items, refs_in_members, refs_of}
 
 abbrev pub moved_part : ℕ → Step × Placed → Step × Placed
@@ -150,3 +151,11 @@ module _ (d e : Definition) (k : IsDefinition d) (l : IsDefinition e) (source : 
 
   pub kind_of_source : d.kind ≡ e.kind
   kind_of_source = kind_read d k ∙ ap (λ o. said_kind (entries_at o)) one_object ∙ sym (kind_read e l)
+
+  pub shown_of_source : ShowsSame d e
+  shown_of_source =
+      record {
+        description = ap (λ x. x.description) k.same ∙ (ap (λ o. said_description (entries_at o)) one_object ∙ sym (ap (λ x. x.description) l.same));
+        extensions = ap (λ x. x.extensions) k.same ∙ (ap₂ (λ s o. extensions_of s (entries_at o)) source one_object ∙ sym (ap (λ x. x.extensions) l.same));
+        deprecated = ap (λ x. x.deprecated) k.same ∙ (ap (λ o. said_deprecated (entries_at o)) one_object ∙ sym (ap (λ x. x.deprecated) l.same));
+      }

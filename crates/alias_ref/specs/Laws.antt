@@ -24,7 +24,7 @@ use Rattle.alias_ref.specs.Kinds.{Kinds, KindOf, LinksAt, IsLink, own_in, group_
 use Rattle.alias_ref.specs.PlainParts.{plain_at, Below}
 use Rattle.alias_ref.specs.Depth.{LinkDepth}
 use Rattle.alias_ref.specs.Refs.{refs_of}
-use Rattle.alias_ref.specs.Unchanged.{Unchanged, AreDefinitions}
+use Rattle.alias_ref.specs.Unchanged.{Unchanged, AreDefinedAlong, AreDefinitions}
 use Rattle.alias_ref.specs.declared.fault.RefRule.TheVariants as rule
 
 abbrev pub Flat : Type 0
@@ -121,6 +121,15 @@ SourceDecides = (d e : Definition) → IsDefinition d → IsDefinition e → d.s
 abbrev pub RefsOfSource : Type 0
 RefsOfSource = (d e : Definition) → IsDefinition d → IsDefinition e → d.source ≡ e.source → refs_of d ≡ refs_of e
 
+-- .. and so is what is shown beside its value
+pub record ShowsSame (d e : Definition) : Type 0 where
+  pub description : d.description ≡ e.description
+  pub extensions : d.extensions ≡ e.extensions
+  pub deprecated : d.deprecated ≡ e.deprecated
+
+abbrev pub ShownBySource : Type 0
+ShownBySource = (d e : Definition) → IsDefinition d → IsDefinition e → d.source ≡ e.source → ShowsSame d e
+
 -- each well-spelled reference that is written in a value names a token of its list
 abbrev pub WrittenAreListed : Type 0
 WrittenAreListed = (d : Definition) (trail token steps : List Step) → written_at d trail ≡ Some (refers token steps) → In token (refs_of d)
@@ -137,4 +146,4 @@ pub record AreAlike (old new : Flat) (token : List Step) : Type 0 where
   pub links : (ls : List Link) → LinksAt (written_in old) (own_in old) (group_in old) (whole token) ls ↔ LinksAt (written_in new) (own_in new) (group_in new) (whole token) ls
 
 abbrev pub UnchangedIsAlike : Type 0
-UnchangedIsAlike = (old new : Flat) (token : List Step) → AreDefinitions old → AreDefinitions new → Unchanged old new token → AreAlike old new token
+UnchangedIsAlike = (old new : Flat) (token : List Step) → AreDefinedAlong old new token → AreDefinedAlong new new token → Unchanged old new token → AreAlike old new token

@@ -57,6 +57,10 @@ pub data Reaches (flat : flat_map.FinMap names_cmp Flattened) (from : List Step)
 abbrev pub Unchanged : flat_map.FinMap names_cmp Flattened → flat_map.FinMap names_cmp Flattened → List Step → Type 0
 Unchanged old new from = (path : List Step) → Reaches new from path → raw_in old path ≡ raw_in new path
 
+-- each token of the first tree at a path that is reached in the second is what its source shows
+abbrev pub AreDefinedAlong : flat_map.FinMap names_cmp Flattened → flat_map.FinMap names_cmp Flattened → List Step → Type 0
+AreDefinedAlong flat new from = (path : List Step) (f : Flattened) → Reaches new from path → flat_map.get flat path ≡ Some f → IsDefinition f.def
+
 -- each token of the tree is what its source shows
 abbrev pub AreDefinitions : flat_map.FinMap names_cmp Flattened → Type 0
 AreDefinitions flat = (path : List Step) (f : Flattened) → flat_map.get flat path ≡ Some f → IsDefinition f.def

@@ -7,6 +7,7 @@ ghost use Rattle.alias_ref.specs.Laws.{OneKind, OneLinks, RingsAreReal, BreaksAr
 ghost use Rattle.alias_ref.specs.Laws.{UnbrokenMeans, UnbrokenIsSound, UnbrokenDepth};
 ghost use Rattle.alias_ref.specs.Laws.{UnbrokenHasKind, UnbrokenHasLinks, MeaningsFit, PartsMean};
 ghost use Rattle.alias_ref.specs.Laws.{LinksAreReal, LinksAreAll, SourceDecides, RefsOfSource};
+ghost use Rattle.alias_ref.specs.Laws.{ShownBySource};
 ghost use Rattle.alias_ref.specs.Laws.{WrittenAreListed, ListedAreWritten, UnchangedIsAlike};
 
 /// The readings of texts are exact: an alias names the path that its text spells, and a pointer the place.
@@ -59,10 +60,11 @@ pub fn links_are_real()
     ensures all { LinksAreAll }
 {}
 
-/// What is written in a token is decided by its source: not by its file or its offsets.
+/// What is written in a token, and what is shown beside its value, is decided by its source: not by its file or its offsets.
 pub fn source_decides()
     ensures written { SourceDecides }
     ensures refs { RefsOfSource }
+    ensures shown { ShownBySource }
 {}
 
 /// The tokens that a value names are those of the references that are written in it.
@@ -71,8 +73,8 @@ pub fn refs_are_written()
     ensures listed { ListedAreWritten }
 {}
 
-/// Where no walk of references leads from a token to a path whose raw entry differs, two flat trees have the same break,
-/// meaning, kind and links of it, wherever their spans stand.
+/// Where no walk of references leads from a token to a path whose raw entry differs, two flat trees, whose tokens there are
+/// what their sources show, have the same break, meaning, kind and links of it, wherever their spans stand.
 pub fn unchanged_is_alike()
     ensures { UnchangedIsAlike }
 {}

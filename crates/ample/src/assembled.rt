@@ -1,7 +1,7 @@
 // The parts of many tokens, kept and put together.
 ghost use Rattle.std.specs.Prelude.{◌≡◌, ◌<◌};
 
-use build_plain::{assemble, build, parts_of};
+use build_plain::{Earlier, assemble, build, parts_of};
 use file_plan::Files;
 use itoa::Buffer;
 use std::alloc::Global;
@@ -66,7 +66,15 @@ fn counted<L: Ledger, M: Ledger, N: Ledger>(
     let mut evals: Steps<N> = Steps::new(evals);
     let parts = parts_of(alloc, files, &mut parses, &mut merges, &mut evals)?;
     let assembled = assemble(alloc, files, &parts)?;
-    let built = build(alloc, files, &mut parses, &mut merges, &mut evals)?;
+    let mut earlier = Earlier::new();
+    let built = build(
+        alloc,
+        files,
+        &mut earlier,
+        &mut parses,
+        &mut merges,
+        &mut evals,
+    )?;
     Ok(are_alike(&built, &assembled))
 }
 

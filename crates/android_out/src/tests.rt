@@ -15,7 +15,7 @@ use std::alloc::Global;
 use std::process::Abort;
 use std::test::Fail;
 use tk_io::{Bytes, NoMemory, Text};
-use transforms::{Config, Frag, Names, Sheet, read_config};
+use transforms::{Config, Names, Platform, Sheet, Texts, name_for, read_config};
 use type_rules::ValueFault;
 
 fn typed<'s>(alloc: Global, kind: Kind, plain: &Plain<'s>) -> Result<Typed<'s>, ValueFault<'s>>
@@ -42,11 +42,15 @@ fn config(alloc: Global, prefix: &str, base: &str) -> Result<Config, Fail> {
 }
 
 /// The names, each with a newline after it.
-fn listed(alloc: Global, names: &Names) -> Result<Bytes, NoMemory> {
+fn listed(alloc: Global, names: &Names<'_>) -> Result<Bytes, NoMemory> {
+    let mut texts = Texts::new(alloc);
+    names.push_to(&mut texts)?;
     let mut out = Bytes::new(alloc);
-    for name in names.as_slice() {
-        out.append(name.as_slice())?;
-        out.append(b"\n")?;
+    for i in 0..texts.len() {
+        if let Some(name) = texts.at(i) {
+            out.append(name)?;
+            out.append(b"\n")?;
+        }
     }
     Ok(out)
 }
@@ -58,21 +62,26 @@ fn name_in(line: &str) -> Option<&str> {
     Some(name)
 }
 
-/// Whether the fragment has these lines, and the names of their elements.
-fn has_lines(alloc: Global, frag: &Frag, lines: &str) -> Result<bool, NoMemory> {
+/// Whether the draft has these lines, and the names are those of their elements.
+fn has_lines(
+    alloc: Global,
+    names: &Names<'_>,
+    draft: &Bytes,
+    lines: &str,
+) -> Result<bool, NoMemory> {
     let mut body = Bytes::new(alloc);
-    let mut names = Bytes::new(alloc);
+    let mut expected = Bytes::new(alloc);
     for line in lines.split('|') {
         body.append(b"  ")?;
         body.append(line.as_bytes())?;
         body.append(b"\n")?;
         if let Some(name) = name_in(line) {
-            names.append(name.as_bytes())?;
-            names.append(b"\n")?;
+            expected.append(name.as_bytes())?;
+            expected.append(b"\n")?;
         }
     }
-    let declared = listed(alloc, &frag.names)?;
-    Ok(frag.body.as_slice() == body.as_slice() && declared.as_slice() == names.as_slice())
+    let declared = listed(alloc, names)?;
+    Ok(draft.as_slice() == body.as_slice() && declared.as_slice() == expected.as_slice())
 }
 
 /// A draft in which other lines were made.
@@ -97,8 +106,9 @@ fn is_written(
     match typed(alloc, kind, &value) {
         Ok(typed) => {
             let mut draft = used_draft(alloc)?;
-            let frag = fragment(alloc, &mut draft, path, &typed, config)?;
-            has_lines(alloc, &frag, lines)
+            let name = name_for(alloc, Platform::Android, path, config)?;
+            let names = fragment(alloc, &mut draft, name.as_slice(), &typed, config)?;
+            has_lines(alloc, &names, &draft, lines)
         }
         Err(ValueFault::Broken { .. }) => Ok(false),
         Err(ValueFault::NoMemory) => Err(NoMemory),
@@ -181,12 +191,14 @@ fn file_has_its_frame(rt: HostRuntime) -> Result<(), Fail> {
     let alloc = rt.alloc();
     let config = Config::plain(alloc);
     let mut draft = Bytes::new(alloc);
-    let mut sheet = Sheet::start(alloc, FRAME)?;
+    let mut sheet = Sheet::start(alloc, FRAME, 8)?;
     for name in ["a", "b"] {
         let path = path(alloc, name)?;
         let value = Plain::Num("1");
         if let Ok(typed) = typed(alloc, Kind::FontWeight, &value) {
-            sheet.add(&fragment(alloc, &mut draft, &path, &typed, &config)?)?;
+            let name = name_for(alloc, Platform::Android, &path, &config)?;
+            fragment(alloc, &mut draft, name.as_slice(), &typed, &config)?;
+            sheet.add_body(draft.as_slice())?;
         }
     }
     let text = sheet.finish()?;

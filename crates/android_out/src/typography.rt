@@ -11,7 +11,7 @@ use crate::content::{Content, size_content};
 use composite_rules::Typography;
 use std::alloc::Global;
 use tk_io::{Bytes, NoMemory, Sequence};
-use transforms::{Config, Frag, Names, name_with_ending};
+use transforms::{Config, Names, name_with_ending};
 
 // Adds the element of the name with this ending.
 fn add(
@@ -33,8 +33,8 @@ fn add(
     Ok(())
 }
 
-/// The five names and elements; the family and the weight are those that are given.
-pub(crate) fn typography_fragment(
+/// The five names, and their elements in the draft; the family and the weight are those that are given.
+pub(crate) fn typography_fragment<'a>(
     alloc: Global,
     draft: &mut Bytes,
     cfg: &Config,
@@ -42,11 +42,12 @@ pub(crate) fn typography_fragment(
     value: &Typography<'_>,
     family: &Content<'_>,
     weight: &Content<'_>,
-) -> Result<Frag, NoMemory>
+) -> Result<Names<'a>, NoMemory>
     requires { IsTypography value.now }
-    ensures { IfOk result (IsFragment name.now
+    ensures { IfOk result (λ names. IsFragment name.now
         (five_values cfg.now name.now value.now
-        (content_view family.now) (content_view weight.now))) }
+        (content_view family.now) (content_view weight.now))
+        (record { names = names; body = draft.new })) }
 {
     let mut names = Sequence::new(alloc);
     draft.truncate(0);
@@ -58,6 +59,5 @@ pub(crate) fn typography_fragment(
     add(alloc, &mut names, draft, name, "_font_weight", weight)?;
     add(alloc, &mut names, draft, name, "_letter_spacing", &spacing)?;
     add(alloc, &mut names, draft, name, "_line_height", &height)?;
-    let lines = Frag::of_draft(alloc, Names::several(names), draft)?;
-    Ok(lines)
+    Ok(Names::several(names))
 }

@@ -1,12 +1,15 @@
 //! The fragment of a token.
 
-ghost use Rattle.std.specs.Prelude.{◌≡◌, ◌<◌, ◌^◌, [], ◌∷◌, IfOk};
+ghost use Rattle.std.specs.Prelude.{◌≡◌, ◌<◌, ◌^◌, true, [], ◌∷◌, IfOk, OnOk};
+ghost use Rattle.transforms.specs.PlatformName.{is_identifier};
 ghost use Rattle.transforms.specs.View.{frame_view};
 ghost use Rattle.composite_rules.specs.Sound.{IsTyped, IsTypography};
+ghost use Rattle.android_out.specs.Element.{value_names};
 ghost use Rattle.android_out.specs.PlatformValue.{unless_omitted, family_content, whole_content};
 ghost use Rattle.android_out.specs.PlatformValue.{android_values};
-ghost use Rattle.android_out.specs.Spelling.{fragment_names, fragment_text};
-ghost use Rattle.android_out.specs.Sheets.{android_frame, IsNamed, IsReadAsValues};
+ghost use Rattle.android_out.specs.Reading.{Block};
+ghost use Rattle.android_out.specs.Sheets.{android_frame};
+ghost use Rattle.android_out.specs.Spelling.{body_text};
 ghost use Rattle.android_out.specs.inner.View.{content_view};
 ghost use Rattle.android_out.specs.inner.Written.{IsFragment};
 
@@ -14,10 +17,9 @@ use crate::content::{Content, simple_content, whole_content};
 use crate::family::family_content;
 use crate::typography::typography_fragment;
 use composite_rules::{Typed, Typography};
-use name_path::Path;
 use std::alloc::Global;
 use tk_io::{Bytes, NoMemory};
-use transforms::{Config, Frag, Frame, Names, Platform, name_for};
+use transforms::{Config, Frame, Names};
 
 /// What stands around the fragments of a resource file.
 pub const FRAME: Frame = Frame {
@@ -34,47 +36,49 @@ pub fn frame() -> Frame
     FRAME
 }
 
-fn omitted(alloc: Global, draft: &mut Bytes, name: &[u8]) -> Result<Frag, NoMemory>
-    ensures { IfOk result (IsFragment name.now []) }
+// The comment of a token without elements.
+fn omitted<'a>(draft: &mut Bytes, name: &[u8]) -> Result<Names<'a>, NoMemory>
+    ensures { IfOk result (λ names. IsFragment name.now []
+        (record { names = names; body = draft.new })) }
 {
     draft.truncate(0);
     draft.append(b"  <!-- omitted ")?;
     draft.append(name)?;
     draft.append(b" -->\n")?;
-    let comment = Frag::of_draft(alloc, Names::none(), draft)?;
-    Ok(comment)
+    Ok(Names::none())
 }
 
-fn one_line(
-    alloc: Global,
+fn one_line<'a>(
     draft: &mut Bytes,
-    name: Bytes,
+    name: &'a [u8],
     content: &Content<'_>,
-) -> Result<Frag, NoMemory>
-    ensures { IfOk result (IsFragment name ((name, content_view content.now) ∷ [])) }
+) -> Result<Names<'a>, NoMemory>
+    ensures { IfOk result (λ names. IsFragment name.now ((name.now, content_view content.now) ∷ [])
+        (record { names = names; body = draft.new })) }
 {
     draft.truncate(0);
-    content.append_line(name.as_slice(), draft)?;
-    let line = Frag::of_draft(alloc, Names::one(name), draft)?;
-    Ok(line)
+    content.append_line(name, draft)?;
+    Ok(Names::one(name))
 }
 
-fn five_lines(
+fn five_lines<'a>(
     alloc: Global,
     draft: &mut Bytes,
     cfg: &Config,
     name: &[u8],
     value: &Typography<'_>,
-) -> Result<Frag, NoMemory>
+) -> Result<Names<'a>, NoMemory>
     requires { IsTypography value.now }
-    ensures { IfOk result (IsFragment name.now (unless_omitted cfg.now name.now value.now
-        (family_content value.now.family) (whole_content value.now.weight))) }
+    ensures { IfOk result (λ names. IsFragment name.now
+        (unless_omitted cfg.now name.now value.now
+        (family_content value.now.family) (whole_content value.now.weight))
+        (record { names = names; body = draft.new })) }
 {
     let Some(family) = family_content(value.family.as_slice()) else {
-        return omitted(alloc, draft, name);
+        return omitted(draft, name);
     };
     let Some(weight) = whole_content(&value.weight) else {
-        return omitted(alloc, draft, name);
+        return omitted(draft, name);
     };
     typography_fragment(alloc, draft, cfg, name, value, &family, &weight)
 }
@@ -86,52 +90,56 @@ fn has_base(cfg: &Config)
     let _base = cfg.rem_base;
 }
 
-fn written(
+fn written<'a>(
     alloc: Global,
     draft: &mut Bytes,
     cfg: &Config,
-    name: Bytes,
+    name: &'a [u8],
     typed: &Typed<'_>,
-) -> Result<Frag, NoMemory>
+) -> Result<Names<'a>, NoMemory>
     requires { IsTyped typed.now }
-    ensures { IfOk result (IsFragment name (android_values cfg.now name typed.now)) }
+    ensures { IfOk result (λ names. IsFragment name.now
+        (android_values cfg.now name.now typed.now)
+        (record { names = names; body = draft.new })) }
 {
     match typed {
         Typed::Simple(simple) => match simple_content(cfg, simple) {
-            Some(content) => one_line(alloc, draft, name, &content),
-            None => omitted(alloc, draft, name.as_slice()),
+            Some(content) => one_line(draft, name, &content),
+            None => omitted(draft, name),
         },
-        Typed::Typography(value) => five_lines(alloc, draft, cfg, name.as_slice(), value),
+        Typed::Typography(value) => five_lines(alloc, draft, cfg, name, value),
         Typed::StrokeStyle(_)
         | Typed::Border(_)
         | Typed::Transition(_)
         | Typed::Shadow(_)
-        | Typed::Gradient(_) => omitted(alloc, draft, name.as_slice()),
+        | Typed::Gradient(_) => omitted(draft, name),
     }
 }
 
-/// The names and elements of a token in a resource file (values resources of Android). A value of which Android has no
-/// such resource gives no name and a comment: a colour without bytes, a duration that is no whole number of milliseconds
-/// within 32 bits, a weight that is not whole, a family that is not plain words, and the kinds without elements.
+/// The names of a token of this name in a resource file (values resources of Android), and its elements in the draft. A
+/// value of which Android has no such resource gives no name and a comment: a colour without bytes, a duration that is no
+/// whole number of milliseconds within 32 bits, a weight that is not whole, a family that is not plain words, and the kinds
+/// without elements.
 ///
-/// The lines are made in the draft, whatever it holds. The value is one that a token can have. The text is read as the elements of the names where the path is one that a token
-/// can have.
-pub fn fragment(
+/// The draft holds these lines alone afterwards, whatever it held. One element has the name that is lent. The value is one
+/// that a token can have. The lines are read as the elements of the names where the token's name is an identifier.
+pub fn fragment<'a>(
     alloc: Global,
     draft: &mut Bytes,
-    path: &Path<'_>,
+    name: &'a [u8],
     typed: &Typed<'_>,
     cfg: &Config,
-) -> Result<Frag, NoMemory>
+) -> Result<Names<'a>, NoMemory>
     requires typed { IsTyped typed.now }
-    ensures names { IfOk result (λ f. f.names ≡ fragment_names cfg.now path.now typed.now) }
-    ensures body { IfOk result (λ f. f.body ≡ fragment_text cfg.now path.now typed.now) }
+    ensures names { IfOk result (λ names. names
+        ≡ value_names (android_values cfg.now name.now typed.now)) }
+    ensures body { OnOk result (draft.new
+        ≡ body_text name.now (android_values cfg.now name.now typed.now)) }
     ensures base { cfg.now.rem_base < 2 ^ 8 }
-    ensures named { IfOk result (λ f. IsNamed cfg.now path.now) }
-    ensures reads { IfOk result (λ f. IsReadAsValues cfg.now path.now typed.now f.body) }
+    ensures reads { is_identifier name.now ≡ true
+        → OnOk result (Block draft.new (android_values cfg.now name.now typed.now)) }
 {
     has_base(cfg);
-    let name = name_for(alloc, Platform::Android, path, cfg)?;
-    let fragment = written(alloc, draft, cfg, name, typed)?;
-    Ok(fragment)
+    let names = written(alloc, draft, cfg, name, typed)?;
+    Ok(names)
 }

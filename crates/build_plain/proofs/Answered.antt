@@ -27,7 +27,7 @@ use Rattle.token_cells.specs.Laws.{OneCells}
 use Rattle.token_cells.specs.OtherSheets.{AndroidDenotes, SwiftDenotes, JsonDenotes, AndroidCellsDenote, SwiftCellsDenote, JsonCellsDenote, AreTokenPaths}
 use Rattle.token_cells.specs.Sheets.{sheet_for}
 use Rattle.token_cells.specs.declared.format.Format.TheVariants.{Css, Android, Swift, Json}
-use Rattle.token_cells.specs.declared.token_cell.TokenCell.{TokenCell}
+use Rattle.token_cells.specs.TokenCell.{TokenCell}
 use Rattle.build_plain.specs.Breaks.{home_of, first_file, tree_reports, InTokens, InTree, InTrees, Finds}
 use Rattle.build_plain.specs.Denotes.{IsAccepted, IsRefused, AreOutputsOf, IsOfOne, EachIsAnswered, NeverBoth, NoOtherStands}
 use Rattle.build_plain.specs.Out.{perm_outputs, OfPlan, GivesFrom, BuildsUnder, settings_of}

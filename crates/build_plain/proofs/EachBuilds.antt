@@ -33,7 +33,7 @@ use Rattle.refusals.specs.Planning.{plan_report}
 use Rattle.refusals.specs.Refusal.{Report, report_text, file_text}
 use Rattle.token_cells.specs.Breaks.{token_reports, verdict}
 use Rattle.token_cells.specs.Existence.{AreDefined, EachCells}
-use Rattle.token_cells.specs.declared.token_cell.TokenCell.{TokenCell}
+use Rattle.token_cells.specs.TokenCell.{TokenCell}
 use Rattle.build_plain.specs.Breaks.{tokens_path, home_by, home_of, first_file, source_report, tree_reports, Finding, InTokens, InTree, InTrees, Finds}
 use Rattle.build_plain.specs.Laws.{EachBuilds, EachWorks}
 use Rattle.build_plain.specs.Out.{one_output, put_beside, perm_outputs, GivesFrom, OfPlan, config_path, settings_by, settings_of, config_reports, refused_config, BuildsUnder}

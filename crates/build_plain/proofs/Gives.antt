@@ -23,7 +23,7 @@ use Rattle.token_cells.specs.Breaks.{token_reports, verdict}
 use Rattle.token_cells.specs.Cell.{AreCells}
 use Rattle.token_cells.specs.Sheets.{sheet_for}
 use Rattle.token_cells.specs.declared.format.Format.TheVariants.{Css, Android, Swift, Json}
-use Rattle.token_cells.specs.declared.token_cell.TokenCell.{TokenCell}
+use Rattle.token_cells.specs.TokenCell.{TokenCell}
 use Rattle.build_plain.specs.Breaks.{home_of, first_file, source_report, tree_reports, InTokens, InTree, InTrees, InSources}
 use Rattle.build_plain.specs.Out.{four_outputs, perm_outputs, put_beside, Gives}
 

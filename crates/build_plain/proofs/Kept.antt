@@ -19,12 +19,31 @@ use Rattle.token_tree.specs.declared.tree.Group.{Group as GroupCode}
 use Rattle.transforms.specs.Config.{Settings}
 use Rattle.tk_io.specs.FilesData.{FilesData}
 use Rattle.token_cells.specs.Breaks.{token_reports, verdict}
-use Rattle.token_cells.specs.declared.token_cell.TokenCell.{TokenCell}
+use Rattle.token_cells.specs.Cell.{AreCells}
+use Rattle.token_cells.specs.TokenCell.{TokenCell}
 use Rattle.build_plain.specs.Breaks.{home_of, first_file, source_report, tree_reports, InTree, InTrees, InSources}
 use Rattle.build_plain.specs.Out.{perm_outputs, put_beside, Gives}
 use Rattle.build_plain.specs.Parts.{AreKept, AreKeptOf}
+use Rattle.build_plain.specs.declared.outcome.Outcome.{Outcome}
+use Rattle.build_plain.specs.declared.outcome.Outcome.TheVariants as outcome
 use Rattle.build_plain.specs.inner.Making.{SourceHasBreak}
+use Rattle.build_plain.specs.inner.Outcomes.{HoldsCells, IsOutcome}
 use Rattle.build_plain.proofs.Gives.{gives_tokens, gives_flat, gives_broken, gives_source_break}
+
+-- what is kept of tokens are their cells
+cells_among : (settings : Settings) (bs : List BreakAt) (ts : List Group) (flat : Flat) (cells : List TokenCell) → AreKept settings bs ts (Some (merge.Flat flat)) (Some cells)
+    → AreCells flat settings (finite.entries flat) cells
+cells_among settings [] ts flat cells (is, are) = are
+cells_among settings (b ∷ bs) ts flat cells (none, no_cells) = absurd (cc)
+
+kept_cells : (settings : Settings) (files : FilesData) (p : Permutation) (flat : Flat) (cells : List TokenCell) → AreKeptOf settings files p (Some (merge.Flat flat)) (Some cells)
+    → AreCells flat settings (finite.entries flat) cells
+kept_cells settings files p flat cells (bs, ts, found, kept) = cells_among settings bs ts flat cells kept
+
+pub holds_cells : (settings : Settings) (files : FilesData) (p : Permutation) (o : Outcome) → IsOutcome settings files p o → HoldsCells settings o
+holds_cells settings files p (outcome.Tokens tree) is = kept_cells settings files p tree.tokens tree.cells is
+holds_cells settings files p (outcome.TreeBreak fault) is = tt
+holds_cells settings files p (outcome.SourceBreak b) is = tt
 
 module _ (files : FilesData) (settings : Settings) (p : Permutation) (before out : FilesData) where
   abbrev Found : Type 0

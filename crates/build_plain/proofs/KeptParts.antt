@@ -19,7 +19,7 @@ use Rattle.source_trees.specs.Sources.{BreakAt}
 use Rattle.source_trees.specs.declared.merge.Merge.{Merge}
 use Rattle.transforms.specs.Config.{Settings}
 use Rattle.refusals.specs.Planning.{break_of}
-use Rattle.token_cells.specs.declared.token_cell.TokenCell.{TokenCell}
+use Rattle.token_cells.specs.TokenCell.{TokenCell}
 use Rattle.build_plain.specs.Parts.{AreKept, AreKeptOf, AreTrees, ArePartsUnder}
 use Rattle.build_plain.specs.declared.outcome.Outcome.{Outcome}
 use Rattle.build_plain.specs.declared.outcome.Outcome.TheVariants.{Tokens, TreeBreak, SourceBreak}
@@ -81,7 +81,7 @@ nothing_kept name parts bare = record {
 
 -- what a permutation comes to is what is kept of it
 pub outcome_kept : (settings : Settings) (files : FilesData) (p : Permutation) (o : Outcome) → IsOutcome settings files p o → AreKeptOf settings files p (merge_in o) (cells_in o)
-outcome_kept settings files p (Tokens flat cells) is = is
+outcome_kept settings files p (Tokens tree) is = is
 outcome_kept settings files p (TreeBreak fault) is = is
 outcome_kept settings files p (SourceBreak b) (bs, ts, found, (rest, is)) =
     (bs, ts, found, subst (λ (xs : List BreakAt). AreKept settings xs ts None None) (sym is) (refl, refl))

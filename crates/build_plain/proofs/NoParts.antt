@@ -12,7 +12,7 @@ use Rattle.source_trees.specs.Sources.{BreakAt, break_at}
 use Rattle.source_trees.specs.declared.merge.Merge.{Merge}
 use Rattle.source_trees.specs.declared.source.SourceFault.TheVariants.{Missing}
 use Rattle.source_trees.proofs.EachMerge.{missing_found}
-use Rattle.token_cells.specs.declared.token_cell.TokenCell.{TokenCell}
+use Rattle.token_cells.specs.TokenCell.{TokenCell}
 use Rattle.transforms.specs.Config.{plain}
 use Rattle.build_plain.specs.Breaks.{tokens_path, home_of}
 use Rattle.build_plain.specs.Out.{config_path, settings_by}

@@ -20,7 +20,7 @@ use Rattle.tk_io.specs.FilesData.{FilesData}
 use Rattle.refusals.specs.Refusal.{Report}
 use Rattle.token_cells.specs.Breaks.{token_reports, verdict}
 use Rattle.token_cells.specs.Laws.{OneCells}
-use Rattle.token_cells.specs.declared.token_cell.TokenCell.{TokenCell}
+use Rattle.token_cells.specs.TokenCell.{TokenCell}
 use Rattle.build_plain.specs.Breaks.{home_of, first_file, tree_reports, InTokens, InTree, InTrees, InSources}
 use Rattle.build_plain.specs.Out.{put_beside, perm_outputs, refused_config, GivesOf, GivesFrom, OfPlan, BuildsUnder, Builds, settings_of}
 use Rattle.build_plain.specs.Work.{Work, work, added, TreeWork, TreesWork, PermWork, PermsWork, PlanWork, WorkUnder, IsWork}

@@ -16,7 +16,7 @@ use Rattle.permutations.specs.Permutation.{Permutation}
 use Rattle.transforms.specs.Config.{Settings}
 use Rattle.refusals.specs.Refusal.{Report}
 use Rattle.token_cells.specs.Breaks.{verdict}
-use Rattle.token_cells.specs.declared.token_cell.TokenCell.{TokenCell}
+use Rattle.token_cells.specs.TokenCell.{TokenCell}
 use Rattle.build_plain.specs.Breaks.{Finds}
 use Rattle.build_plain.specs.Denotes.{IsOfOne, names_by}
 use Rattle.build_plain.specs.Out.{Output, perm_outputs, put_beside, GivesFrom}

@@ -20,7 +20,7 @@ use Rattle.source_trees.specs.declared.merge.Merge.TheVariants as merge
 use Rattle.source_trees.specs.declared.shape.FileShape.{FileShape}
 use Rattle.source_trees.specs.declared.source.SourceBreak.{SourceBreak as Break}
 use Rattle.transforms.specs.Config.{Settings}
-use Rattle.token_cells.specs.declared.token_cell.TokenCell.{TokenCell}
+use Rattle.token_cells.specs.TokenCell.{TokenCell}
 use Rattle.build_plain.specs.Breaks.{home_of}
 use Rattle.build_plain.specs.Parts.{AreCellsFor, AreKept, AreKeptOf}
 use Rattle.build_plain.specs.Work.{Work, TreeWork, PermWork, RiseBy, RiseWithin}
@@ -45,7 +45,7 @@ module _ (settings : Settings) (files : FilesData) (p : Permutation) (g : GroupC
   )
 
   pub tree_of_perm : IsMergedOf files (home_of files) p.sources (Tree g) → (o : Outcome) → IsTreeOutcome settings (group_view g) o → IsOutcome settings files p o
-  tree_of_perm merged (Tokens flat cells) comes_to = kept merged (merge.Flat flat) (Some cells) comes_to.0 comes_to.1
+  tree_of_perm merged (Tokens tree) comes_to = kept merged (merge.Flat tree.tokens) (Some tree.cells) comes_to.0 comes_to.1
   tree_of_perm merged (TreeBreak fault) comes_to = kept merged (merge.Broken fault) None comes_to refl
   tree_of_perm merged (SourceBreak b) comes_to = absurd comes_to
 

@@ -22,7 +22,7 @@ use Rattle.refusals.specs.declared.rule.Rule.{Rule}
 use Rattle.refusals.specs.declared.rule.Rule.TheVariants as rule
 use Rattle.token_cells.specs.Breaks.{token_reports}
 use Rattle.token_cells.specs.Cell.{AreCells}
-use Rattle.token_cells.specs.declared.token_cell.TokenCell.{TokenCell}
+use Rattle.token_cells.specs.TokenCell.{TokenCell}
 
 -- Of sources.
 

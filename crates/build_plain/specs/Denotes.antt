@@ -12,7 +12,7 @@ use Rattle.transforms.specs.Config.{Settings}
 use Rattle.refusals.specs.Refusal.{Report, report_text}
 use Rattle.token_cells.specs.Denotes.{SheetDenotes}
 use Rattle.token_cells.specs.OtherSheets.{AndroidDenotes, SwiftDenotes, JsonDenotes}
-use Rattle.token_cells.specs.declared.token_cell.TokenCell.{TokenCell}
+use Rattle.token_cells.specs.TokenCell.{TokenCell}
 use Rattle.build_plain.specs.Breaks.{home_of, Finds}
 use Rattle.build_plain.specs.Out.{Builds, settings_of}
 

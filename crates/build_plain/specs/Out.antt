@@ -14,7 +14,7 @@ use Rattle.refusals.specs.declared.rule.Rule.TheVariants as rule
 use Rattle.token_cells.specs.Breaks.{verdict}
 use Rattle.token_cells.specs.Sheets.{sheet_for}
 use Rattle.token_cells.specs.declared.format.Format.TheVariants.{Css, Android, Swift, Json}
-use Rattle.token_cells.specs.declared.token_cell.TokenCell.{TokenCell}
+use Rattle.token_cells.specs.TokenCell.{TokenCell}
 use Rattle.build_plain.specs.Breaks.{Finding, Finds}
 
 abbrev pub one_output : List ℕ → List ℕ → FilesData

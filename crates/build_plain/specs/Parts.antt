@@ -19,7 +19,7 @@ use Rattle.transforms.specs.declared.config.ConfigFault.{ConfigFault}
 use Rattle.tk_io.specs.FilesData.{FilesData}
 use Rattle.token_cells.specs.Cell.{AreCells}
 use Rattle.token_cells.specs.View.{cells_view}
-use Rattle.token_cells.specs.declared.token_cell.TokenCell.{TokenCell}
+use Rattle.token_cells.specs.TokenCell.{TokenCell}
 use Rattle.build_plain.specs.Breaks.{home_of}
 use Rattle.build_plain.specs.Out.{settings_of}
 use Rattle.build_plain.specs.declared.parts.Parts.{Parts}

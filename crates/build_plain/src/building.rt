@@ -3,7 +3,7 @@ ghost use Rattle.std.specs.Prelude.{IfOk, OnOk};
 ghost use Rattle.file_plan.specs.View.{plan_perm_view};
 ghost use Rattle.build_plain.specs.Out.{Builds, BuildsUnder, GivesOf};
 ghost use Rattle.build_plain.specs.Work.{IsWork, RiseBy, RiseWithin, work};
-ghost use Rattle.build_plain.specs.inner.Outcomes.{Given, IsOutcome};
+ghost use Rattle.build_plain.specs.inner.Outcomes.{Given, HoldsCells, IsOutcome};
 
 use crate::config::refused_config;
 use crate::making::{Made, make};
@@ -15,6 +15,7 @@ use file_plan::{Files, PlanPerm, PlanRefusal, Trees};
 use std::alloc::Global;
 use std::sync::ledger::Ledger;
 use tk_io::{NoMemory, Outputs, Steps};
+use token_cells::Earlier;
 use transforms::{Config, ConfigFault};
 
 // Puts the outputs of a permutation by what it comes to.
@@ -32,8 +33,8 @@ fn put_outcome<'s>(
 {
     let name = perm.name.as_str();
     match outcome {
-        Outcome::Tokens(flat, cells) => {
-            put_tokens(alloc, files, name, flat, cells.as_slice(), outputs)
+        Outcome::Tokens(tree) => {
+            put_tokens(alloc, files, name, tree.tokens(), tree.cells(), outputs)
         }
         Outcome::TreeBreak(fault) => {
             let home = home_of(files);
@@ -41,6 +42,22 @@ fn put_outcome<'s>(
             put_tree_break(alloc, files, name, first, fault, outputs)
         }
         Outcome::SourceBreak(found) => put_source_break(alloc, files, name, found, outputs),
+    }
+}
+
+// Keeps the tokens of a permutation, which those of the next one may share.
+fn keep_tokens<'s>(
+    alloc: Global,
+    cfg: &Config,
+    outcome: Outcome<'s>,
+    earlier: &mut Earlier<'s>,
+) -> Result<(), NoMemory>
+    requires { HoldsCells cfg.now outcome }
+{
+    match outcome {
+        Outcome::Tokens(tree) => earlier.keep(alloc, cfg, tree),
+        Outcome::TreeBreak(_) => Ok(()),
+        Outcome::SourceBreak(_) => Ok(()),
     }
 }
 
@@ -78,8 +95,10 @@ impl<'s> Made<'s> for Outputs {
         cfg: &Config,
         perm: &PlanPerm<'s>,
         outcome: Outcome<'s>,
+        earlier: &mut Earlier<'s>,
     ) -> Result<(), NoMemory> {
-        put_outcome(alloc, files, cfg, perm, &outcome, self)
+        put_outcome(alloc, files, cfg, perm, &outcome, self)?;
+        keep_tokens(alloc, cfg, outcome, earlier)
     }
 }
 
@@ -89,13 +108,15 @@ impl<'s> Made<'s> for Outputs {
 /// `tokens.json`. Where `tokc.toml` or `resolver.json` is refused, the one output is `REFUSED`.
 ///
 /// Each file in use is read once, which is one step of `parses`; a merged tree that is made flat is one of `merges`, and
-/// each token of a flat tree one of `evals`.
+/// each token of a flat tree one of `evals`. Tokens that stand as they stood in the tree of the last permutation are
+/// taken from what is kept of it, whatever files were built before.
 ///
 /// # Errors
 /// `NoMemory`. Less may have been done then.
 pub fn build<'s, L: Ledger, M: Ledger, N: Ledger>(
     alloc: Global,
     files: &Files<'s>,
+    earlier: &mut Earlier<'s>,
     parses: &mut Steps<L>,
     merges: &mut Steps<M>,
     evals: &mut Steps<N>,
@@ -107,5 +128,5 @@ pub fn build<'s, L: Ledger, M: Ledger, N: Ledger>(
     ensures at_most { RiseWithin (IsWork files.now)
         (work parses.old merges.old evals.old) (work parses.new merges.new evals.new) }
 {
-    make(alloc, files, parses, merges, evals)
+    make(alloc, files, earlier, parses, merges, evals)
 }

@@ -14,6 +14,7 @@ use source_trees::{Merge, Merges};
 use std::alloc::Global;
 use std::sync::ledger::Ledger;
 use tk_io::{NoMemory, Steps};
+use token_cells::Earlier;
 use transforms::{Config, ConfigFault};
 
 // Trees alone: nothing is kept of a permutation.
@@ -35,7 +36,8 @@ fn keep_outcome<'s>(name: &str, outcome: Outcome<'s>, parts: &mut Parts<'s>) -> 
         (Keeps name.now (merge_in outcome.entry) (cells_in outcome.entry) parts.old parts.new) }
 {
     match outcome {
-        Outcome::Tokens(flat, cells) => {
+        Outcome::Tokens(tree) => {
+            let (flat, cells) = tree.into_parts();
             parts.cells.put(name, cells)?;
             parts.merges.put(name, Merge::Flat(flat))
         }
@@ -84,6 +86,7 @@ impl<'s> Made<'s> for Parts<'s> {
         _cfg: &Config,
         perm: &PlanPerm<'s>,
         outcome: Outcome<'s>,
+        _earlier: &mut Earlier<'s>,
     ) -> Result<(), NoMemory> {
         keep_outcome(perm.name.as_str(), outcome, self)
     }
@@ -112,5 +115,6 @@ pub fn parts_of<'s, L: Ledger, M: Ledger, N: Ledger>(
     ensures at_most { RiseWithin (IsWork files.now)
         (work parses.old merges.old evals.old) (work parses.new merges.new evals.new) }
 {
-    make(alloc, files, parses, merges, evals)
+    let mut earlier = Earlier::new();
+    make(alloc, files, &mut earlier, parses, merges, evals)
 }

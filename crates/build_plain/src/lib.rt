@@ -21,3 +21,4 @@ pub use building::build;
 pub use keeping::parts_of;
 pub use laws::{each_build, one_build, outputs_denote};
 pub use parts::{CellMap, Parts};
+pub use token_cells::Earlier;

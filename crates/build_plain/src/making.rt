@@ -27,6 +27,7 @@ use source_trees::{Shapes, read_named, shapes_known, shapes_of};
 use std::alloc::Global;
 use std::sync::ledger::Ledger;
 use tk_io::{NoMemory, Steps};
+use token_cells::Earlier;
 use transforms::{Config, ConfigFault};
 
 /// What is made of files: `is_made` says of which, by what their configuration says, and `is_making` of which permutations
@@ -64,7 +65,7 @@ pub(crate) trait Made<'s>: Drop {
             → (made : Self) → Plans (map.get files resolver_path) (planned perms)
             → is_making settings files perms [] made → is_made files (Ok settings) made };
 
-    /// Adds what a permutation comes to.
+    /// Adds what a permutation comes to. Its tree may be kept for the next one.
     fn add(
         &mut self,
         alloc: Global,
@@ -72,6 +73,7 @@ pub(crate) trait Made<'s>: Drop {
         cfg: &Config,
         perm: &PlanPerm<'s>,
         outcome: Outcome<'s>,
+        earlier: &mut Earlier<'s>,
     ) -> Result<(), NoMemory>
         requires { IsOutcome cfg.now files.now (plan_perm_view perm.now) outcome }
         ensures { (all others : List Permutation)
@@ -87,6 +89,7 @@ fn make_perms<'s, T: Made<'s>, M: Ledger, N: Ledger>(
     shapes: &Shapes<'s>,
     plan: &[PlanPerm<'s>],
     trees: Trees<'s>,
+    earlier: &mut Earlier<'s>,
     merges: &mut Steps<M>,
     evals: &mut Steps<N>,
 ) -> Result<T, NoMemory>
@@ -103,8 +106,8 @@ fn make_perms<'s, T: Made<'s>, M: Ledger, N: Ledger>(
 {
     let mut made = T::start(alloc, trees);
     for perm in plan {
-        let outcome = perm_outcome(alloc, files, cfg, shapes, perm, merges, evals)?;
-        made.add(alloc, files, cfg, perm, outcome)?;
+        let outcome = perm_outcome(alloc, files, cfg, shapes, perm, earlier, merges, evals)?;
+        made.add(alloc, files, cfg, perm, outcome, earlier)?;
     }
     Ok(made)
 }
@@ -139,6 +142,7 @@ fn make_planned<'s, T: Made<'s>, L: Ledger, M: Ledger, N: Ledger>(
     cfg: &Config,
     plan: &[PlanPerm<'s>],
     mut trees: Trees<'s>,
+    earlier: &mut Earlier<'s>,
     parses: &mut Steps<L>,
     merges: &mut Steps<M>,
     evals: &mut Steps<N>,
@@ -157,7 +161,9 @@ fn make_planned<'s, T: Made<'s>, L: Ledger, M: Ledger, N: Ledger>(
 {
     file_plan_laws();
     let shapes = read_shapes(alloc, files, plan, &mut trees, parses)?;
-    make_perms(alloc, files, cfg, &shapes, plan, trees, merges, evals)
+    make_perms(
+        alloc, files, cfg, &shapes, plan, trees, earlier, merges, evals,
+    )
 }
 
 // The tree of the resolver document, where it is there.
@@ -187,6 +193,7 @@ fn make_under<'s, T: Made<'s>, L: Ledger, M: Ledger, N: Ledger>(
     alloc: Global,
     files: &Files<'s>,
     cfg: &Config,
+    earlier: &mut Earlier<'s>,
     parses: &mut Steps<L>,
     merges: &mut Steps<M>,
     evals: &mut Steps<N>,
@@ -202,7 +209,9 @@ fn make_under<'s, T: Made<'s>, L: Ledger, M: Ledger, N: Ledger>(
     match plan_of(alloc, trees.get(RESOLVER)) {
         Ok(plan) => {
             let plan = plan.as_slice();
-            make_planned(alloc, files, cfg, plan, trees, parses, merges, evals)
+            make_planned(
+                alloc, files, cfg, plan, trees, earlier, parses, merges, evals,
+            )
         }
         Err(refusal) => T::unplanned(alloc, files, trees, &refusal),
     }
@@ -213,6 +222,7 @@ fn make_under<'s, T: Made<'s>, L: Ledger, M: Ledger, N: Ledger>(
 pub(crate) fn make<'s, T: Made<'s>, L: Ledger, M: Ledger, N: Ledger>(
     alloc: Global,
     files: &Files<'s>,
+    earlier: &mut Earlier<'s>,
     parses: &mut Steps<L>,
     merges: &mut Steps<M>,
     evals: &mut Steps<N>,
@@ -225,7 +235,7 @@ pub(crate) fn make<'s, T: Made<'s>, L: Ledger, M: Ledger, N: Ledger>(
         (work parses.old merges.old evals.old) (work parses.new merges.new evals.new) }
 {
     match config_of(alloc, files) {
-        Ok(cfg) => make_under(alloc, files, &cfg, parses, merges, evals),
+        Ok(cfg) => make_under(alloc, files, &cfg, earlier, parses, merges, evals),
         Err(fault) => T::unconfigured(alloc, files, &fault),
     }
 }

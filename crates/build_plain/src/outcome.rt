@@ -9,12 +9,12 @@ ghost use Rattle.build_plain.specs.inner.Outcomes.{IsOutcome, IsTreeOutcome};
 
 use crate::sources::home_of;
 use file_plan::{Files, PlanPerm};
-use group_inherit::{Flat, TreeFault, one_answer};
+use group_inherit::{TreeFault, one_answer};
 use source_trees::{Merge, Merged, Shapes, SourceBreak, merge_of, merged_sources, one_merge};
 use std::alloc::Global;
 use std::sync::ledger::Ledger;
 use tk_io::{NoMemory, Steps};
-use token_cells::{Cells, cells_of};
+use token_cells::{Earlier, Evaluated, cells_of};
 use token_tree::Group;
 use transforms::Config;
 
@@ -22,7 +22,7 @@ use transforms::Config;
 #[derive(Drop)]
 pub(crate) enum Outcome<'s> {
     /// The flat tree, and what its tokens come to.
-    Tokens(Flat<'s>, Cells<'s>),
+    Tokens(Evaluated<'s>),
     /// The rule that the merged tree breaks.
     TreeBreak(TreeFault<'s>),
     /// The first rule that a source breaks.
@@ -34,6 +34,7 @@ fn tree_outcome<'s, M: Ledger, N: Ledger>(
     alloc: Global,
     cfg: &Config,
     tree: &Group<'s>,
+    earlier: &Earlier<'s>,
     merges: &mut Steps<M>,
     evals: &mut Steps<N>,
 ) -> Result<Outcome<'s>, NoMemory>
@@ -46,8 +47,8 @@ fn tree_outcome<'s, M: Ledger, N: Ledger>(
     one_answer();
     match merge_of(alloc, tree, merges)? {
         Merge::Flat(flat) => {
-            let cells = cells_of(alloc, &flat, cfg, evals)?;
-            Ok(Outcome::Tokens(flat, cells))
+            let evaluated = cells_of(alloc, flat, cfg, earlier, evals)?;
+            Ok(Outcome::Tokens(evaluated))
         }
         Merge::Broken(fault) => Ok(Outcome::TreeBreak(fault)),
     }
@@ -60,6 +61,7 @@ pub(crate) fn perm_outcome<'s, M: Ledger, N: Ledger>(
     cfg: &Config,
     shapes: &Shapes<'s>,
     perm: &PlanPerm<'s>,
+    earlier: &Earlier<'s>,
     merges: &mut Steps<M>,
     evals: &mut Steps<N>,
 ) -> Result<Outcome<'s>, NoMemory>
@@ -75,7 +77,7 @@ pub(crate) fn perm_outcome<'s, M: Ledger, N: Ledger>(
     let home = home_of(files);
     let sources = perm.sources.as_slice();
     match merged_sources(alloc, shapes, home, sources)? {
-        Merged::Tree(tree) => tree_outcome(alloc, cfg, &tree, merges, evals),
+        Merged::Tree(tree) => tree_outcome(alloc, cfg, &tree, earlier, merges, evals),
         Merged::Broken(found) => Ok(Outcome::SourceBreak(found)),
     }
 }

@@ -9,7 +9,7 @@ mod table;
 
 use self::plans::PLANS;
 use self::table::{FURTHER, SHEETS, TEXTS, TOKENS, TREES, VALUES};
-use crate::{CellMap, Parts, assemble, build, parts_of};
+use crate::{CellMap, Earlier, Parts, assemble, build, parts_of};
 use file_plan::{Files, Trees};
 use itoa::Buffer;
 use source_trees::Merges;
@@ -56,7 +56,15 @@ fn counted<L: Ledger, M: Ledger, N: Ledger>(
     let mut parses: Steps<L> = Steps::new(parses);
     let mut merges: Steps<M> = Steps::new(merges);
     let mut evals: Steps<N> = Steps::new(evals);
-    build(alloc, files, &mut parses, &mut merges, &mut evals)
+    let mut earlier = Earlier::new();
+    build(
+        alloc,
+        files,
+        &mut earlier,
+        &mut parses,
+        &mut merges,
+        &mut evals,
+    )
 }
 
 fn build_files(alloc: Global, files: &Files<'_>) -> Result<Outputs, NoMemory> {

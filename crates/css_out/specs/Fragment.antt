@@ -129,7 +129,9 @@ module _ (prefix : List ℕ) (links : List Link) where
   abbrev pub entries : List ℕ → Typed → List NamedParts
   entries name v = if can_spell v then lines_of name (link_for links [] (kind_of v)) v else []
 
--- the lines of the token at the path
+-- the lines of the token of the name, and of the token at the path
+abbrev pub entries_under : Settings → List ℕ → List Link → Typed → List NamedParts
+entries_under settings name links v = entries settings.prefix (spelled_links settings links) name v
+
 abbrev pub fragment_entries : Settings → List (List ℕ) → List Link → Typed → List NamedParts
-fragment_entries settings path links v =
-    entries settings.prefix (spelled_links settings links) (css_name settings.prefix path) v
+fragment_entries settings path links v = entries_under settings (css_name settings.prefix path) links v

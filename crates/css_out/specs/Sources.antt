@@ -12,7 +12,7 @@ use Rattle.composite_rules.specs.declared.typed.Typed.TheVariants as typed
 use Rattle.ring.specs.Lists.{In}
 use Rattle.css_out.specs.Piece.{Mark}
 use Rattle.css_out.specs.Reading.{Block}
-use Rattle.css_out.specs.Spelling.{fragment_lines}
+use Rattle.css_out.specs.Spelling.{lines_under}
 use Rattle.css_out.specs.Parts.{Part, plain, linked}
 use Rattle.css_out.specs.PlatformValue.{css_values}
 use Rattle.css_out.specs.Fragment.{css_name}
@@ -25,10 +25,10 @@ TargetsAreNamed prefix links = AllByRecursion (λ l. is_property (css_name prefi
 abbrev pub IsNamed : Settings → List (List ℕ) → Type 0
 IsNamed settings path = IsTokenPath path → is_property (css_name settings.prefix path) ≡ true
 
--- The text is read as the token's lines, where the token's path and its links have names of CSS.
-abbrev pub IsReadAsLines : Settings → List (List ℕ) → List Link → Typed → List ℕ → Type 0
-IsReadAsLines settings path links v text =
-    IsTokenPath path → TargetsAreNamed settings.prefix links → Block text (fragment_lines settings path links v)
+-- The text is read as the lines of the token of the name, where it and the names that the links lead to are names of CSS.
+abbrev pub IsReadUnder : Settings → List ℕ → List Link → Typed → List ℕ → Type 0
+IsReadUnder settings name links v text =
+    is_property name ≡ true → TargetsAreNamed settings.prefix links → Block text (lines_under settings name links v)
 
 -- A part that is spelled by a name comes from a link: what stands there in the value has the kind of the link's token, and
 -- under the name of that token this name has the part's own marks.

@@ -9,7 +9,7 @@ use Rattle.css_out.specs.Piece.{Mark, Piece, mark, var, number, percent, unit, s
 use Rattle.css_out.specs.PlatformValue.{css_values}
 use Rattle.css_out.specs.Reading.{Declared}
 use Rattle.css_out.specs.Parts.{declaration}
-use Rattle.css_out.specs.Fragment.{css_name, fragment_entries}
+use Rattle.css_out.specs.Fragment.{css_name, entries_under}
 
 abbrev pub mark_text : Mark → List ℕ
 mark_text (number d) = spelling d
@@ -56,12 +56,22 @@ abbrev pub body_text : List ℕ → List Declared → List ℕ
 body_text name [] = omitted_text name
 body_text name (d ∷ ds) = flat_map line_text (d ∷ ds)
 
--- the lines of the token at the path, the names that they declare, and their text
+-- the lines of the token of the name, the names that they declare, and their text
+abbrev pub lines_under : Settings → List ℕ → List Link → Typed → List Declared
+lines_under settings name links v = map declaration (entries_under settings name links v)
+
+abbrev pub names_under : List ℕ → Typed → List (List ℕ)
+names_under name v = value_names (css_values name v)
+
+abbrev pub text_under : Settings → List ℕ → List Link → Typed → List ℕ
+text_under settings name links v = body_text name (lines_under settings name links v)
+
+-- the same of the token at the path
 abbrev pub fragment_lines : Settings → List (List ℕ) → List Link → Typed → List Declared
-fragment_lines settings path links v = map declaration (fragment_entries settings path links v)
+fragment_lines settings path links v = lines_under settings (css_name settings.prefix path) links v
 
 abbrev pub fragment_names : Settings → List (List ℕ) → Typed → List (List ℕ)
-fragment_names settings path v = value_names (css_values (css_name settings.prefix path) v)
+fragment_names settings path v = names_under (css_name settings.prefix path) v
 
 abbrev pub fragment_text : Settings → List (List ℕ) → List Link → Typed → List ℕ
-fragment_text settings path links v = body_text (css_name settings.prefix path) (fragment_lines settings path links v)
+fragment_text settings path links v = text_under settings (css_name settings.prefix path) links v

@@ -15,7 +15,7 @@ use std::alloc::Global;
 use std::process::Abort;
 use std::test::Fail;
 use tk_io::{Bytes, NoMemory, Text};
-use transforms::{Config, Frag, Names, Sheet, read_config};
+use transforms::{Config, Names, Platform, Sheet, Texts, name_for, read_config};
 use type_rules::ValueFault;
 
 fn typed<'s>(alloc: Global, kind: Kind, plain: &Plain<'s>) -> Result<Typed<'s>, ValueFault<'s>>
@@ -71,17 +71,26 @@ fn config(alloc: Global, prefix: &str, references: bool) -> Result<Config, Fail>
 }
 
 /// The names, each with a newline after it.
-fn listed(alloc: Global, names: &Names) -> Result<Bytes, NoMemory> {
+fn listed(alloc: Global, names: &Names<'_>) -> Result<Bytes, NoMemory> {
+    let mut texts = Texts::new(alloc);
+    names.push_to(&mut texts)?;
     let mut out = Bytes::new(alloc);
-    for name in names.as_slice() {
-        out.append(name.as_slice())?;
-        out.append(b"\n")?;
+    for i in 0..texts.len() {
+        if let Some(name) = texts.at(i) {
+            out.append(name)?;
+            out.append(b"\n")?;
+        }
     }
     Ok(out)
 }
 
-/// Whether the fragment has these lines, and the names that they declare.
-fn has_lines(alloc: Global, frag: &Frag, lines: &str) -> Result<bool, NoMemory> {
+/// Whether the draft has these lines, and the names are those that they declare.
+fn has_lines(
+    alloc: Global,
+    declared: &Names<'_>,
+    draft: &Bytes,
+    lines: &str,
+) -> Result<bool, NoMemory> {
     let mut body = Bytes::new(alloc);
     let mut names = Bytes::new(alloc);
     for line in lines.split('|') {
@@ -93,8 +102,8 @@ fn has_lines(alloc: Global, frag: &Frag, lines: &str) -> Result<bool, NoMemory> 
             names.append(b"\n")?;
         }
     }
-    let declared = listed(alloc, &frag.names)?;
-    Ok(frag.body.as_slice() == body.as_slice() && declared.as_slice() == names.as_slice())
+    let declared = listed(alloc, declared)?;
+    Ok(draft.as_slice() == body.as_slice() && declared.as_slice() == names.as_slice())
 }
 
 /// A draft in which other lines were made.
@@ -102,6 +111,22 @@ fn used_draft(alloc: Global) -> Result<Bytes, NoMemory> {
     let mut draft = Bytes::new(alloc);
     draft.append(b"  other: lines;\n")?;
     Ok(draft)
+}
+
+/// Whether the token of the name has the lines.
+fn has_fragment(
+    alloc: Global,
+    name: &[u8],
+    typed: &Typed<'_>,
+    links: &Links<'_>,
+    config: &Config,
+    lines: &str,
+) -> Result<bool, NoMemory>
+    requires { IsTyped typed.now }
+{
+    let mut draft = used_draft(alloc)?;
+    let names = fragment(alloc, &mut draft, name, typed, links, config)?;
+    has_lines(alloc, &names, &draft, lines)
 }
 
 /// Whether the value with the links has the lines.
@@ -120,9 +145,8 @@ fn is_written(
     let value = plain(alloc, text)?;
     match typed(alloc, kind, &value) {
         Ok(typed) => {
-            let mut draft = used_draft(alloc)?;
-            let frag = fragment(alloc, &mut draft, path, &typed, &links, config)?;
-            has_lines(alloc, &frag, lines)
+            let name = name_for(alloc, Platform::Css, path, config)?;
+            has_fragment(alloc, name.as_slice(), &typed, &links, config, lines)
         }
         Err(ValueFault::Broken { .. }) => Ok(false),
         Err(ValueFault::NoMemory) => Err(NoMemory),
@@ -227,21 +251,9 @@ const FAMILIES: [(&str, &str); 12] = [
 
 /// Whether the families that the value says give the lines.
 fn are_families_written(alloc: Global, value: &Plain<'_>, lines: &str) -> Result<bool, NoMemory> {
-    let path = path(alloc, "t")?;
     let config = Config::plain(alloc);
     match typed(alloc, Kind::FontFamily, value) {
-        Ok(typed) => {
-            let mut draft = used_draft(alloc)?;
-            let frag = fragment(
-                alloc,
-                &mut draft,
-                &path,
-                &typed,
-                &Links::new(alloc),
-                &config,
-            )?;
-            has_lines(alloc, &frag, lines)
-        }
+        Ok(typed) => has_fragment(alloc, b"--t", &typed, &Links::new(alloc), &config, lines),
         Err(_) => Ok(false),
     }
 }
@@ -275,10 +287,12 @@ fn add_number(
     config: &Config,
 ) -> Result<(), NoMemory> {
     let path = path(alloc, name)?;
+    let name = name_for(alloc, Platform::Css, &path, config)?;
     let value = Plain::Num("1");
     if let Ok(typed) = typed(alloc, Kind::Number, &value) {
-        let frag = fragment(alloc, draft, &path, &typed, &Links::new(alloc), config)?;
-        sheet.add(&frag)?;
+        let links = Links::new(alloc);
+        let _ = fragment(alloc, draft, name.as_slice(), &typed, &links, config)?;
+        sheet.add_body(draft.as_slice())?;
     }
     Ok(())
 }
@@ -287,7 +301,7 @@ fn add_number(
 fn is_sheet_of_two(alloc: Global, wanted: &str) -> Result<bool, NoMemory> {
     let config = Config::plain(alloc);
     let mut draft = Bytes::new(alloc);
-    let mut sheet = Sheet::start(alloc, frame())?;
+    let mut sheet = Sheet::start(alloc, frame(), 64)?;
     for name in ["a", "b"] {
         add_number(alloc, &mut sheet, &mut draft, name, &config)?;
     }

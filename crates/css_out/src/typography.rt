@@ -6,7 +6,7 @@ ghost use Rattle.css_out.specs.Fragment.{css_name, typography_part, typography_l
 ghost use Rattle.css_out.specs.Fragment.{typography_lines};
 ghost use Rattle.css_out.specs.Spelling.{line_text};
 ghost use Rattle.css_out.specs.inner.Added.{with_pieces};
-ghost use Rattle.css_out.specs.inner.Written.{IsFragment};
+ghost use Rattle.css_out.specs.inner.Written.{IsFragment, fragment_of};
 
 use crate::line::Line;
 use crate::links::link_for;
@@ -16,7 +16,7 @@ use composite_rules::Typography;
 use name_path::{Kind, Path};
 use std::alloc::Global;
 use tk_io::{Bytes, NoMemory, Sequence};
-use transforms::{Frag, Names, Platform, name_for, name_with_ending};
+use transforms::{Names, Platform, name_for, name_with_ending};
 
 /// The names and lines so far.
 #[derive(Debug, Drop)]
@@ -121,17 +121,18 @@ impl<'a, 's> Token<'a, 's> {
         Ok(())
     }
 
-    /// The five names and lines.
-    pub(crate) fn typography(
+    /// The five names, and in the draft the five lines.
+    pub(crate) fn typography<'n>(
         &self,
         draft: &mut Bytes,
-        name: &[u8],
+        name: &'n [u8],
         whole: Option<&Path<'_>>,
         value: &Typography<'_>,
-    ) -> Result<Frag, NoMemory>
-        ensures { IfOk result (IsFragment name.now (typography_lines
+    ) -> Result<Names<'n>, NoMemory>
+        ensures { IfOk result (λ names. IsFragment name.now (typography_lines
             self.now.cfg.now.prefix self.now.links.now name.now
-            (option_map (λ p. css_name self.now.cfg.now.prefix p.now) whole.entry) value.now)) }
+            (option_map (λ p. css_name self.now.cfg.now.prefix p.now) whole.entry) value.now)
+            (fragment_of names draft.new)) }
     {
         let whole = self.whole_name(whole)?;
         let mut lines = Lines {
@@ -144,7 +145,6 @@ impl<'a, 's> Token<'a, 's> {
         self.typography_line(&mut lines, name, &whole, &SPACING, &value.spacing)?;
         self.typography_line(&mut lines, name, &whole, &HEIGHT, &value.line_height)?;
         *draft = lines.line.text;
-        let fragment = Frag::of_draft(self.alloc, Names::several(lines.names), draft)?;
-        Ok(fragment)
+        Ok(Names::several(lines.names))
     }
 }

@@ -1,19 +1,16 @@
 //! The fragment of a token.
 
-ghost use Rattle.std.specs.Prelude.{◌≡◌, true, [], ◌∷◌, map, option_map, IfOk};
-ghost use Rattle.transforms.specs.PlatformName.{is_property};
+ghost use Rattle.std.specs.Prelude.{◌≡◌, [], ◌∷◌, option_map, IfOk, OnOk};
 ghost use Rattle.transforms.specs.View.{frame_view};
-ghost use Rattle.name_path.specs.Names.{IsTokenPath};
 ghost use Rattle.composite_rules.specs.Sound.{IsTyped, kind_of};
-ghost use Rattle.css_out.specs.Parts.{declaration};
 ghost use Rattle.css_out.specs.PlatformValue.{can_spell};
-ghost use Rattle.css_out.specs.Spelling.{fragment_names, fragment_text};
-ghost use Rattle.css_out.specs.Fragment.{css_name, spelled_links, line, value_parts, lines_of};
-ghost use Rattle.css_out.specs.Fragment.{entries};
-ghost use Rattle.css_out.specs.Sources.{IsNamed, IsReadAsLines, HasRoom};
+ghost use Rattle.css_out.specs.Spelling.{names_under, text_under};
+ghost use Rattle.css_out.specs.Fragment.{spelled_links, line, value_parts, lines_of};
+ghost use Rattle.css_out.specs.Fragment.{entries_under};
+ghost use Rattle.css_out.specs.Sources.{IsReadUnder, HasRoom};
 ghost use Rattle.css_out.specs.Sheets.{css_frame};
 ghost use Rattle.css_out.specs.Links.{link_for};
-ghost use Rattle.css_out.specs.inner.Written.{IsFragment};
+ghost use Rattle.css_out.specs.inner.Written.{IsFragment, fragment_of};
 
 use crate::line::Line;
 use crate::links::link_for;
@@ -23,7 +20,7 @@ use composite_rules::Typed;
 use name_path::{Link, Links, Path};
 use std::alloc::Global;
 use tk_io::{Bytes, NoMemory};
-use transforms::{Config, Frag, Frame, Names, Platform, name_for};
+use transforms::{Config, Frame, Names};
 
 /// What stands around the fragments of a style sheet: one rule for the root, of which they are the declarations (CSS Custom
 /// Properties 1).
@@ -41,50 +38,53 @@ pub fn frame() -> Frame
     FRAME
 }
 
-fn omitted(alloc: Global, draft: &mut Bytes, name: &[u8]) -> Result<Frag, NoMemory>
-    ensures { IfOk result (IsFragment name.now []) }
+fn omitted<'a>(draft: &mut Bytes, name: &'a [u8]) -> Result<Names<'a>, NoMemory>
+    ensures { IfOk result (λ names. IsFragment name.now [] (fragment_of names draft.new)) }
 {
     draft.truncate(0);
     draft.append(b"  /* omitted ")?;
     draft.append(name)?;
     draft.append(b" */\n")?;
-    let comment = Frag::of_draft(alloc, Names::none(), draft)?;
-    Ok(comment)
+    Ok(Names::none())
 }
 
 impl<'a, 's> Token<'a, 's> {
-    fn one_line(
+    fn one_line<'n>(
         &self,
         draft: &mut Bytes,
-        name: Bytes,
+        name: &'n [u8],
         whole: Option<&Path<'_>>,
         typed: &Typed<'_>,
-    ) -> Result<Frag, NoMemory>
+    ) -> Result<Names<'n>, NoMemory>
         requires { IsTyped typed.now }
-        ensures { IfOk result (IsFragment name (line name (value_parts
+        ensures { IfOk result (λ names. IsFragment name.now (line name.now (value_parts
             self.now.cfg.now.prefix self.now.links.now
-            (option_map (λ p. p.now) whole.entry) typed.now) ∷ [])) }
+            (option_map (λ p. p.now) whole.entry) typed.now) ∷ [])
+            (fragment_of names draft.new)) }
     {
         let mut line = Line::over(self.alloc, draft);
-        line.start(name.as_slice())?;
+        line.start(name)?;
         self.value(&mut line, whole, typed)?;
         line.end()?;
         *draft = line.text;
-        let fragment = Frag::of_draft(self.alloc, Names::one(name), draft)?;
-        Ok(fragment)
+        Ok(Names::one(name))
     }
 
-    fn lines(&self, draft: &mut Bytes, name: Bytes, typed: &Typed<'_>) -> Result<Frag, NoMemory>
+    fn lines<'n>(
+        &self,
+        draft: &mut Bytes,
+        name: &'n [u8],
+        typed: &Typed<'_>,
+    ) -> Result<Names<'n>, NoMemory>
         requires { IsTyped typed.now }
-        ensures { IfOk result (IsFragment name (lines_of
-            self.now.cfg.now.prefix self.now.links.now name
-            (link_for self.now.links.now [] (kind_of typed.now)) typed.now)) }
+        ensures { IfOk result (λ names. IsFragment name.now (lines_of
+            self.now.cfg.now.prefix self.now.links.now name.now
+            (link_for self.now.links.now [] (kind_of typed.now)) typed.now)
+            (fragment_of names draft.new)) }
     {
         let whole = link_for(self.links, &[], typed.kind());
         match typed {
-            Typed::Typography(typography) => {
-                self.typography(draft, name.as_slice(), whole, typography)
-            },
+            Typed::Typography(typography) => self.typography(draft, name, whole, typography),
             Typed::Simple(_)
             | Typed::StrokeStyle(_)
             | Typed::Border(_)
@@ -124,20 +124,20 @@ fn spelled_links<'a, 's>(cfg: &Config, links: &'a Links<'s>) -> &'a [Link<'s>]
     }
 }
 
-fn written(
+fn written<'a>(
     alloc: Global,
     draft: &mut Bytes,
-    name: Bytes,
+    name: &'a [u8],
     typed: &Typed<'_>,
     links: &Links<'_>,
     cfg: &Config,
-) -> Result<Frag, NoMemory>
+) -> Result<Names<'a>, NoMemory>
     requires { IsTyped typed.now }
-    ensures { IfOk result (IsFragment name
-        (entries cfg.now.prefix (spelled_links cfg.now links.now) name typed.now)) }
+    ensures { IfOk result (λ names. IsFragment name.now
+        (entries_under cfg.now name.now links.now typed.now) (fragment_of names draft.new)) }
 {
     if !can_spell(typed) {
-        return omitted(alloc, draft, name.as_slice());
+        return omitted(draft, name);
     }
     let token = Token {
         alloc,
@@ -147,29 +147,28 @@ fn written(
     token.lines(draft, name, typed)
 }
 
-/// The names and lines of a token in a style sheet. A part of its value at which a link of the part's kind stands is
-/// spelled as `var()` of the link's token, where references are spelled as such. A value that CSS can't spell, dashes and
-/// families with a character that is not printable, gives no name and a comment.
+/// The names of the token of this name in a style sheet; its lines are left in the draft. A part of its value at which a
+/// link of the part's kind stands is spelled as `var()` of the link's token, where references are spelled as such. A value
+/// that CSS can't spell, dashes and families with a character that is not printable, gives no name and a comment.
 ///
-/// The lines are made in the draft, whatever it holds. The value is one that a token can have. The text is read as the declarations of the names where the path and the links'
-/// targets have names of CSS, as the paths of tokens have.
-pub fn fragment(
+/// The draft holds the lines and nothing else, whatever it held before. The value is one that a token can have. The text is
+/// read as the declarations of the names where the name and those of the links' targets are names of CSS, as tokens have
+/// them.
+pub fn fragment<'a>(
     alloc: Global,
     draft: &mut Bytes,
-    path: &Path<'_>,
+    name: &'a [u8],
     typed: &Typed<'_>,
     links: &Links<'_>,
     cfg: &Config,
-) -> Result<Frag, NoMemory>
+) -> Result<Names<'a>, NoMemory>
     requires typed { IsTyped typed.now }
     ensures room { HasRoom typed.now }
-    ensures names { IfOk result (λ f. f.names ≡ fragment_names cfg.now path.now typed.now) }
-    ensures body { IfOk result (λ f. f.body ≡ fragment_text cfg.now path.now links.now typed.now) }
-    ensures named { IfOk result (λ f. IsNamed cfg.now path.now) }
-    ensures reads { IfOk result (λ f. IsReadAsLines cfg.now path.now links.now typed.now f.body) }
+    ensures names { IfOk result (λ names. names ≡ names_under name.now typed.now) }
+    ensures body { OnOk result (draft.new ≡ text_under cfg.now name.now links.now typed.now) }
+    ensures reads { OnOk result (IsReadUnder cfg.now name.now links.now typed.now draft.new) }
 {
     has_room(typed);
-    let name = name_for(alloc, Platform::Css, path, cfg)?;
-    let fragment = written(alloc, draft, name, typed, links, cfg)?;
-    Ok(fragment)
+    let names = written(alloc, draft, name, typed, links, cfg)?;
+    Ok(names)
 }

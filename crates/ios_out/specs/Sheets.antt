@@ -9,16 +9,12 @@ use Rattle.composite_rules.specs.Sound.{IsTyped}
 use Rattle.composite_rules.specs.declared.typed.Typed.{Typed}
 use Rattle.ring.specs.Lists.{AreApart, Each}
 use Rattle.ios_out.specs.Constant.{Values, value_names}
-use Rattle.ios_out.specs.Reading.{head, foot, Block, Reads}
+use Rattle.ios_out.specs.Reading.{head, foot, Reads}
 use Rattle.ios_out.specs.Spelling.{swift_name, fragment_values, fragment_names, fragment_text}
 
 -- the path, as one that a token can have, has a name there
 abbrev pub IsNamed : Settings → List (List ℕ) → Type 0
 IsNamed settings path = IsTokenPath path → is_identifier (swift_name settings path) ≡ true
-
--- the text is read as the token's values, where its path is one that a token can have
-abbrev pub IsReadAsValues : Settings → List (List ℕ) → Typed → List ℕ → Type 0
-IsReadAsValues settings path v text = IsTokenPath path → Block text (fragment_values settings path v)
 
 -- a token of a file: its path and its value
 pub record Cell : Type 0 where

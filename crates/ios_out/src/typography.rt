@@ -14,7 +14,7 @@ use composite_rules::Typography;
 use dec_fix::Dec;
 use std::alloc::Global;
 use tk_io::{Bytes, NoMemory, Sequence};
-use transforms::{Config, Frag, Names, name_with_ending};
+use transforms::{Config, Names, name_with_ending};
 
 // Adds the constant of the name with this ending.
 fn add(
@@ -57,18 +57,19 @@ fn add_number(
     Ok(())
 }
 
-/// The five names and constants; the family is the one that is given.
-pub(crate) fn typography_fragment(
+/// The five names, and their constants in the draft; the family is the one that is given.
+pub(crate) fn typography_fragment<'a>(
     alloc: Global,
     draft: &mut Bytes,
     cfg: &Config,
     name: &[u8],
     value: &Typography<'_>,
     family: &Content<'_>,
-) -> Result<Frag, NoMemory>
+) -> Result<Names<'a>, NoMemory>
     requires { IsTypography value.now }
-    ensures { IfOk result (IsFragment name.now
-        (five_values cfg.now name.now value.now (content_view family.now))) }
+    ensures { IfOk result (λ names. IsFragment name.now
+        (five_values cfg.now name.now value.now (content_view family.now))
+        (record { names = names; body = draft.new })) }
 {
     let mut names = Sequence::new(alloc);
     draft.truncate(0);
@@ -105,6 +106,5 @@ pub(crate) fn typography_fragment(
         numbers,
         &value.line_height,
     )?;
-    let lines = Frag::of_draft(alloc, Names::several(names), draft)?;
-    Ok(lines)
+    Ok(Names::several(names))
 }

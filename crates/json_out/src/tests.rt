@@ -59,14 +59,14 @@ fn is_written(alloc: Global, path: &Path<'_>, kind: Kind, row: &str) -> Result<b
         return Ok(false);
     };
     let mut draft = used_draft(alloc)?;
-    let frag = fragment(alloc, &mut draft, path, &typed, &alone())?;
+    fragment(&mut draft, path, &typed, &alone())?;
     let mut member = Bytes::new(alloc);
     member.append(br#"  "t": {"$type": ""#)?;
     member.append(kind.name().as_bytes())?;
     member.append(br#"", "$value": "#)?;
     member.append(wanted.as_bytes())?;
     member.append(b"}")?;
-    Ok(frag.body.as_slice() == member.as_slice() && frag.names.as_slice().is_empty())
+    Ok(draft.as_slice() == member.as_slice())
 }
 
 /// Compares the texts of each row of a table of values of the kind, and counts the rows.
@@ -136,8 +136,8 @@ fn is_token_written(alloc: Global, row: &Row) -> Result<bool, NoMemory> {
         mark: mark(row.mark),
     };
     let mut draft = used_draft(alloc)?;
-    let frag = fragment(alloc, &mut draft, &path, &typed, &extras)?;
-    Ok(frag.body.as_slice() == row.member.as_bytes() && frag.names.as_slice().is_empty())
+    fragment(&mut draft, &path, &typed, &extras)?;
+    Ok(draft.as_slice() == row.member.as_bytes())
 }
 
 #[test]
@@ -167,8 +167,8 @@ fn add_number(
 ) -> Result<(), NoMemory> {
     let path = path(alloc, &[name])?;
     if let Some(typed) = typed(alloc, Kind::Number, &Plain::Num("1"))? {
-        let frag = fragment(alloc, draft, &path, &typed, &alone())?;
-        sheet.add(&frag)?;
+        fragment(draft, &path, &typed, &alone())?;
+        sheet.add_body(draft.as_slice())?;
     }
     Ok(())
 }
@@ -176,7 +176,7 @@ fn add_number(
 /// Whether the sheet of tokens of these names is this text.
 fn is_sheet(alloc: Global, names: &[&str], wanted: &str) -> Result<bool, NoMemory> {
     let mut draft = Bytes::new(alloc);
-    let mut sheet = Sheet::start(alloc, frame())?;
+    let mut sheet = Sheet::start(alloc, frame(), 64)?;
     for name in names {
         add_number(alloc, &mut sheet, &mut draft, name)?;
     }

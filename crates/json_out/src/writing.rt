@@ -1,6 +1,6 @@
 //! The fragment of a token.
 
-ghost use Rattle.std.specs.Prelude.{◌≡◌, [], ◌∷◌, ◌++◌, option_map, codes, IfOk, OnOk};
+ghost use Rattle.std.specs.Prelude.{◌≡◌, [], ◌∷◌, ◌++◌, option_map, codes, OnOk};
 ghost use Rattle.std.specs.List.{flat_map};
 ghost use Rattle.tk_io.specs.Characters.{full_stop};
 ghost use Rattle.json_span.specs.Spelling.{inside_text, string_text};
@@ -18,10 +18,9 @@ use crate::texts::are_bytes;
 use composite_rules::Typed;
 use json_span::{write_string, write_string_inside};
 use name_path::Path;
-use std::alloc::Global;
 use tk_io::{Bytes, NoMemory, Text};
 use token_tree::Mark;
-use transforms::{Frag, Frame, Names};
+use transforms::Frame;
 
 /// What stands around and between the fragments of a file: one object, of which they are the members (RFC 8259 section 4).
 pub const FRAME: Frame = Frame {
@@ -131,44 +130,38 @@ fn append_member(
     Ok(())
 }
 
-fn written(
-    alloc: Global,
+fn write_member(
     draft: &mut Bytes,
     path: &Path<'_>,
     typed: &Typed<'_>,
     extras: &Extras<'_>,
-) -> Result<Frag, NoMemory>
-    ensures names { IfOk result (λ f. f.names ≡ []) }
-    ensures body { IfOk result (λ f. f.body
-        ≡ fragment_text path.now typed.now (extras_view extras.now)) }
+) -> Result<(), NoMemory>
+    ensures { OnOk result (draft.new ≡ fragment_text path.now typed.now (extras_view extras.now)) }
 {
     draft.truncate(0);
     append_member(draft, path, typed, extras)?;
-    let member = Frag::of_draft(alloc, Names::none(), draft)?;
-    Ok(member)
+    Ok(())
 }
 
-/// The member of a token in a JSON file: its path's names, joined by `.`, and an object of its type and its value with all
-/// parts, and after them what is given of a description, extensions and a mark of deprecation. The extensions stand as they
-/// are given, byte by byte. No name of a platform is declared.
+/// Leaves in the draft the member of a token in a JSON file: its path's names, joined by `.`, and an object of its type and
+/// its value with all parts, and after them what is given of a description, extensions and a mark of deprecation. The
+/// extensions stand as they are given, byte by byte. A member declares no name of a platform, so none is handed back.
 ///
-/// The lines are made in the draft, whatever it holds. The text is read as this member and nothing else, where the value is one that a token can have and the extensions are the
-/// text of a JSON value.
+/// The draft holds the member and nothing else, whatever it held before. The text is read as this member and nothing else,
+/// where the value is one that a token can have and the extensions are the text of a JSON value.
 pub fn fragment(
-    alloc: Global,
     draft: &mut Bytes,
     path: &Path<'_>,
     typed: &Typed<'_>,
     extras: &Extras<'_>,
-) -> Result<Frag, NoMemory>
+) -> Result<(), NoMemory>
     ensures bytes { AreBytes path.now typed.now (extras_view extras.now) }
-    ensures names { IfOk result (λ f. f.names ≡ []) }
-    ensures body { IfOk result (λ f. f.body
+    ensures body { OnOk result (draft.new
         ≡ fragment_text path.now typed.now (extras_view extras.now)) }
     ensures reads { IsTyped typed.now
-        → IfOk result (λ f. IsReadAsMember path.now typed.now (extras_view extras.now) f.body) }
+        → OnOk result (IsReadAsMember path.now typed.now (extras_view extras.now) draft.new) }
 {
     are_bytes(path, typed, extras);
-    let fragment = written(alloc, draft, path, typed, extras)?;
-    Ok(fragment)
+    write_member(draft, path, typed, extras)?;
+    Ok(())
 }

@@ -12,7 +12,7 @@ use Rattle.transforms.specs.declared.platform.Platform.{Platform}
 use Rattle.transforms.proofs.Taken.{get-with_names}
 use Rattle.token_cells.specs.Breaks.{names_on, clash_reports, clashes_from, taken_behind, clashes_on}
 use Rattle.token_cells.specs.Cell.{TokenPath}
-use Rattle.token_cells.specs.declared.token_cell.TokenCell.{TokenCell}
+use Rattle.token_cells.specs.TokenCell.{TokenCell}
 use Rattle.token_cells.proofs.RealClashes.{among_in}
 
 -- lists that are apart as one

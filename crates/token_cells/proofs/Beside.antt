@@ -7,7 +7,7 @@ use Rattle.transforms.specs.declared.platform.Platform.TheVariants.{Css, Android
 use Rattle.ring.specs.Lists.{In}
 use Rattle.token_cells.specs.Breaks.{Celled, clash_reports, clashes_from, taken_behind, clashes_on, name_clashes, or_others}
 use Rattle.refusals.specs.Refusal.{Report}
-use Rattle.token_cells.specs.declared.token_cell.TokenCell.{TokenCell}
+use Rattle.token_cells.specs.TokenCell.{TokenCell}
 
 pub nil_cons : {A : Type 0} (x : A) (xs : List A) → x ∷ xs ≡ [] → ⊥
 nil_cons x xs e = cc

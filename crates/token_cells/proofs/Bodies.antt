@@ -6,8 +6,7 @@ use Rattle.std.specs.Prelude.{◌≤◌}
 use Rattle.transforms.specs.Sheet.{Holds, FrameData, OpenSheet}
 use Rattle.token_cells.specs.Sheets.{bodies_for, frame_for}
 use Rattle.token_cells.specs.declared.format.Format.{Format}
-use Rattle.token_cells.specs.declared.token_cell.TokenCell.{TokenCell}
-use Rattle.token_cells.specs.declared.token_cell.TokenCell.TheVariants.{Refused, Made}
+use Rattle.token_cells.specs.TokenCell.{TokenCell, Refused, Made}
 use Rattle.token_cells.specs.inner.Kept.{is_refused}
 
 -- nothing is added

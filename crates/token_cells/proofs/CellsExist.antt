@@ -20,7 +20,7 @@ use Rattle.transforms.specs.Config.{Settings, AreAllowed}
 use Rattle.transforms.specs.PlatformName.{PathsAreNamed}
 use Rattle.transforms.specs.declared.platform.Platform.{Platform}
 use Rattle.transforms.specs.declared.platform.Platform.TheVariants.{Css, Android, Swift}
-use Rattle.transforms.specs.declared.frag.Frag.{Frag}
+use Rattle.transforms.specs.Frag.{Frag}
 use Rattle.css_out.specs.Spelling as on_css
 use Rattle.android_out.specs.Spelling as on_android
 use Rattle.ios_out.specs.Spelling as on_swift
@@ -28,8 +28,7 @@ use Rattle.json_out.specs.Spelling as on_json
 use Rattle.refusals.specs.declared.rule.CellRule.TheVariants.{Ref, Value}
 use Rattle.token_cells.specs.Cell.{TokenPath, IsMeant, by_reference, by_value, extras_of, GivesAll, IsCell, AreCells}
 use Rattle.token_cells.specs.Existence.{AreDefined, EachCell, EachCells}
-use Rattle.token_cells.specs.declared.token_cell.TokenCell.{TokenCell}
-use Rattle.token_cells.specs.declared.token_cell.TokenCell.TheVariants.{Refused, Made}
+use Rattle.token_cells.specs.TokenCell.{TokenCell, Refused, Made}
 use Rattle.token_cells.proofs.Entries.{stands_there}
 use Rattle.token_cells.proofs.LinkedTokens.{token_written}
 use Rattle.token_cells.proofs.TextsOfTokens.{path_bytes, extras_bytes}

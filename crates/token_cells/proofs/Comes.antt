@@ -21,8 +21,7 @@ use Rattle.composite_rules.specs.declared.typed.Typed.{Typed}
 use Rattle.transforms.specs.Config.{Settings}
 use Rattle.token_cells.specs.Cell.{TokenPath, IsMeant, token_break, IsTokenBreak, by_reference, by_value, IsCell, AreCells}
 use Rattle.refusals.specs.declared.rule.CellRule.TheVariants.{Ref, Value}
-use Rattle.token_cells.specs.declared.token_cell.TokenCell.{TokenCell}
-use Rattle.token_cells.specs.declared.token_cell.TokenCell.TheVariants.{Refused, Made}
+use Rattle.token_cells.specs.TokenCell.{TokenCell, Refused, Made}
 use Rattle.token_cells.specs.inner.Making.{IsMadeOf}
 
 -- a break of references

@@ -26,8 +26,7 @@ use Rattle.token_cells.specs.Breaks.{cell_reports}
 use Rattle.token_cells.specs.Sheets.{bodies_for, sheet_for}
 use Rattle.token_cells.specs.declared.format.Format.TheVariants as Form
 use Rattle.token_cells.specs.OtherSheets.{IsTypedOf, HasExtras, JsonCellsDenote}
-use Rattle.token_cells.specs.declared.token_cell.TokenCell.{TokenCell}
-use Rattle.token_cells.specs.declared.token_cell.TokenCell.TheVariants.{Refused, Made}
+use Rattle.token_cells.specs.TokenCell.{TokenCell, Refused, Made}
 use Rattle.token_cells.proofs.Beside.{nil_cons, weaker, name_clashes_none}
 
 -- each token's extensions, where it has some, are a text of JSON

@@ -18,3 +18,5 @@ mod TextsOfTokens
 mod ValuesFit
 mod Runs
 mod NamedAlike
+mod UnchangedTokens
+mod Known

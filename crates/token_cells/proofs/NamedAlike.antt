@@ -8,7 +8,7 @@ use Rattle.transforms.specs.Clash.{Taken, first_taken, with_names}
 use Rattle.transforms.specs.declared.platform.Platform.{Platform}
 use Rattle.token_cells.specs.Breaks.{names_on, clash_reports, clashes_from, taken_behind, clashes_on, verdict}
 use Rattle.token_cells.specs.Cell.{TokenPath}
-use Rattle.token_cells.specs.declared.token_cell.TokenCell.{TokenCell}
+use Rattle.token_cells.specs.TokenCell.{TokenCell}
 
 -- nothing is told of no report alone
 pub nothing_told : (f : Report → List ℕ) (reports : List Report) → None ≡ option_map f (verdict reports) → reports ≡ []

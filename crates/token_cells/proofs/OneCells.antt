@@ -13,10 +13,9 @@ use Rattle.type_rules.specs.Checked.{Break as ValueBreak, Checked}
 use Rattle.composite_rules.specs.Value.{value_of}
 use Rattle.composite_rules.specs.declared.typed.Typed.{Typed}
 use Rattle.transforms.specs.Config.{Settings}
-use Rattle.transforms.specs.declared.frag.Frag.{Frag}
+use Rattle.transforms.specs.Frag.{Frag}
 use Rattle.token_cells.specs.Cell.{TokenPath, IsMeant, IsValueOf, TokenBreak, token_break, of_reference, of_value, IsTokenBreak, by_reference, by_value, IsCssOf, IsMade, IsCell, AreCells, GivesAll}
-use Rattle.token_cells.specs.declared.token_cell.TokenCell.{TokenCell}
-use Rattle.token_cells.specs.declared.token_cell.TokenCell.TheVariants.{Refused, Made}
+use Rattle.token_cells.specs.TokenCell.{TokenCell, Refused, Made}
 
 -- the laws of references that are needed
 pub record Laws : Type 0 where

@@ -2,10 +2,10 @@
 use Rattle.std.proofs.Common.{◌≡◌, ℕ, zero, suc, ◌+◌, ◌-◌, ◌<◌, List, [], ◌∷◌, ◌++◌, length, take, drop, Some, None, arith, refl, sym, ap, ap₂, ◌∙◌}
 use Rattle.std.proofs.lemmas.List.{append-nil, append_assoc, drop_at, take_at, length-append}
 use Rattle.std.specs.List.{slice_get, slice_range}
-use Rattle.transforms.specs.declared.frag.Frag.{Frag}
+use Rattle.transforms.specs.Frag.{Frag}
 use Rattle.token_cells.specs.declared.fragments.Fragments.{Fragments}
 use Rattle.token_cells.specs.declared.fragments.Run.{Run}
-use Rattle.token_cells.specs.declared.token_cell.TokenCell.TheVariants.{Made}
+use Rattle.token_cells.specs.TokenCell.{Made}
 use Rattle.token_cells.specs.inner.Kept.{text_at, fragment_at, fragments_view, IsAt, Stands}
 
 -- what is between its start and its end, whatever stands around it
@@ -87,18 +87,16 @@ is_fragment : (texts : List (List ℕ)) (i : ℕ) (run : Run) (frag : Frag) → 
 is_fragment texts i run frag at body = ap₂ (λ names b. record { names = names; body = b }) (at_end texts frag.names run at) body
 
 -- the four bodies and the names that were added are those of the fragments
-pub all_kept : (css android swift json : Frag) (texts-0 texts-1 texts-2 texts-3 : List (List ℕ)) (f : Fragments)
-    → texts-0 ≡ css.body ∷ android.body ∷ swift.body ∷ json.body ∷ []
-    → Stands texts-0 texts-1 f.css css.names → Stands texts-1 texts-2 f.android android.names → Stands texts-2 texts-3 f.swift swift.names
-    → Stands texts-3 f.texts f.json json.names → fragments_view f ≡ Made css android swift json
-all_kept css android swift json texts-0 texts-1 texts-2 texts-3 f bodies c a s j =
-    let all : f.texts ≡ css.body ∷ android.body ∷ swift.body ∷ json.body ∷ (((c.more ++ a.more) ++ s.more) ++ j.more) =
-    j.added ∙ ap (λ t. t ++ j.more) (s.added ∙ ap (λ t. t ++ s.more) (a.added ∙ ap (λ t. t ++ a.more) (c.added ∙ ap (λ t. t ++ c.more) bodies))) in
-    let on_css = is_fragment f.texts 0 f.css css
-    (onwards j css.names f.css (onwards s css.names f.css (onwards a css.names f.css c.is_at))) (ap (λ t. text_at t 0) all) in
-    let on_android = is_fragment f.texts 1 f.android android
-    (onwards j android.names f.android (onwards s android.names f.android a.is_at)) (ap (λ t. text_at t 1) all) in
-    let on_swift = is_fragment f.texts 2 f.swift swift (onwards j swift.names f.swift s.is_at) (ap (λ t. text_at t 2) all) in
-    let on_json = is_fragment f.texts 3 f.json json j.is_at (ap (λ t. text_at t 3) all) in
-    ap₂ (λ x y. Made x y (fragment_at f.texts 2 f.swift) (fragment_at f.texts 3 f.json)) on_css on_android
-    ∙ ap₂ (λ x y. Made css android x y) on_swift on_json
+pub all_kept : (css android swift : Frag) (in_json : List ℕ) (texts-0 texts-1 texts-2 : List (List ℕ)) (f : Fragments)
+    → texts-0 ≡ css.body ∷ android.body ∷ swift.body ∷ in_json ∷ []
+    → Stands texts-0 texts-1 f.css css.names → Stands texts-1 texts-2 f.android android.names → Stands texts-2 f.texts f.swift swift.names
+    → fragments_view f ≡ Made css android swift (record { names = []; body = in_json })
+all_kept css android swift in_json texts-0 texts-1 texts-2 f bodies c a s =
+    let all : f.texts ≡ css.body ∷ android.body ∷ swift.body ∷ in_json ∷ ((c.more ++ a.more) ++ s.more) =
+    s.added ∙ ap (λ t. t ++ s.more) (a.added ∙ ap (λ t. t ++ a.more) (c.added ∙ ap (λ t. t ++ c.more) bodies)) in
+    let on_css = is_fragment f.texts 0 f.css css (onwards s css.names f.css (onwards a css.names f.css c.is_at)) (ap (λ t. text_at t 0) all) in
+    let on_android = is_fragment f.texts 1 f.android android (onwards s android.names f.android a.is_at) (ap (λ t. text_at t 1) all) in
+    let on_swift = is_fragment f.texts 2 f.swift swift s.is_at (ap (λ t. text_at t 2) all) in
+    let in_file : text_at f.texts 3 ≡ in_json = ap (λ t. text_at t 3) all in
+    ap₂ (λ x y. Made x y (fragment_at f.texts 2 f.swift) (record { names = []; body = text_at f.texts 3 })) on_css on_android
+    ∙ ap₂ (λ x b. Made css android x (record { names = []; body = b })) on_swift in_file

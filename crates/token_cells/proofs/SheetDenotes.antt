@@ -45,8 +45,7 @@ use Rattle.token_cells.specs.Cell.{IsValueOf, AreCells}
 use Rattle.token_cells.specs.Breaks.{Celled, cell_reports, names_on, clashes_on, name_clashes, clashes_from, clash_reports, taken_behind, or_others, token_reports}
 use Rattle.token_cells.specs.Denotes.{SheetDenotes}
 use Rattle.token_cells.specs.Sheets.{bodies_for, sheet_for}
-use Rattle.token_cells.specs.declared.token_cell.TokenCell.{TokenCell}
-use Rattle.token_cells.specs.declared.token_cell.TokenCell.TheVariants.{Refused, Made}
+use Rattle.token_cells.specs.TokenCell.{TokenCell, Refused, Made}
 use Rattle.token_cells.proofs.LinkedTokens.{Stands, links_stand, link_means, written_there, token_written}
 use Rattle.token_cells.proofs.PlainPaths.{same_part}
 

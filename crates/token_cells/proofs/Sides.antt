@@ -6,7 +6,7 @@ use Rattle.group_inherit.specs.Flattening.{TokenAt}
 use Rattle.refusals.specs.Refusal.{Report}
 use Rattle.token_cells.specs.Breaks.{Celled}
 use Rattle.token_cells.specs.Breaks.{verdict}
-use Rattle.token_cells.specs.declared.token_cell.TokenCell.{TokenCell}
+use Rattle.token_cells.specs.TokenCell.{TokenCell}
 
 no_pairs : (ks : List TokenAt) (vs : List TokenCell) → (ks ≡ []) ⊎ (vs ≡ []) → zip ks vs ≡ []
 no_pairs [] vs h = refl

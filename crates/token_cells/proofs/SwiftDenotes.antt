@@ -21,8 +21,7 @@ use Rattle.token_cells.specs.Breaks.{cell_reports, names_on}
 use Rattle.token_cells.specs.Sheets.{bodies_for, sheet_for}
 use Rattle.token_cells.specs.declared.format.Format.TheVariants as Form
 use Rattle.token_cells.specs.OtherSheets.{IsTypedOf, SwiftCellsDenote}
-use Rattle.token_cells.specs.declared.token_cell.TokenCell.{TokenCell}
-use Rattle.token_cells.specs.declared.token_cell.TokenCell.TheVariants.{Refused, Made}
+use Rattle.token_cells.specs.TokenCell.{TokenCell, Refused, Made}
 use Rattle.token_cells.proofs.Beside.{nil_cons, left_of, weaker, named_by, added, name_clashes_none}
 
 -- a token and what it has

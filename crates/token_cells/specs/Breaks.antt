@@ -14,8 +14,7 @@ use Rattle.tk_io.specs.FilesData.{FilesData}
 use Rattle.refusals.specs.Refusal.{Report, report, report_text, of_token, at_place, ring_place, other_token, on_platform}
 use Rattle.refusals.specs.declared.rule.Rule.TheVariants as rule
 use Rattle.token_cells.specs.Cell.{TokenPath, TokenBreak, token_break}
-use Rattle.token_cells.specs.declared.token_cell.TokenCell.{TokenCell}
-use Rattle.token_cells.specs.declared.token_cell.TokenCell.TheVariants.{Refused, Made}
+use Rattle.token_cells.specs.TokenCell.{TokenCell, Refused, Made}
 
 -- Of tokens.
 

@@ -27,13 +27,12 @@ use Rattle.type_rules.specs.Checked.{Break as ValueBreak}
 use Rattle.composite_rules.specs.Value.{value_of}
 use Rattle.composite_rules.specs.declared.typed.Typed.{Typed}
 use Rattle.transforms.specs.Config.{Settings}
-use Rattle.transforms.specs.declared.frag.Frag.{Frag}
+use Rattle.transforms.specs.Frag.{Frag}
 use Rattle.css_out.specs.Sources.{HasRoom, IsNamed}
 use Rattle.css_out.specs.Spelling.{fragment_names, fragment_text}
 use Rattle.refusals.specs.declared.rule.CellRule.{CellRule}
 use Rattle.refusals.specs.declared.rule.CellRule.TheVariants.{Ref, Value}
-use Rattle.token_cells.specs.declared.token_cell.TokenCell.{TokenCell}
-use Rattle.token_cells.specs.declared.token_cell.TokenCell.TheVariants.{Refused, Made}
+use Rattle.token_cells.specs.TokenCell.{TokenCell, Refused, Made}
 
 -- the names of a token's path
 abbrev pub TokenPath : Type 0

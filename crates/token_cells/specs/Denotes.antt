@@ -13,7 +13,7 @@ use Rattle.css_out.specs.Sheets.{Cell, cell_entries, sheet_values, Refers}
 use Rattle.token_cells.specs.Cell.{IsValueOf, AreCells}
 use Rattle.token_cells.specs.Breaks.{token_reports}
 use Rattle.token_cells.specs.Sheets.{sheet_for}
-use Rattle.token_cells.specs.declared.token_cell.TokenCell.{TokenCell}
+use Rattle.token_cells.specs.TokenCell.{TokenCell}
 
 -- The sheet's bytes are read as one sheet, whose names, after 256 rounds, have exactly the values that the tokens of
 -- the flat tree have: each token's value is what its whole value means, read under its kind. Each name that stands in

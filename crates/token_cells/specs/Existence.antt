@@ -10,7 +10,7 @@ use Rattle.alias_ref.specs.Laws.{Flat}
 use Rattle.transforms.specs.Config.{Settings, AreAllowed}
 use Rattle.json_out.specs.Sheets.{reason_of}
 use Rattle.token_cells.specs.Cell.{TokenPath, IsCell, AreCells}
-use Rattle.token_cells.specs.declared.token_cell.TokenCell.{TokenCell}
+use Rattle.token_cells.specs.TokenCell.{TokenCell}
 
 -- The token is defined by a text in memory: its definition is what its source shows, which is UTF-8 and has no more bytes
 -- than memory has places, and the names of its path and the reason of the mark of its groups are texts.

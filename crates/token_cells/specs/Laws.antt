@@ -6,6 +6,7 @@ use Rattle.name_path.specs.declared.place.Place.{Place}
 use Rattle.alias_ref.specs.Asking.{IsRingOfPlaces}
 use Rattle.alias_ref.specs.Laws.{Flat}
 use Rattle.alias_ref.specs.Meaning.{Leads}
+use Rattle.alias_ref.specs.Unchanged.{AreDefinedAlong, Unchanged}
 use Rattle.alias_ref.specs.Written.{misspelled, is_reference, written_in}
 use Rattle.alias_ref.specs.declared.fault.RefRule.TheVariants as reference
 use Rattle.type_rules.specs.declared.fault.ValueRule.{ValueRule}
@@ -15,9 +16,9 @@ use Rattle.transforms.specs.Clash.{NamedToken, ShareNoName}
 use Rattle.transforms.specs.Config.{Settings}
 use Rattle.transforms.specs.declared.platform.Platform.{Platform}
 use Rattle.refusals.specs.Refusal.{Report}
-use Rattle.token_cells.specs.Cell.{TokenPath, IsMeant, TokenBreak, IsTokenBreak, AreCells}
+use Rattle.token_cells.specs.Cell.{TokenPath, IsMeant, TokenBreak, IsTokenBreak, IsCell, AreCells}
 use Rattle.token_cells.specs.Breaks.{Celled, names_on, clash_report, clashes_on}
-use Rattle.token_cells.specs.declared.token_cell.TokenCell.{TokenCell}
+use Rattle.token_cells.specs.TokenCell.{TokenCell}
 use Rattle.refusals.specs.declared.rule.CellRule.TheVariants.{Ref, Value}
 
 -- the token means a value that breaks the rule at this place of the token
@@ -45,6 +46,11 @@ BreaksAreReal = (flat : Flat) (path : TokenPath) (b : TokenBreak) → IsTokenBre
 abbrev pub OneCells : Type 0
 OneCells = (flat : Flat) (settings : Settings) (tokens : List TokenAt) (cells others : List TokenCell)
     → AreCells flat settings tokens cells → AreCells flat settings tokens others → cells ≡ others
+
+-- A token from which no walk of references leads to a change comes to what it came to: the flat trees are those of definitions, as far as it leads.
+abbrev pub UnchangedCells : Type 0
+UnchangedCells = (old new : Flat) (settings : Settings) (path : TokenPath) (cell : TokenCell) → AreDefinedAlong old new path → AreDefinedAlong new new path
+    → Unchanged old new path → IsCell old settings path cell → IsCell new settings path cell
 
 -- a token's path, and its names on the platform
 abbrev pub named_on : Platform → Celled → NamedToken

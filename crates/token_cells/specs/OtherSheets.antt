@@ -18,7 +18,7 @@ use Rattle.token_cells.specs.Cell.{TokenPath, IsValueOf, AreCells, extras_of}
 use Rattle.token_cells.specs.Breaks.{token_reports}
 use Rattle.token_cells.specs.Sheets.{sheet_for}
 use Rattle.token_cells.specs.declared.format.Format.TheVariants.{Android, Swift, Json}
-use Rattle.token_cells.specs.declared.token_cell.TokenCell.{TokenCell}
+use Rattle.token_cells.specs.TokenCell.{TokenCell}
 
 -- the token's whole value means this, read under its kind
 abbrev pub IsTypedOf : Flat → TokenPath → Typed → Type 0

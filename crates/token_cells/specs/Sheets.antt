@@ -7,8 +7,7 @@ use Rattle.ios_out.specs.Sheets.{swift_frame}
 use Rattle.json_out.specs.Sheets.{json_frame}
 use Rattle.token_cells.specs.declared.format.Format.{Format}
 use Rattle.token_cells.specs.declared.format.Format.TheVariants.{Css, Android, Swift, Json}
-use Rattle.token_cells.specs.declared.token_cell.TokenCell.{TokenCell}
-use Rattle.token_cells.specs.declared.token_cell.TokenCell.TheVariants.{Refused, Made}
+use Rattle.token_cells.specs.TokenCell.{TokenCell, Refused, Made}
 
 abbrev pub bodies_for : Format → TokenCell → List (List ℕ)
 bodies_for format (Refused rule place ring) = []

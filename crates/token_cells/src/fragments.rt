@@ -1,15 +1,15 @@
 // What tokens give to platforms, as it is kept.
 
-ghost use Rattle.std.specs.Prelude.{◌≡◌, ◌++◌, ◌∷◌, [], true, IfOk, OnOk, map, slice_range};
+ghost use Rattle.std.specs.Prelude.{◌≡◌, ◌++◌, ◌∷◌, [], true, List, ℕ, IfOk, OnOk, map, slice_range};
 ghost use Rattle.token_cells.specs.Breaks.{names_on};
 ghost use Rattle.token_cells.specs.Sheets.{bodies_for};
+ghost use Rattle.token_cells.specs.TokenCell.{Made};
 ghost use Rattle.token_cells.specs.inner.Kept.{fragments_view, text_at, IsAt, Stands};
 
 use crate::format::Format;
-use crate::token_cell::TokenCell;
 use std::alloc::Global;
-use tk_io::{Bytes, NoMemory};
-use transforms::{Frag, Names, Platform, Texts};
+use tk_io::NoMemory;
+use transforms::{Names, Platform, Texts};
 
 /// Texts that stand one after another: the place of the first, and the place behind the last. A token has at most five
 /// names on a platform, so that places are small.
@@ -23,13 +23,12 @@ struct Run {
 /// buffer.
 #[derive(Debug, Drop)]
 pub(crate) struct Fragments {
-    /// The bodies for CSS, Android, Swift and JSON, and then the names.
+    /// The bodies for CSS, Android, Swift and JSON, and then the names. JSON has none.
     texts: Texts,
     css: Run,
     android: Run,
     /// Where it is the run of Android, the names are the same.
     swift: Run,
-    json: Run,
 }
 
 fn place(len: usize) -> Result<u8, NoMemory>
@@ -41,80 +40,30 @@ fn place(len: usize) -> Result<u8, NoMemory>
     Ok(len as u8)
 }
 
-fn push_each(texts: &mut Texts, names: &[Bytes]) -> Result<(), NoMemory>
-    ensures { OnOk result (texts.new ≡ texts.old ++ names.now) }
-{
-    for name in names {
-        texts.push(name.as_slice())?;
-    }
-    Ok(())
-}
-
 // Adds the names, and says where they stand.
-fn push_names(texts: &mut Texts, names: &Names) -> Result<Run, NoMemory>
+fn push_names(texts: &mut Texts, names: &Names<'_>) -> Result<Run, NoMemory>
     ensures { IfOk result (λ run. Stands texts.old texts.new run names.now) }
 {
     let start = place(texts.len())?;
-    push_each(texts, names.as_slice())?;
+    names.push_to(texts)?;
     let end = place(texts.len())?;
     Ok(Run { start, end })
 }
 
-fn are_same(names: &[Bytes], others: &[Bytes]) -> bool
-    ensures { result ≡ true → names.now ≡ others.now }
-{
-    if names.len() != others.len() {
-        return false;
-    }
-    for (name, other) in names.iter().zip(others) {
-        if name.as_slice() != other.as_slice() {
-            return false;
-        }
-    }
-    true
-}
-
 // Adds the names of Swift, unless they are those of Android, and says where they stand.
-fn push_swift(texts: &mut Texts, android: &Names, run: Run, swift: &Names) -> Result<Run, NoMemory>
+fn push_swift(
+    texts: &mut Texts,
+    android: &Names<'_>,
+    run: Run,
+    swift: &Names<'_>,
+) -> Result<Run, NoMemory>
     requires { IsAt texts.old run android.now }
     ensures { IfOk result (λ own. Stands texts.old texts.new own swift.now) }
 {
-    if are_same(android.as_slice(), swift.as_slice()) {
+    if android.is_same(swift) {
         return Ok(run);
     }
     push_names(texts, swift)
-}
-
-// How many bytes the body and the names have. It decides how often memory is asked for, and nothing else.
-fn room_of(frag: &Frag) -> usize {
-    let mut room = frag.body.len();
-    for name in frag.names.as_slice() {
-        room = room.saturating_add(name.len());
-    }
-    room
-}
-
-// The four bodies, with room for the names; in Swift they mostly are those of Android.
-fn bodies(
-    alloc: Global,
-    css: &Frag,
-    android: &Frag,
-    swift: &Frag,
-    json: &Frag,
-) -> Result<Texts, NoMemory>
-    ensures { IfOk result (λ texts. texts
-        ≡ css.now.body ∷ android.now.body ∷ swift.now.body ∷ json.now.body ∷ []) }
-{
-    let room = room_of(css)
-        .saturating_add(room_of(android))
-        .saturating_add(swift.body.len())
-        .saturating_add(room_of(json));
-    let mut texts = Texts::with_room(alloc, room)?;
-    texts.push(css.body.as_slice())?;
-    texts.push(android.body.as_slice())?;
-    texts.push(swift.body.as_slice())?;
-    texts.push(json.body.as_slice())?;
-    Ok(texts)
 }
 
 fn push_run<'a>(names: &mut Vec<&'a [u8]>, texts: &'a Texts, run: Run) -> Result<(), NoMemory>
@@ -131,28 +80,30 @@ fn push_run<'a>(names: &mut Vec<&'a [u8]>, texts: &'a Texts, run: Run) -> Result
 }
 
 impl Fragments {
-    /// The same fragments, in one buffer.
+    /// The fragments whose bodies are these texts, in a buffer of their own. The names are added to the texts.
     pub(crate) fn new(
         alloc: Global,
-        css: &Frag,
-        android: &Frag,
-        swift: &Frag,
-        json: &Frag,
+        texts: &mut Texts,
+        css: &Names<'_>,
+        android: &Names<'_>,
+        swift: &Names<'_>,
     ) -> Result<Fragments, NoMemory>
-        ensures { IfOk result (λ fragments. fragments_view fragments
-            ≡ TokenCell.Made css.now android.now swift.now json.now) }
+        ensures { (on_css on_android in_swift in_json : List ℕ)
+            → texts.old ≡ on_css ∷ on_android ∷ in_swift ∷ in_json ∷ []
+            → IfOk result (λ fragments. fragments_view fragments ≡ Made
+            (record { names = css.now; body = on_css })
+            (record { names = android.now; body = on_android })
+            (record { names = swift.now; body = in_swift })
+            (record { names = []; body = in_json })) }
     {
-        let mut texts = bodies(alloc, css, android, swift, json)?;
-        let css_run = push_names(&mut texts, &css.names)?;
-        let android_run = push_names(&mut texts, &android.names)?;
-        let swift_run = push_swift(&mut texts, &android.names, android_run, &swift.names)?;
-        let json_run = push_names(&mut texts, &json.names)?;
+        let css_run = push_names(texts, css)?;
+        let android_run = push_names(texts, android)?;
+        let swift_run = push_swift(texts, android, android_run, swift)?;
         Ok(Fragments {
-            texts,
+            texts: texts.copy(alloc)?,
             css: css_run,
             android: android_run,
             swift: swift_run,
-            json: json_run,
         })
     }
 

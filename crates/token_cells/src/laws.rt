@@ -2,9 +2,12 @@
 ghost use Rattle.token_cells.specs.Denotes.{CellsDenote};
 ghost use Rattle.token_cells.specs.Existence.{EachCell, EachCells};
 ghost use Rattle.token_cells.specs.OtherSheets.{AndroidCellsDenote, JsonCellsDenote, SwiftCellsDenote};
-ghost use Rattle.token_cells.specs.Laws.{ApartAreUnclashed, BreaksAreReal, ClashesAreReal, OneCells, UnclashedAreApart};
+ghost use Rattle.token_cells.specs.Laws.{ApartAreUnclashed, BreaksAreReal, ClashesAreReal, OneCells, UnchangedCells, UnclashedAreApart};
 
-use alias_ref::{meanings_fit, one_answer, one_meaning, parts_mean, unbroken_tokens};
+use alias_ref::{
+    meanings_fit, one_answer, one_meaning, parts_mean, source_decides, unbroken_tokens,
+    unchanged_is_alike,
+};
 use composite_rules::{part_laws, value_laws};
 use css_out::sheet_laws;
 use json_span::plain_laws;
@@ -16,6 +19,15 @@ pub fn one_cells()
 {
     one_meaning();
     one_answer();
+}
+
+/// A token from which no walk of references leads to a change comes in a new tree to what it came to in the old one,
+/// wherever its file stands.
+pub fn unchanged_cells()
+    ensures { UnchangedCells }
+{
+    unchanged_is_alike();
+    source_decides();
 }
 
 /// Cells without a break, of which no two have a name in common, give a style sheet that denotes the values of their tokens,

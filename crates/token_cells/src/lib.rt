@@ -2,6 +2,9 @@
 #![tactic(auto)]
 
 mod cells;
+mod drafts;
+mod earlier;
+mod evaluated;
 mod format;
 mod fragments;
 mod laws;
@@ -13,12 +16,15 @@ mod tests;
 mod token_cell;
 mod verdict;
 
-pub use cells::{Cells, cells_of};
+pub use cells::cells_of;
+pub use earlier::Earlier;
+pub use evaluated::{Cells, Evaluated};
 pub use format::Format;
 pub use laws::{
     breaks_are_real, clashes_are_real, each_cell, one_cells, other_sheets_denote, sheets_denote,
+    unchanged_cells,
 };
 pub use shared_cell::SharedCell;
 pub use sheet::sheet_of;
-pub use token_cell::{TokenCell, cell};
+pub use token_cell::cell;
 pub use verdict::verdict_text;

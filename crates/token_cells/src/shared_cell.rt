@@ -2,10 +2,10 @@
 
 ghost use Rattle.std.specs.Prelude.{◌≡◌, true, false, IfOk};
 ghost use Rattle.std.specs.Option.{MatchOption};
+ghost use Rattle.token_cells.specs.TokenCell.{Refused};
 ghost use Rattle.token_cells.specs.inner.Kept.{fragments_view, is_refused};
 
 use crate::fragments::Fragments;
-use crate::token_cell::TokenCell;
 use name_path::{Place, Ring};
 use refusals::CellRule;
 use std::alloc::Global;
@@ -13,11 +13,13 @@ use std::marker::Model;
 use std::rc::Rc;
 use tk_io::NoMemory;
 
-/// The first rule that a token breaks, and where.
+/// The first rule that a token breaks, and where. It holds no offset, so that it stays right where its file is moved.
 #[derive(Debug, Drop)]
 pub(crate) struct Refusal<'s> {
     pub(crate) rule: CellRule,
+    /// Where it is broken, which may be in another token; for a ring its first place.
     pub(crate) place: Place<'s>,
+    /// The ring of references: each place leads to the next and the last to the first. For other rules it is empty.
     pub(crate) ring: Ring<'s>,
 }
 
@@ -28,14 +30,14 @@ enum Kept<'s> {
     Unbroken(Rc<Fragments>),
 }
 
-/// What a token comes to, in one place or more, seen as the cell itself.
+/// What a token comes to, in one place or more: the first rule that it breaks, or what it gives to each platform.
 #[derive(Debug, Drop)]
 pub struct SharedCell<'s> {
     kept: Kept<'s>,
 }
 
 impl<'s> Model for SharedCell<'s> {
-    ghost use Rattle.token_cells.specs.declared.token_cell.TokenCell.{TokenCell};
+    ghost use Rattle.token_cells.specs.TokenCell.{TokenCell};
 
     ghost Value = { TokenCell };
 
@@ -45,30 +47,25 @@ impl<'s> Model for SharedCell<'s> {
 }
 
 impl<'s> SharedCell<'s> {
-    /// The cell, in one place. Its texts are kept in one buffer.
-    pub fn new(alloc: Global, cell: TokenCell<'s>) -> Result<SharedCell<'s>, NoMemory>
-        ensures { IfOk result (λ s. s ≡ cell.entry) }
+    /// The cell of a token that breaks a rule, in one place.
+    pub(crate) fn refused(alloc: Global, refusal: Refusal<'s>) -> Result<SharedCell<'s>, NoMemory>
+        ensures { IfOk result (λ s. s
+            ≡ Refused refusal.entry.rule refusal.entry.place refusal.entry.ring) }
     {
-        match cell {
-            TokenCell::Refused { rule, place, ring } => {
-                let refusal = Rc::new(alloc, Refusal { rule, place, ring })?;
-                Ok(SharedCell {
-                    kept: Kept::Broken(refusal),
-                })
-            }
-            TokenCell::Made {
-                css,
-                android,
-                ios,
-                json,
-            } => {
-                let fragments = Fragments::new(alloc, &css, &android, &ios, &json)?;
-                let fragments = Rc::new(alloc, fragments)?;
-                Ok(SharedCell {
-                    kept: Kept::Unbroken(fragments),
-                })
-            }
-        }
+        let refusal = Rc::new(alloc, refusal)?;
+        Ok(SharedCell {
+            kept: Kept::Broken(refusal),
+        })
+    }
+
+    /// The cell of a token that breaks none, in one place.
+    pub(crate) fn made(alloc: Global, fragments: Fragments) -> Result<SharedCell<'s>, NoMemory>
+        ensures { IfOk result (λ s. s ≡ fragments_view fragments) }
+    {
+        let fragments = Rc::new(alloc, fragments)?;
+        Ok(SharedCell {
+            kept: Kept::Unbroken(fragments),
+        })
     }
 
     /// The same cell, in one place more. It is not copied.
@@ -94,7 +91,7 @@ impl<'s> SharedCell<'s> {
     /// What is told of the token where it breaks a rule.
     pub(crate) fn refusal(&self) -> Option<&Refusal<'s>>
         ensures { MatchOption result (is_refused self.now ≡ false)
-            (λ r. self.now ≡ TokenCell.Refused r.now.rule r.now.place r.now.ring) }
+            (λ r. self.now ≡ Refused r.now.rule r.now.place r.now.ring) }
     {
         match &self.kept {
             Kept::Broken(refusal) => Some(refusal),

@@ -10,6 +10,9 @@ use std::alloc::Global;
 use tk_io::{Bytes, NoMemory};
 use transforms::Sheet;
 
+/// More than what stands before the first body and behind the last has.
+const MARGIN: usize = 128;
+
 // Adds what the token gives to a sheet of this format.
 fn add_body(sheet: &mut Sheet, format: Format, cell: &SharedCell<'_>) -> Result<(), NoMemory>
     ensures { OnOk result ((frame : FrameData) (bodies : List (List ℕ))
@@ -22,11 +25,25 @@ fn add_body(sheet: &mut Sheet, format: Format, cell: &SharedCell<'_>) -> Result<
     }
 }
 
+// How many bytes the bodies have. It decides how often memory is asked for, and nothing else.
+fn room_of(format: Format, cells: &[SharedCell<'_>]) -> usize {
+    let mut room: usize = MARGIN;
+    for cell in cells {
+        if let Some(fragments) = cell.fragments() {
+            // .. with what stands between two.
+            room = room
+                .saturating_add(fragments.body(format).len())
+                .saturating_add(2);
+        }
+    }
+    room
+}
+
 /// The sheet of tokens in this format.
 pub fn sheet_of(alloc: Global, format: Format, cells: &[SharedCell<'_>]) -> Result<Bytes, NoMemory>
     ensures { IfOk result (λ b. b ≡ sheet_for format (cells_view cells.now)) }
 {
-    let mut sheet = Sheet::start(alloc, format.frame())?;
+    let mut sheet = Sheet::start(alloc, format.frame(), room_of(format, cells))?;
     for cell in cells {
         add_body(&mut sheet, format, cell)?;
     }

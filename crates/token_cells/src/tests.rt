@@ -2,8 +2,8 @@
 
 ghost use Rattle.std.specs.Prelude.{◌≡◌, ◌<◌};
 
-use crate::{Format, SharedCell, TokenCell, cell, sheet_of};
-use group_inherit::flatten;
+use crate::{Earlier, Format, SharedCell, cell, cells_of, sheet_of};
+use group_inherit::{Flat, flatten};
 use json_span::read;
 use name_path::print_place;
 use refusals::Rule;
@@ -17,26 +17,21 @@ use tk_io::{Bytes, NoMemory, Steps};
 use token_tree::shape;
 use transforms::Config;
 
+const FORMATS: [Format; 4] = [Format::Css, Format::Android, Format::Swift, Format::Json];
+
 /// The lines of each platform, or the rule and the place where it is broken.
-fn append_cell(out: &mut Bytes, cell: &TokenCell<'_>) -> Result<(), NoMemory> {
-    match cell {
-        TokenCell::Made {
-            css,
-            android,
-            ios,
-            json,
-        } => {
-            out.append(css.body.as_slice())?;
-            out.append(android.body.as_slice())?;
-            out.append(ios.body.as_slice())?;
-            out.append(json.body.as_slice())
-        }
-        TokenCell::Refused { rule, place, .. } => {
-            out.append(Rule::Token(*rule).name())?;
-            out.append(b" ")?;
-            print_place(place, out)
+fn append_cell(out: &mut Bytes, cell: &SharedCell<'_>) -> Result<(), NoMemory> {
+    if let Some(refusal) = cell.refusal() {
+        out.append(Rule::Token(refusal.rule).name())?;
+        out.append(b" ")?;
+        print_place(&refusal.place, out)?;
+    }
+    if let Some(fragments) = cell.fragments() {
+        for format in FORMATS {
+            out.append(fragments.body(format))?;
         }
     }
+    Ok(())
 }
 
 /// The files of CSS and JSON.
@@ -48,24 +43,25 @@ fn append_files(alloc: Global, out: &mut Bytes, cells: &[SharedCell<'_>]) -> Res
     Ok(())
 }
 
-/// What the first token of a file comes to; none where the file has no token.
-fn first_cell<L: Ledger>(alloc: Global, text: &[u8], page: Blank) -> Option<Bytes>
-    requires page { (page.name ≡ L.name) × (page.parts ≡ L.parts) × (0 < L.parts) }
-{
-    let mut steps: Steps<L> = Steps::new(page);
+/// The flat tree of a file; none where the file has none.
+fn flat_of<'s, L: Ledger>(alloc: Global, text: &'s [u8], steps: &mut Steps<L>) -> Option<Flat<'s>> {
     let text = str::from_utf8(text).ok()?;
-    let Ok(root) = read(alloc, text, &mut steps) else {
+    let Ok(root) = read(alloc, text, steps) else {
         return None;
     };
     let Ok(group) = shape(alloc, "tokens.json", text, &root) else {
         return None;
     };
-    let Ok(flat) = flatten(alloc, &group, &mut steps) else {
-        return None;
-    };
-    let Some((path, _)) = flat.at(0) else {
-        return None;
-    };
+    flatten(alloc, &group, steps).ok()
+}
+
+/// What the first token of a file comes to; none where the file has no token.
+fn first_cell<L: Ledger>(alloc: Global, text: &[u8], page: Blank) -> Option<Bytes>
+    requires page { (page.name ≡ L.name) × (page.parts ≡ L.parts) × (0 < L.parts) }
+{
+    let mut steps: Steps<L> = Steps::new(page);
+    let flat = flat_of(alloc, text, &mut steps)?;
+    let (path, _) = flat.at(0)?;
     if flat.get(path).is_none() {
         return None;
     }
@@ -73,8 +69,7 @@ fn first_cell<L: Ledger>(alloc: Global, text: &[u8], page: Blank) -> Option<Byte
     let cell = cell(alloc, &flat, path, &cfg, &mut steps).ok()?;
     let mut out = Bytes::new(alloc);
     append_cell(&mut out, &cell).ok()?;
-    let shared = SharedCell::new(alloc, cell).ok()?;
-    append_files(alloc, &mut out, slice::from_ref(&shared)).ok()?;
+    append_files(alloc, &mut out, slice::from_ref(&cell)).ok()?;
     Some(out)
 }
 
@@ -114,5 +109,91 @@ fn tokens_come_to_what_they_have(rt: HostRuntime) -> Result<(), Fail> {
         let cell = cell_of(rt.alloc(), text).expect(&rt, text);
         assert_eq!(rt; cell.as_slice(), expected.as_bytes());
     }
+    Ok(())
+}
+
+/// The JSON file of a file of tokens, after those of the file before.
+fn json_after<'s, L: Ledger>(
+    alloc: Global,
+    text: &'s str,
+    earlier: &mut Earlier<'s>,
+    steps: &mut Steps<L>,
+) -> Option<Bytes> {
+    let flat = flat_of(alloc, text.as_bytes(), steps)?;
+    let cfg = Config::plain(alloc);
+    let tree = cells_of(alloc, flat, &cfg, earlier, steps).ok()?;
+    let sheet = sheet_of(alloc, Format::Json, tree.cells()).ok()?;
+    earlier.keep(alloc, &cfg, tree).ok()?;
+    Some(sheet)
+}
+
+/// Whether the files, one after another, have these JSON files.
+fn are_told<L: Ledger>(alloc: Global, rows: &[(&'static str, &str)], page: Blank) -> bool
+    requires page { (page.name ≡ L.name) × (page.parts ≡ L.parts) × (0 < L.parts) }
+{
+    let mut steps: Steps<L> = Steps::new(page);
+    let mut earlier = Earlier::new();
+    for (text, expected) in rows {
+        match json_after(alloc, text, &mut earlier, &mut steps) {
+            Some(told) if told.as_slice() == expected.as_bytes() => {}
+            _ => return false,
+        }
+    }
+    true
+}
+
+/// A file, and then changes: of a value, of a mark above it, of the type above it, and of names and a description.
+static CHANGES: [(&str, &str); 5] = [
+    (
+        r#"{"a":{"$type":"number","x":{"$value":1},"y":{"$value":"{a.x}"},"z":{"$value":3}}}"#,
+        r#"{
+  "a.x": {"$type": "number", "$value": 1},
+  "a.y": {"$type": "number", "$value": 1},
+  "a.z": {"$type": "number", "$value": 3}
+}
+"#,
+    ),
+    (
+        r#"{"a":{"$type":"number","x":{"$value":2},"y":{"$value":"{a.x}"},"z":{"$value":3}}}"#,
+        r#"{
+  "a.x": {"$type": "number", "$value": 2},
+  "a.y": {"$type": "number", "$value": 2},
+  "a.z": {"$type": "number", "$value": 3}
+}
+"#,
+    ),
+    (
+        r#"{"a":{"$deprecated":true,"$type":"number","x":{"$value":2},"z":{"$value":3}}}"#,
+        r#"{
+  "a.x": {"$type": "number", "$value": 2, "$deprecated": true},
+  "a.z": {"$type": "number", "$value": 3, "$deprecated": true}
+}
+"#,
+    ),
+    (
+        r#"{"a":{"$deprecated":true,"$type":"fontWeight","x":{"$value":2},"z":{"$value":3}}}"#,
+        r#"{
+  "a.x": {"$type": "fontWeight", "$value": 2, "$deprecated": true},
+  "a.z": {"$type": "fontWeight", "$value": 3, "$deprecated": true}
+}
+"#,
+    ),
+    (
+        r#"{"a":{"$type":"fontWeight","w":{"$value":2},"z":{"$value":3,"$description":"e"}}}"#,
+        r#"{
+  "a.w": {"$type": "fontWeight", "$value": 2},
+  "a.z": {"$type": "fontWeight", "$value": 3, "$description": "e"}
+}
+"#,
+    ),
+];
+
+fn are_changes_told(alloc: Global) -> bool {
+    are_told::<Brand>(alloc, &CHANGES, Blank::new(1))
+}
+
+#[test]
+fn tokens_follow_changes(rt: HostRuntime) -> Result<(), Fail> {
+    assert!(rt; are_changes_told(rt.alloc()));
     Ok(())
 }

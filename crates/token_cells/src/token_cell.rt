@@ -10,8 +10,13 @@ ghost use Rattle.alias_ref.specs.Answer.{IsResolved};
 ghost use Rattle.composite_rules.specs.Value.{value_of};
 ghost use Rattle.alias_ref.specs.Laws.{Flat as FlatTree};
 ghost use Rattle.token_cells.specs.Cell.{IsCell, extras_of};
+ghost use Rattle.token_cells.specs.TokenCell.{Refused};
+ghost use Rattle.token_cells.specs.inner.Kept.{fragments_view};
 ghost use Rattle.token_cells.specs.inner.Making.{IsMadeOf};
 
+use crate::drafts::Drafts;
+use crate::fragments::Fragments;
+use crate::shared_cell::{Refusal, SharedCell};
 use alias_ref::{RefFault, Resolved, evaluate_entry};
 use composite_rules::{Typed, check, value_laws};
 use group_inherit::{Entry, Flat};
@@ -20,46 +25,27 @@ use name_path::{Path, Place, Ring, Trail};
 use refusals::CellRule;
 use std::alloc::Global;
 use std::sync::ledger::Ledger;
-use tk_io::{Bytes, NoMemory, Steps};
+use tk_io::{NoMemory, Steps};
 use token_tree::Mark;
-use transforms::{Config, Frag};
+use transforms::{Config, Platform, name_for};
 use type_rules::{ValueFault, ValueRule};
-
-/// What a token comes to. It holds no offset, so that it stays right where its file is moved.
-#[derive(Debug, Drop)]
-pub enum TokenCell<'s> {
-    /// The first rule that the token breaks.
-    Refused {
-        rule: CellRule,
-        /// Where it is broken, which may be in another token; for a ring its first place.
-        place: Place<'s>,
-        /// The ring of references: each place leads to the next and the last to the first. For other rules it is empty.
-        ring: Ring<'s>,
-    },
-    /// What the token gives to each platform.
-    Made {
-        css: Frag,
-        android: Frag,
-        ios: Frag,
-        json: Frag,
-    },
-}
 
 fn refused_value<'s>(
     alloc: Global,
     path: &Path<'s>,
     rule: ValueRule,
     trail: Trail<'s>,
-) -> Result<TokenCell<'s>, NoMemory>
-    ensures { IfOk result (λ c. c ≡ TokenCell.Refused (CellRule.Value rule)
+) -> Result<SharedCell<'s>, NoMemory>
+    ensures { IfOk result (λ c. c ≡ Refused (CellRule.Value rule)
         (record { token = path.now; trail = trail.entry }) []) }
 {
     let token = path.copy()?;
-    Ok(TokenCell::Refused {
+    let refusal = Refusal {
         rule: CellRule::Value(rule),
         place: Place { token, trail },
         ring: Ring::new(alloc),
-    })
+    };
+    SharedCell::refused(alloc, refusal)
 }
 
 // The mark that holds for the token: its own, else that of the nearest group upwards that has one.
@@ -99,70 +85,73 @@ fn extras<'a, 's: 'a>(entry: &'a Entry<'s>) -> Result<Extras<'a>, NoMemory>
 // What the token gives to each platform, which has this value.
 fn made<'s>(
     alloc: Global,
-    draft: &mut Bytes,
+    drafts: &mut Drafts,
     path: &Path<'s>,
     entry: &Entry<'s>,
     resolved: &Resolved<'s>,
     typed: &Typed<'s>,
     cfg: &Config,
-) -> Result<TokenCell<'s>, NoMemory>
+) -> Result<Fragments, NoMemory>
     requires { value_of resolved.now.kind (plain_view resolved.now.plain) ≡ Ok typed.now }
-    ensures { IfOk result (IsMadeOf cfg.now path.now entry.now resolved.now.links typed.now) }
+    ensures { IfOk result (λ f. IsMadeOf cfg.now path.now entry.now
+        resolved.now.links typed.now (fragments_view f)) }
 {
     value_laws();
     let extras = extras(entry)?;
-    let css = css_out::fragment(alloc, draft, path, typed, &resolved.links, cfg)?;
-    let android = android_out::fragment(alloc, draft, path, typed, cfg)?;
-    let ios = ios_out::fragment(alloc, draft, path, typed, cfg)?;
-    let json = json_out::fragment(alloc, draft, path, typed, &extras)?;
-    Ok(TokenCell::Made {
-        css,
-        android,
-        ios,
-        json,
-    })
+    let property = name_for(alloc, Platform::Css, path, cfg)?;
+    // Its name in Swift is that on Android.
+    let identifier = name_for(alloc, Platform::Android, path, cfg)?;
+    drafts.texts.clear();
+    let css = drafts.add_css(alloc, property.as_slice(), typed, &resolved.links, cfg)?;
+    let android = drafts.add_android(alloc, identifier.as_slice(), typed, cfg)?;
+    let swift = drafts.add_swift(alloc, identifier.as_slice(), typed, cfg)?;
+    drafts.add_json(path, typed, &extras)?;
+    Fragments::new(alloc, &mut drafts.texts, &css, &android, &swift)
 }
 
 // What a token comes to whose references break no rule.
 fn resolved_cell<'s>(
     alloc: Global,
-    draft: &mut Bytes,
+    drafts: &mut Drafts,
     path: &Path<'s>,
     entry: &Entry<'s>,
     resolved: &Resolved<'s>,
     cfg: &Config,
-) -> Result<TokenCell<'s>, NoMemory>
+) -> Result<SharedCell<'s>, NoMemory>
     ensures { IfOk result (λ c. (flat : FlatTree) → map.get flat path.now ≡ Some entry.now
         → IsResolved flat path.now resolved.now → IsCell flat cfg.now path.now c) }
 {
     match check(alloc, resolved.kind, &resolved.plain) {
-        Ok(typed) => made(alloc, draft, path, entry, resolved, &typed, cfg),
+        Ok(typed) => {
+            let fragments = made(alloc, drafts, path, entry, resolved, &typed, cfg)?;
+            SharedCell::made(alloc, fragments)
+        }
         Err(ValueFault::Broken { rule, trail }) => refused_value(alloc, path, rule, trail),
         Err(ValueFault::NoMemory) => Err(NoMemory),
     }
 }
 
-/// What a token comes to that is at hand: the flat tree holds it under the path. Its lines are made in the draft, whatever it holds. Else as [`cell`].
+/// What a token comes to that is at hand: the flat tree holds it under the path. Its lines are made in
+/// the drafts, whatever they hold. Else as [`cell`].
 pub(crate) fn cell_of_entry<'s, N: Ledger>(
     alloc: Global,
-    draft: &mut Bytes,
+    drafts: &mut Drafts,
     flat: &Flat<'s>,
     path: &Path<'s>,
     entry: &Entry<'s>,
     cfg: &Config,
     evals: &mut Steps<N>,
-) -> Result<TokenCell<'s>, NoMemory>
+) -> Result<SharedCell<'s>, NoMemory>
     requires token { map.get flat.now path.now ≡ Some entry.now }
     ensures step { evals.new ≡ evals.old + 1 }
     ensures cell { IfOk result (IsCell flat.now cfg.now path.now) }
 {
     match evaluate_entry(alloc, flat, path, entry, evals) {
-        Ok(resolved) => resolved_cell(alloc, draft, path, entry, &resolved, cfg),
-        Err(RefFault::Broken { rule, place, ring }) => Ok(TokenCell::Refused {
-            rule: CellRule::Ref(rule),
-            place,
-            ring,
-        }),
+        Ok(resolved) => resolved_cell(alloc, drafts, path, entry, &resolved, cfg),
+        Err(RefFault::Broken { rule, place, ring }) => {
+            let rule = CellRule::Ref(rule);
+            SharedCell::refused(alloc, Refusal { rule, place, ring })
+        }
         Err(RefFault::NoMemory) => Err(NoMemory),
     }
 }
@@ -175,7 +164,7 @@ pub fn cell<'s, N: Ledger>(
     path: &Path<'s>,
     cfg: &Config,
     evals: &mut Steps<N>,
-) -> Result<TokenCell<'s>, NoMemory>
+) -> Result<SharedCell<'s>, NoMemory>
     requires token { (f : Flattened) × (map.get flat.now path.now ≡ Some f) }
     ensures step { evals.new ≡ evals.old + 1 }
     ensures cell { IfOk result (IsCell flat.now cfg.now path.now) }
@@ -183,6 +172,6 @@ pub fn cell<'s, N: Ledger>(
     let Some(entry) = flat.get(path) else {
         unreachable!();
     };
-    let mut draft = Bytes::new(alloc);
-    cell_of_entry(alloc, &mut draft, flat, path, entry, cfg, evals)
+    let mut drafts = Drafts::new(alloc);
+    cell_of_entry(alloc, &mut drafts, flat, path, entry, cfg, evals)
 }

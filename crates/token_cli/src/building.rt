@@ -2,7 +2,7 @@
 ghost use Rattle.std.specs.Prelude.{◌≡◌, ◌<◌, IfOk};
 ghost use Rattle.build_plain.specs.Out.{Builds};
 
-use build_plain::build;
+use build_plain::{Earlier, build};
 use file_plan::Files;
 use std::alloc::Global;
 use std::marker::Brand;
@@ -10,9 +10,10 @@ use std::sync::ledger::{Blank, Ledger};
 use tk_io::{NoMemory, Outputs, Steps};
 
 // The counters are made here: a call that picks a ledger has no text in its signature.
-fn counted<L: Ledger, M: Ledger, N: Ledger>(
+fn counted<'s, L: Ledger, M: Ledger, N: Ledger>(
     alloc: Global,
-    files: &Files<'_>,
+    files: &Files<'s>,
+    earlier: &mut Earlier<'s>,
     parses: Blank,
     merges: Blank,
     evals: Blank,
@@ -25,15 +26,27 @@ fn counted<L: Ledger, M: Ledger, N: Ledger>(
     let mut parses: Steps<L> = Steps::new(parses);
     let mut merges: Steps<M> = Steps::new(merges);
     let mut evals: Steps<N> = Steps::new(evals);
-    build(alloc, files, &mut parses, &mut merges, &mut evals)
+    build(alloc, files, earlier, &mut parses, &mut merges, &mut evals)
 }
 
-/// The outputs of the files, built from nothing.
+/// The outputs of the files, which are those of a build from nothing. Tokens that stand as they stood earlier are taken
+/// from what is kept of them.
 ///
 /// # Errors
 /// `NoMemory`.
-pub fn build_files(alloc: Global, files: &Files<'_>) -> Result<Outputs, NoMemory>
+pub fn build_files<'s>(
+    alloc: Global,
+    files: &Files<'s>,
+    earlier: &mut Earlier<'s>,
+) -> Result<Outputs, NoMemory>
     ensures { IfOk result (λ o. Builds files.now o) }
 {
-    counted::<Brand, Brand, Brand>(alloc, files, Blank::new(1), Blank::new(1), Blank::new(1))
+    counted::<Brand, Brand, Brand>(
+        alloc,
+        files,
+        earlier,
+        Blank::new(1),
+        Blank::new(1),
+        Blank::new(1),
+    )
 }

@@ -15,6 +15,7 @@ ghost use Rattle.token_cli.specs.inner.View.{workspace_view};
 use crate::building::build_files;
 use crate::stop::Stop;
 use crate::telling::Telling;
+use build_plain::Earlier;
 use edit_script::{Changes, Event, Line, delta, short_line, write_change, write_line};
 use file_plan::Files;
 use std::alloc::Global;
@@ -29,6 +30,8 @@ pub struct Workspace<'s> {
     pub held: Outputs,
     /// How many commits there were.
     pub commits: u64,
+    /// What the tokens of the last commit came to.
+    pub earlier: Earlier<'s>,
 }
 
 // Writes the records of the changes.
@@ -112,6 +115,7 @@ impl<'s> Workspace<'s> {
             files: Files::new(alloc),
             held: Outputs::new(alloc),
             commits: 0,
+            earlier: Earlier::new(),
         }
     }
 
@@ -125,7 +129,7 @@ impl<'s> Workspace<'s> {
             (K.faults out.old) (K.faults out.new)) }
         ensures later { K.faults out.old ≤ K.faults out.new }
     {
-        let outputs = build_files(alloc, &self.files)?;
+        let outputs = build_files(alloc, &self.files, &mut self.earlier)?;
         write_commit(alloc, telling, self.commits + 1, &self.held, &outputs, out)?;
         self.commits += 1;
         self.held = outputs;

@@ -14,4 +14,5 @@ pub mod QuotedReadsBack
 pub mod RunsAreFirst
 pub mod ScaledAreWritten
 mod SortedNames
+mod RisingNames
 mod TextEnds

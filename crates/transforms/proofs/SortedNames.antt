@@ -26,7 +26,7 @@ apart_moved xs ys moved apart =
     (IsDistinct-IsPermutation (eq_by_cmp text_cmp) (eq_by_cmp_equiv nat_list_cmp_total).symm xs ys moved
     (IsDistinct-from_AllPairs same xs (apart_at_places xs apart))))
 
-rising_apart : (names : List (List ℕ)) → ((k : ℕ) → k + 1 < length names → text_cmp (get_or names k []) (get_or names (k + 1) []) ≡ Less) → AreApart names
+pub rising_apart : (names : List (List ℕ)) → ((k : ℕ) → k + 1 < length names → text_cmp (get_or names k []) (get_or names (k + 1) []) ≡ Less) → AreApart names
 rising_apart names rise = places_apart names (AllPairs-from_IsDistinct same names (IsDistinct-from_sorted text_cmp names (sorted_from_all_adjacent nat_list_cmp_total names [] rise)))
 
 less : (r : Ordering) → true ≡ is_lt r → r ≡ Less
@@ -47,7 +47,7 @@ module _ {A : Type 0} (name : A → List ℕ) where
   abbrev pub is_less : A → A → Bool
   is_less x y = is_lt (text_cmp (name x) (name y))
 
-  rises : (xs : List A) → AllAdjacentBelow (λ x y. true ≡ is_less x y) xs (length xs) → (k : ℕ) → k + 1 < length (map name xs)
+  pub rises : (xs : List A) → AllAdjacentBelow (λ x y. true ≡ is_less x y) xs (length xs) → (k : ℕ) → k + 1 < length (map name xs)
       → text_cmp (get_or (map name xs) k []) (get_or (map name xs) (k + 1) []) ≡ Less
   rises [] h k low = absurd (omega (arith, low))
   rises (x ∷ xs) h k low =

@@ -5,6 +5,7 @@ pub mod Hexadecimal
 pub mod Quoted
 pub mod Runs
 pub mod Scaling
+pub mod Frag
 pub mod Sheet
 pub mod Clash
 pub mod View

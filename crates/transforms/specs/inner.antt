@@ -4,3 +4,4 @@ pub mod Elsewhere
 pub mod Unread
 pub mod Held
 pub mod Ends
+pub mod Rising

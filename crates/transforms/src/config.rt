@@ -1,6 +1,6 @@
 // The configuration.
 
-ghost use Rattle.std.specs.Prelude.{◌≡◌, ◌≢◌, true, Ok, Err, Some, None, IfOk, IfErr, IfSome};
+ghost use Rattle.std.specs.Prelude.{◌≡◌, ◌≢◌, true, false, Ok, Err, Some, None, IfOk, IfErr, IfSome};
 ghost use Rattle.std.specs.Prelude.{option_map};
 ghost use Rattle.std.specs.List.{list_all};
 ghost use Rattle.std.specs.Char.{is_ascii_alphanumeric};
@@ -73,6 +73,29 @@ impl Config {
             rem_base: 16,
             references: true,
         }
+    }
+
+    /// The same configuration.
+    pub fn copy(&self, alloc: Global) -> Result<Config, NoMemory>
+        ensures { IfOk result (λ config. config ≡ self.now) }
+    {
+        let mut prefix = Bytes::new(alloc);
+        prefix.append(self.prefix.as_slice())?;
+        Ok(Config {
+            prefix,
+            rem_base: self.rem_base,
+            references: self.references,
+        })
+    }
+
+    /// Whether both say the same.
+    pub fn is_same(&self, other: &Config) -> bool
+        ensures same { result ≡ true → self.now ≡ other.now }
+        ensures other { result ≡ false → self.now ≢ other.now }
+    {
+        self.rem_base == other.rem_base
+            && self.references == other.references
+            && self.prefix.as_slice() == other.prefix.as_slice()
     }
 }
 

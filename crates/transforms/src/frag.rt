@@ -1,28 +1,28 @@
-// What tokens give to sheets.
+// The names that tokens declare.
 
-ghost use Rattle.std.specs.Prelude.{◌≡◌, [], ◌∷◌, IfOk};
+ghost use Rattle.std.specs.Prelude.{◌≡◌, [], ◌∷◌, ◌++◌, Decides, OnOk, OnErr};
+ghost use Rattle.transforms.specs.Frag.{AddsSome};
 
-use std::alloc::Global;
+use crate::Texts;
 use std::marker::Model;
-use std::slice;
 use tk_io::{Bytes, NoMemory, Sequence};
 
 /// Names in memory.
 #[derive(Debug, Drop)]
-enum Held {
+enum Held<'a> {
     No,
-    /// Most tokens have one name, which needs no list.
-    One(Bytes),
+    /// Most tokens have one name, which was made for them and is lent.
+    One(&'a [u8]),
     Several(Sequence<Bytes>),
 }
 
 /// The names that a token declares on a platform, seen as their list.
 #[derive(Debug, Drop)]
-pub struct Names {
-    held: Held,
+pub struct Names<'a> {
+    held: Held<'a>,
 }
 
-impl Model for Names {
+impl<'a> Model for Names<'a> {
     ghost use Rattle.std.specs.Prelude.{List, ℕ};
     ghost use Rattle.transforms.specs.inner.Held.{listed};
 
@@ -31,17 +31,52 @@ impl Model for Names {
     ghost view = { λ names. listed names.held };
 }
 
-impl Names {
+// Adds all names at the end. Where memory runs out some of them were added.
+fn push_each(texts: &mut Texts, names: &[Bytes]) -> Result<(), NoMemory>
+    ensures ok { OnOk result (texts.new ≡ texts.old ++ names.now) }
+    ensures err { OnErr result (AddsSome texts.old names.now texts.new) }
+{
+    for name in names {
+        texts.push(name.as_slice())?;
+    }
+    Ok(())
+}
+
+fn are_same(names: &[Bytes], others: &[Bytes]) -> bool
+    ensures { Decides result (names.now ≡ others.now) }
+{
+    if names.len() != others.len() {
+        return false;
+    }
+    for (name, other) in names.iter().zip(others) {
+        if name.as_slice() != other.as_slice() {
+            return false;
+        }
+    }
+    true
+}
+
+// Whether the names are this one alone.
+fn are_one(names: &[Bytes], name: &[u8]) -> bool
+    ensures { Decides result (names.now ≡ name.now ∷ []) }
+{
+    match names {
+        [only] => only.as_slice() == name,
+        _ => false,
+    }
+}
+
+impl<'a> Names<'a> {
     /// No name, as of a token that is omitted.
-    pub fn none() -> Names
+    pub fn none() -> Names<'a>
         ensures { result ≡ [] }
     {
         Names { held: Held::No }
     }
 
     /// One name.
-    pub fn one(name: Bytes) -> Names
-        ensures { result ≡ name ∷ [] }
+    pub fn one(name: &'a [u8]) -> Names<'a>
+        ensures { result ≡ name.now ∷ [] }
     {
         Names {
             held: Held::One(name),
@@ -49,7 +84,7 @@ impl Names {
     }
 
     /// The names of a token that declares several.
-    pub fn several(names: Sequence<Bytes>) -> Names
+    pub fn several(names: Sequence<Bytes>) -> Names<'a>
         ensures { result ≡ names }
     {
         Names {
@@ -57,33 +92,33 @@ impl Names {
         }
     }
 
-    /// The names, in order.
-    pub fn as_slice(&self) -> &[Bytes]
-        ensures { result.now ≡ self.now }
+    /// Adds the names at the end of texts, in order. Where memory runs out the first few of them were added.
+    pub fn push_to(&self, texts: &mut Texts) -> Result<(), NoMemory>
+        ensures ok { OnOk result (texts.new ≡ texts.old ++ self.now) }
+        ensures err { OnErr result (AddsSome texts.old self.now texts.new) }
     {
         match &self.held {
-            Held::No => &[],
-            Held::One(name) => slice::from_ref(name),
-            Held::Several(names) => names.as_slice(),
+            Held::No => Ok(()),
+            Held::One(name) => texts.push(name),
+            Held::Several(names) => push_each(texts, names.as_slice()),
         }
     }
-}
 
-/// What a token gives to a sheet: the names that it declares there, and its lines.
-#[derive(Debug, Drop)]
-pub struct Frag {
-    pub names: Names,
-    pub body: Bytes,
-}
-
-impl Frag {
-    /// The fragment of these names whose lines are the draft. Memory is asked for once, for no more than its bytes.
-    pub fn of_draft(alloc: Global, names: Names, draft: &Bytes) -> Result<Frag, NoMemory>
-        ensures names { IfOk result (λ frag. frag.names ≡ names) }
-        ensures body { IfOk result (λ frag. frag.body ≡ draft.now) }
+    /// Whether both are the same names.
+    pub fn is_same(&self, other: &Names<'_>) -> bool
+        ensures { Decides result (self.now ≡ other.now) }
     {
-        let mut body = Bytes::new(alloc);
-        body.append(draft.as_slice())?;
-        Ok(Frag { names, body })
+        match (&self.held, &other.held) {
+            (Held::No, Held::No) => true,
+            (Held::No, Held::Several(names)) => names.is_empty(),
+            (Held::Several(names), Held::No) => names.is_empty(),
+            (Held::One(name), Held::One(same)) => name == same,
+            (Held::One(name), Held::Several(names)) => are_one(names.as_slice(), name),
+            (Held::Several(names), Held::One(name)) => are_one(names.as_slice(), name),
+            (Held::Several(names), Held::Several(others)) => {
+                are_same(names.as_slice(), others.as_slice())
+            }
+            (Held::No | Held::One(_), _) => false,
+        }
     }
 }

@@ -23,7 +23,7 @@ mod texts;
 pub use apart::are_apart;
 pub use clash::Clash;
 pub use config::{Config, ConfigFault, read_config};
-pub use frag::{Frag, Names};
+pub use frag::Names;
 pub use hexadecimal::hex8;
 pub use laws::{clash_laws, config_laws, name_laws, sheet_laws, spelling_laws};
 pub use name::{name_for, name_with_ending};

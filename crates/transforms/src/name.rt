@@ -17,6 +17,9 @@ use name_path::Path;
 use std::alloc::Global;
 use tk_io::{Bytes, NoMemory, Text};
 
+/// Most names have no more bytes than this, so that memory is asked for once.
+const ROOM: usize = 32;
+
 fn append_character(platform: Platform, c: char, out: &mut Bytes) -> Result<(), NoMemory>
     ensures { OnOk result (out.new ≡ out.old ++ spelled_char platform c) }
 {
@@ -130,23 +133,13 @@ fn append_joined(
     Ok(())
 }
 
-/// No bytes, with room for as many as most names have, so that memory is asked for once.
-fn with_room(alloc: Global) -> Result<Bytes, NoMemory>
-    ensures { IfOk result (λ name. name ≡ []) }
-{
-    let mut name = Bytes::new(alloc);
-    name.append(&[0; 32])?;
-    name.truncate(0);
-    Ok(name)
-}
-
 fn property(alloc: Global, prefix: &[u8], path: &Path<'_>) -> Result<Bytes, NoMemory>
     ensures is { IfOk result (λ name. name
         ≡ codes "--" ++ joined Platform.Css prefix.now path.now) }
     ensures named { IfOk result (λ name. is_prefix prefix.now ≡ true → IsTokenPath path.now
         → is_property name ≡ true) }
 {
-    let mut name = with_room(alloc)?;
+    let mut name = Bytes::with_room(alloc, ROOM)?;
     name.append(b"--")?;
     append_joined(Platform::Css, prefix, path, &mut name)?;
     Ok(name)
@@ -180,7 +173,7 @@ fn identifier(
     ensures named { joint platform ≡ joint Platform.Android → is_prefix prefix.now ≡ true
         → IsTokenPath path.now → IfOk result (λ name. is_identifier name ≡ true) }
 {
-    let mut name = with_room(alloc)?;
+    let mut name = Bytes::with_room(alloc, ROOM)?;
     append_joined(platform, prefix, path, &mut name)?;
     if begins_with_digit(name.as_slice()) {
         let marked = behind_mark(alloc, name.as_slice())?;
@@ -214,7 +207,7 @@ pub fn name_for(
 pub fn name_with_ending(alloc: Global, name: &[u8], ending: &str) -> Result<Bytes, NoMemory>
     ensures { IfOk result (λ ended. ended ≡ name.now ++ ending.now) }
 {
-    let mut ended = with_room(alloc)?;
+    let mut ended = Bytes::with_room(alloc, ROOM)?;
     ended.append(name)?;
     ended.append(ending.as_bytes())?;
     Ok(ended)

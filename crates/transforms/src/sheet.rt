@@ -5,7 +5,6 @@ ghost use Rattle.transforms.specs.Sheet.{Holds, Gains, IsSheetText};
 ghost use Rattle.transforms.specs.View.{frame_view};
 ghost use Rattle.transforms.specs.inner.Growing.{OnlyTextGrows};
 
-use crate::Frag;
 use std::alloc::Global;
 use std::marker::Model;
 use tk_io::{Bytes, NoMemory};
@@ -39,11 +38,11 @@ impl Model for Sheet {
 }
 
 impl Sheet {
-    /// A sheet without a body.
-    pub fn start(alloc: Global, frame: Frame) -> Result<Sheet, NoMemory>
+    /// A sheet without a body, with room for this many bytes, which decides only how often memory is asked for.
+    pub fn start(alloc: Global, frame: Frame, room: usize) -> Result<Sheet, NoMemory>
         ensures { IfOk result (λ sheet. Holds sheet (frame_view frame) []) }
     {
-        let mut text = Bytes::new(alloc);
+        let mut text = Bytes::with_room(alloc, room)?;
         text.append(frame.head)?;
         Ok(Sheet {
             frame,
@@ -72,14 +71,6 @@ impl Sheet {
         let start = self.text.len();
         let appended = self.append_glued(body);
         self.text.all_or_nothing(start, appended)
-    }
-
-    /// Adds the fragment's body.
-    pub fn add(&mut self, frag: &Frag) -> Result<(), NoMemory>
-        ensures ok { OnOk result (Gains self.old self.new frag.now.body) }
-        ensures err { OnErr result (self.new ≡ self.old) }
-    {
-        self.add_body(frag.body.as_slice())
     }
 
     /// The bytes of the sheet: the head, the bodies with the glue between, `last` where there is a body, and the tail. Where

@@ -1,13 +1,13 @@
 // Configurations, names, sheets and clashes, and each call once.
 use crate::{
-    Clash, Config, ConfigFault, Frag, Frame, Names, Platform, Sheet, Texts, are_apart, hex8,
-    name_for, read_config, scale_rem,
+    Clash, Config, ConfigFault, Frame, Names, Platform, Sheet, Texts, are_apart, hex8, name_for,
+    read_config, scale_rem,
 };
 use dec_fix::Dec;
 use name_path::Path;
 use std::alloc::Global;
 use std::test::Fail;
-use tk_io::{Bytes, NoMemory, Text};
+use tk_io::{Bytes, NoMemory, Sequence, Text};
 
 mod table;
 
@@ -113,12 +113,9 @@ const MEMBERS: Frame = Frame {
 };
 
 fn sheet(alloc: Global, frame: Frame, bodies: &[&str]) -> Result<Bytes, NoMemory> {
-    let mut sheet = Sheet::start(alloc, frame)?;
+    let mut sheet = Sheet::start(alloc, frame, 8)?;
     for body in bodies {
-        sheet.add(&Frag {
-            names: Names::none(),
-            body: bytes(alloc, body)?,
-        })?;
+        sheet.add_body(body.as_bytes())?;
     }
     sheet.finish()
 }
@@ -184,14 +181,17 @@ fn clashes_name_the_first(rt: HostRuntime) -> Result<(), Fail> {
     Ok(())
 }
 
-/// Lists of names, and whether no name stands twice: in order, in two runs, and a prefix of another.
-const LISTS: [(&[&str], bool); 6] = [
+/// Lists of names, and whether no name stands twice: in order, in two runs, a prefix of another, and in path order.
+const LISTS: [(&[&str], bool); 9] = [
     (&[], true),
     (&["a", "a-b", "b"], true),
     (&["a", "c", "b", "d"], true),
     (&["a", "b", "b"], false),
     (&["a", "c", "a", "b"], false),
     (&["b", "a", "c", "a"], false),
+    (&["a_b", "a_c", "a1_b"], true),
+    (&["a-b", "a_b"], true),
+    (&["a-b", "a1-b", "a1-b"], false),
 ];
 
 fn is_told_apart(alloc: Global, names: &[&'static str]) -> Result<bool, NoMemory> {
@@ -206,14 +206,18 @@ fn equal_names_are_found(rt: HostRuntime) -> Result<(), Fail> {
     Ok(())
 }
 
-/// Whether texts in one buffer are those that were put in, and no more.
+/// Whether texts in one buffer are those that were put in, and no more, also in a copy behind which others came.
 fn are_kept(alloc: Global, wanted: &[&str]) -> Result<bool, NoMemory> {
-    let mut texts = Texts::with_room(alloc, 4)?;
+    let mut buffer = Texts::new(alloc);
+    buffer.push(b"before")?;
+    buffer.clear();
     for text in wanted {
-        texts.push(text.as_bytes())?;
+        buffer.push(text.as_bytes())?;
     }
+    let texts = buffer.copy(alloc)?;
+    buffer.push(b"behind")?;
     for (i, text) in wanted.iter().enumerate() {
-        if texts.at(i) != Some(text.as_bytes()) {
+        if texts.at(i) != Some(text.as_bytes()) || buffer.at(i) != Some(text.as_bytes()) {
             return Ok(false);
         }
     }
@@ -226,6 +230,44 @@ fn texts_are_kept(rt: HostRuntime) -> Result<(), Fail> {
     let texts = ["", "a", "bc", "", "def", "g", "é", "hi", ""];
     assert!(rt; are_kept(rt.alloc(), &texts)?);
     assert!(rt; are_kept(rt.alloc(), &[])?);
+    Ok(())
+}
+
+/// The names of no token, of two tokens, and of one that has several.
+fn names_of<'a>(alloc: Global) -> Result<[Names<'a>; 4], NoMemory> {
+    let mut several = Sequence::new(alloc);
+    several.push(bytes(alloc, "a")?)?;
+    several.push(bytes(alloc, "b")?)?;
+    Ok([
+        Names::none(),
+        Names::one(b"a"),
+        Names::one(b"b"),
+        Names::several(several),
+    ])
+}
+
+/// Whether names are the same as themselves alone, however they are held, and all of them come to texts in their order.
+fn are_told_apart(alloc: Global) -> Result<bool, NoMemory> {
+    let mut only = Sequence::new(alloc);
+    only.push(bytes(alloc, "a")?)?;
+    let only = Names::several(only);
+    let mut texts = Texts::new(alloc);
+    let others = names_of(alloc)?;
+    for (i, names) in names_of(alloc)?.iter().enumerate() {
+        names.push_to(&mut texts)?;
+        for (j, other) in others.iter().enumerate() {
+            if names.is_same(other) != (i == j) {
+                return Ok(false);
+            }
+        }
+    }
+    let is_one = only.is_same(&others[1]) && !others[2].is_same(&only);
+    Ok(is_one && texts.len() == 4 && texts.at(3) == Some(b"b"))
+}
+
+#[test]
+fn names_are_told_apart(rt: HostRuntime) -> Result<(), Fail> {
+    assert!(rt; are_told_apart(rt.alloc())?);
     Ok(())
 }
 

@@ -71,14 +71,32 @@ fn text_at<'t>(bytes: &'t [u8], ends: &[u32], i: usize) -> Option<&'t [u8]>
 }
 
 impl Texts {
-    /// No texts, with room for this many bytes.
-    pub fn with_room(alloc: Global, bytes: usize) -> Result<Texts, NoMemory>
-        ensures { IfOk result (λ texts. texts ≡ []) }
+    /// No texts.
+    pub fn new(alloc: Global) -> Texts
+        ensures { result ≡ [] }
     {
-        Ok(Texts {
-            bytes: Vec::with_capacity(alloc, bytes)?,
+        Texts {
+            bytes: Vec::new(alloc),
             ends: SmallVec::new(alloc),
-        })
+        }
+    }
+
+    /// No texts are left. The buffer stays for others.
+    pub fn clear(&mut self)
+        ensures { self.new ≡ [] }
+    {
+        self.bytes.clear();
+        self.ends.clear();
+    }
+
+    /// The same texts in a buffer that has room for no more.
+    pub fn copy(&self, alloc: Global) -> Result<Texts, NoMemory>
+        ensures { IfOk result (λ texts. texts ≡ self.now) }
+    {
+        let mut bytes = Vec::with_capacity(alloc, self.bytes.len())?;
+        bytes.extend_from_slice(self.bytes.as_slice())?;
+        let ends = SmallVec::from_slice(alloc, self.ends.as_slice())?;
+        Ok(Texts { bytes, ends })
     }
 
     /// Adds the text at the end. Where memory runs out nothing changes; all texts have less than 4 GiB.

@@ -1,7 +1,7 @@
 -- What a fragment of given values is, and how its lines grow.
 use Rattle.std.specs.Prelude.{Bool, List, None, Option, Some, [], codes, false, if◌then◌else◌, true, ℕ, ◌++◌, ◌==◌, ◌∷◌, ◌≡◌}
 use Rattle.tk_io.specs.Characters.{blank}
-use Rattle.transforms.specs.declared.frag.Frag.{Frag}
+use Rattle.transforms.specs.Frag.{Frag}
 use Rattle.android_out.specs.Element.{Values, value_names, Tag, tag_name, attributes}
 use Rattle.android_out.specs.PlatformValue.{is_plain_char}
 use Rattle.android_out.specs.Spelling.{body_text}

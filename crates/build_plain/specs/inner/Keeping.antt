@@ -8,7 +8,7 @@ use Rattle.file_plan.specs.InUse.{files_in_use}
 use Rattle.file_plan.specs.Trees.{AreTreesIn}
 use Rattle.source_trees.specs.declared.merge.Merge.{Merge}
 use Rattle.transforms.specs.Config.{Settings}
-use Rattle.token_cells.specs.declared.token_cell.TokenCell.{TokenCell}
+use Rattle.token_cells.specs.TokenCell.{TokenCell}
 use Rattle.build_plain.specs.Parts.{AreEachKept}
 use Rattle.build_plain.specs.declared.parts.Parts.{Parts}
 

@@ -1,6 +1,6 @@
 -- What a fragment of given values is.
 use Rattle.std.specs.Prelude.{◌≡◌, ℕ, List}
-use Rattle.transforms.specs.declared.frag.Frag.{Frag}
+use Rattle.transforms.specs.Frag.{Frag}
 use Rattle.ios_out.specs.Constant.{Values, value_names}
 use Rattle.ios_out.specs.Spelling.{body_text}
 

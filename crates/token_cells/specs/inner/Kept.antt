@@ -1,13 +1,12 @@
 -- Cells as they are kept.
 use Rattle.std.specs.Prelude.{◌≡◌, ℕ, List, [], ◌++◌, Bool, true, false, slice_range, unwrap_or}
 use Rattle.std.specs.List.{slice_get}
-use Rattle.transforms.specs.declared.frag.Frag.{Frag}
+use Rattle.transforms.specs.Frag.{Frag}
 use Rattle.token_cells.specs.declared.fragments.Fragments.{Fragments}
 use Rattle.token_cells.specs.declared.fragments.Run.{Run}
 use Rattle.token_cells.specs.declared.shared_cell.Kept.{Kept}
 use Rattle.token_cells.specs.declared.shared_cell.Kept.TheVariants.{Broken, Unbroken}
-use Rattle.token_cells.specs.declared.token_cell.TokenCell.{TokenCell}
-use Rattle.token_cells.specs.declared.token_cell.TokenCell.TheVariants.{Refused, Made}
+use Rattle.token_cells.specs.TokenCell.{TokenCell, Refused, Made}
 
 -- the i-th text; none is the empty one
 abbrev pub text_at : List (List ℕ) → ℕ → List ℕ
@@ -19,7 +18,7 @@ fragment_at texts i run = record { names = slice_range texts run.start run.end; 
 
 abbrev pub fragments_view : Fragments → TokenCell
 fragments_view f =
-    Made (fragment_at f.texts 0 f.css) (fragment_at f.texts 1 f.android) (fragment_at f.texts 2 f.swift) (fragment_at f.texts 3 f.json)
+    Made (fragment_at f.texts 0 f.css) (fragment_at f.texts 1 f.android) (fragment_at f.texts 2 f.swift) (record { names = []; body = text_at f.texts 3 })
 
 abbrev pub kept_view : Kept → TokenCell
 kept_view (Broken refusal) = Refused refusal.value.rule refusal.value.place refusal.value.ring

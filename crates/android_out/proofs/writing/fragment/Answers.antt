@@ -1,19 +1,13 @@
-use Rattle.std.proofs.Common.{◌≡◌, ◌<◌, ◌^◌, true, ℕ, List, sym, subst, ◌∙◌, ap}
-use Rattle.transforms.specs.PlatformName.{is_identifier}
+use Rattle.std.proofs.Common.{List, ℕ, sym, subst}
 use Rattle.android_out.specs.PlatformValue.{android_values}
 use Rattle.android_out.specs.Reading.{Block}
-use Rattle.android_out.specs.Spelling.{body_text, fragment_values}
-use Rattle.android_out.proofs.SheetsDenote.{fragments_read}
+use Rattle.android_out.proofs.SheetsDenote.{lines_read}
 use Rattle.android_out.proofs.writing.fragment.Goals as goal
 
 pub returns-clause-reads : goal.returns-clause-reads
-returns-clause-reads c = λ token.
+returns-clause-reads c = λ named.
     let settings = c.args.cfg.now in
-    let path = c.args.path.now in
+    let name = c.args.name.now in
     let v = c.args.typed.now in
-    let same = c.in_ok-name.ensures.is in
-    let P : List ℕ → Type 0 = λ name. is_identifier name ≡ true in
-    let Q : List ℕ → Type 0 = λ text. Block text (fragment_values settings path v) in
-    let base : settings.rem_base < 2 ^ 8 = c.has_base.ensures in
-    let body = c.in_ok-fragment.ensures.body ∙ ap (λ name. body_text name (android_values settings name v)) same in
-    subst Q (sym body) (fragments_read settings path v base c.requires.typed (subst P same (c.in_ok-name.ensures.named token)))
+    let P : List ℕ → Type 0 = λ text. Block text (android_values settings name v) in
+    subst P (sym c.in_ok-names.ensures.body) (lines_read settings name v c.has_base.ensures c.requires.typed named)

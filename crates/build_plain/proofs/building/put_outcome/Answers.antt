@@ -1,4 +1,4 @@
-use Rattle.std.proofs.Common.{◌∙◌, [], Some, None, List, ap₂, refl, subst}
+use Rattle.std.proofs.Common.{◌∙◌, [], Some, None, List, ap, ap₂, refl, subst}
 use Rattle.std.proofs.lemmas.Result.{on_ok_weaker}
 use Rattle.std.specs.FinMap as map
 use Rattle.std.specs.List.{zip}
@@ -16,19 +16,21 @@ use Rattle.build_plain.proofs.building.put_outcome.Goals as goal
 pub returns-in-Tokens : goal.returns-in-Tokens
 returns-in-Tokens c =
     let files = c.args.files.now in
-    let flat = c.in-Tokens.flat in
+    let tree = c.in-Tokens.tree in
     let before = c.args.outputs.now in
     on_ok_weaker c.put_tokens.result
-    (λ put. gives_kept_flat files c.args.cfg.now (plan_perm_view c.args.perm.now) before c.put_tokens.new.outputs flat (Some (merge.Flat flat)) (Some c.in-Tokens.cells) c.in-Tokens.cells
+    (λ put. gives_kept_flat files c.args.cfg.now (plan_perm_view c.args.perm.now) before c.put_tokens.new.outputs tree.tokens (Some (merge.Flat tree.tokens)) (Some tree.cells) tree.cells
     (subst (IsOutcome c.args.cfg.now files (plan_perm_view c.args.perm.now)) c.in-Tokens.is c.requires) refl refl
-    (put ∙ ap₂ (λ n cs. put_beside before (perm_outputs files n cs (verdict (token_reports flat (zip (map.entries flat) cs))))) c.as_str-name.ensures c.as_slice.ensures)) c.put_tokens.ensures
+    (put
+    ∙ (ap (λ f. put_beside before (perm_outputs files c.as_str-name.result.now c.cells.result.now (verdict (token_reports f (zip (map.entries f) c.cells.result.now))))) c.tokens.ensures
+    ∙ ap₂ (λ n cs. put_beside before (perm_outputs files n cs (verdict (token_reports tree.tokens (zip (map.entries tree.tokens) cs))))) c.as_str-name.ensures c.cells.ensures))) c.put_tokens.ensures
 
 pub returns-in-TreeBreak : goal.returns-in-TreeBreak
 returns-in-TreeBreak c =
     let files = c.args.files.now in
     let fault = c.in-TreeBreak.fault in
     let before = c.args.outputs.now in
-    let first = c.first_file-first.ensures ∙ ap₂ (λ (h : HomeAt) (s : List PlanSource). first_file h (plan_sources_view s)) c.home_of-home.ensures c.as_slice-in-TreeBreak.ensures in
+    let first = c.first_file-first.ensures ∙ ap₂ (λ (h : HomeAt) (s : List PlanSource). first_file h (plan_sources_view s)) c.home_of-home.ensures c.as_slice.ensures in
     on_ok_weaker c.put_tree_break.result
     (λ put. gives_kept_break files c.args.cfg.now (plan_perm_view c.args.perm.now) before c.put_tree_break.new.outputs fault (Some (merge.Broken fault)) None
     (subst (IsOutcome c.args.cfg.now files (plan_perm_view c.args.perm.now)) c.in-TreeBreak.is c.requires) refl

@@ -1,4 +1,4 @@
-use Rattle.std.proofs.Common.{refl, sym, subst}
+use Rattle.std.proofs.Common.{Some, refl, sym, subst}
 use Rattle.std.proofs.lemmas.Result.{on_ok_weaker}
 use Rattle.source_trees.specs.declared.merge.Merge.TheVariants as merge
 use Rattle.build_plain.specs.declared.outcome.Outcome.{Outcome}
@@ -13,7 +13,9 @@ returns-in_ok-put-in-Tokens c = λ bare.
     let after : Parts = record { trees = c.args.parts.now.trees; merges = c.put-in-Tokens.new.self; cells = c.put.new.self } in
     on_ok_weaker c.put-in-Tokens.result
     (λ puts. subst (λ (o : Outcome). Keeps c.args.name.now (merge_in o) (cells_in o) c.args.parts.now after) (sym c.in-Tokens.is)
-    (both_kept c.args.name.now c.args.parts.now after refl (merge.Flat c.in-Tokens.flat) c.in-Tokens.cells c.in_ok-put-in-Tokens.ensures.at puts)) c.put-in-Tokens.ensures.at
+    (subst (λ f. Keeps c.args.name.now (Some (merge.Flat f)) (Some c.in-Tokens.tree.cells) c.args.parts.now after) c.into_parts-flat.ensures.tokens
+    (subst (λ cs. Keeps c.args.name.now (Some (merge.Flat c.into_parts-flat.result.0)) (Some cs) c.args.parts.now after) c.into_parts-flat.ensures.cells
+    (both_kept c.args.name.now c.args.parts.now after refl (merge.Flat c.into_parts-flat.result.0) c.into_parts-flat.result.1 c.in_ok-put-in-Tokens.ensures.at puts)))) c.put-in-Tokens.ensures.at
 
 pub returns-in-TreeBreak : goal.returns-in-TreeBreak
 returns-in-TreeBreak c = λ bare.

@@ -10,4 +10,4 @@ returns-clause-reads c = λ typed.
     let v = c.args.typed.now in
     let e = extras_view c.args.extras.now in
     let P : List ℕ → Type 0 = λ text. IsReadAsMember path v e text in
-    subst P (sym c.in_ok-fragment.ensures.body) (fragment_read path v e typed c.are_bytes.ensures)
+    subst P (sym c.in_ok-write_member.ensures) (fragment_read path v e typed c.are_bytes.ensures)

@@ -1,6 +1,6 @@
 use Rattle.json_span.specs.View.{node_view}
 use Rattle.json_span.specs.Parts.{itself}
-use Rattle.token_cells.proofs.tests.first_cell.Goals as goal
+use Rattle.token_cells.proofs.tests.flat_of.Goals as goal
 
 pub shape-requires : goal.shape-requires
 shape-requires g c = record {

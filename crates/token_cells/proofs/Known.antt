@@ -1,0 +1,33 @@
+-- What is known of a token of an earlier tree.
+use Rattle.std.proofs.Common.{◌≡◌, ℕ, ◌+◌, ◌<◌, Bool, List, [], ◌∷◌, ◌++◌, Some, IsSomeAnd, MatchOption, sym, ap, ◌∙◌, subst, get_or, length, take, Equal}
+use Rattle.std.specs.List.{AllZip, slice_get}
+use Rattle.std.specs.FinMap.{slice_cmp-IsAntisymmetric, nat_cmp-IsAntisymmetric}
+use Rattle.std.proofs.lemmas.List.{take_more}
+use Rattle.std.proofs.lemmas.Option.{slice_get-get_or}
+use Rattle.std.proofs.lemmas.Slice.Zip.{AllZip-left, all_zipped_more}
+use Rattle.tk_io.specs.Order.{names_cmp}
+use Rattle.group_inherit.specs.Flattening.{TokenAt}
+use Rattle.token_cells.specs.Cell.{TokenPath}
+use Rattle.token_cells.specs.inner.Earlier.{IsLone, AreLone}
+
+-- what holds of the items of two lists at one place
+pub at_place : {A B : Type 0} (P : A → B → Type 0) (xs : List A) (ys : List B) (i : ℕ) (x : A) (y : B) → AllZip P xs ys → slice_get xs i ≡ Some x → slice_get ys i ≡ Some y → P x y
+at_place P xs ys i x y all e k =
+    subst (λ p. IsSomeAnd p (P x)) k (subst (λ o. MatchOption o (Unit {0}) (λ a. IsSomeAnd (slice_get ys i) (P a))) e (AllZip-left P xs ys all i))
+
+-- the item at a place below the length
+pub found_at : {A : Type 0} (xs : List A) (i : ℕ) (x : A) → i < length xs → ((d : A) → x ≡ get_or xs i d) → slice_get xs i ≡ Some x
+found_at xs i x within is = slice_get-get_or xs i x within ∙ ap Some (sym (is x))
+
+-- paths between which the order makes no difference
+pub same_path : (p q : TokenPath) → names_cmp p q ≡ Equal → p ≡ q
+same_path p q = slice_cmp-IsAntisymmetric (slice_cmp-IsAntisymmetric nat_cmp-IsAntisymmetric) p q
+
+-- one token more
+pub more_lone : (tokens : List TokenAt) (i : ℕ) (token : TokenAt) (lone new : List Bool) (b : Bool)
+    → AreLone (take i tokens) lone → i < length tokens → token ≡ get_or tokens i token → IsLone token b → new ≡ lone ++ b ∷ []
+    → AreLone (take (i + 1) tokens) new
+more_lone tokens i token lone new b so_far within is found made =
+    let more : take (i + 1) tokens ≡ take i tokens ++ token ∷ [] = take_more tokens i token within ∙ ap (λ x. take i tokens ++ x ∷ []) (sym is) in
+    subst (λ ts. AreLone ts new) (sym more)
+    (subst (λ bs. AreLone (take i tokens ++ token ∷ []) bs) (sym made) (all_zipped_more IsLone (take i tokens) lone token b so_far found))

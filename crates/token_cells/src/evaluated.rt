@@ -1,0 +1,87 @@
+//! Flat trees whose tokens are evaluated.
+
+ghost use Rattle.std.specs.Prelude.{◌≡◌, Some};
+ghost use Rattle.std.specs.FinMap as map;
+ghost use Rattle.std.specs.List.{slice_get};
+ghost use Rattle.group_inherit.specs.Flattening.{TokenAt};
+ghost use Rattle.token_cells.specs.inner.Earlier.{AreLone, IsLone};
+
+use crate::shared_cell::SharedCell;
+use group_inherit::Flat;
+use std::marker::Model;
+use tk_io::Sequence;
+
+/// What tokens come to, in path order.
+pub type Cells<'s> = Sequence<SharedCell<'s>>;
+
+/// A flat tree, and what its tokens come to.
+#[derive(Debug, Drop)]
+pub struct Evaluated<'s> {
+    tokens: Flat<'s>,
+    cells: Cells<'s>,
+    /// Of each token whether it is known to name no other.
+    lone: Vec<bool>,
+}
+
+impl<'s> Model for Evaluated<'s> {
+    ghost use Rattle.std.specs.FinMap as map;
+    ghost use Rattle.std.specs.Coded.{codes};
+    ghost use Rattle.token_cells.specs.Evaluated.{EvaluatedTree, coded_flat};
+    ghost use Rattle.token_cells.specs.View.{cells_view};
+    ghost use Rattle.token_cells.specs.inner.Earlier.{AreLone};
+
+    ghost Value = { EvaluatedTree };
+
+    ghost coded = { Prim.hlevel (codes, coded_flat) };
+
+    ghost view = { λ e. record { tokens = e.tokens; cells = cells_view e.cells } };
+
+    ghost invariant = { λ e. AreLone (map.entries e.tokens) e.lone.items };
+}
+
+impl<'s> Evaluated<'s> {
+    pub(crate) fn new(tokens: Flat<'s>, cells: Cells<'s>, lone: Vec<bool>) -> Evaluated<'s>
+        requires { AreLone (map.entries tokens) lone.items }
+        ensures tokens { result.tokens ≡ tokens.entry }
+        ensures cells { result.cells ≡ cells.entry }
+    {
+        Evaluated {
+            tokens,
+            cells,
+            lone,
+        }
+    }
+
+    /// The tokens.
+    pub fn tokens(&self) -> &Flat<'s>
+        ensures { result.now ≡ self.now.tokens }
+    {
+        &self.tokens
+    }
+
+    /// What they come to, in path order.
+    pub fn cells(&self) -> &[SharedCell<'s>]
+        ensures { result.now ≡ self.now.cells }
+    {
+        self.cells.as_slice()
+    }
+
+    /// The tokens, and what they come to.
+    pub fn into_parts(self) -> (Flat<'s>, Cells<'s>)
+        ensures tokens { result.0 ≡ self.entry.tokens }
+        ensures cells { result.1 ≡ self.entry.cells }
+    {
+        (self.tokens, self.cells)
+    }
+
+    /// Whether the i-th token is known to name no other.
+    pub(crate) fn is_lone(&self, i: usize) -> bool
+        ensures { (token : TokenAt) → slice_get (map.entries self.now.tokens) i ≡ Some token
+            → IsLone token result }
+    {
+        match self.lone.get(i) {
+            Some(lone) => *lone,
+            None => false,
+        }
+    }
+}
