@@ -19,6 +19,7 @@ mod Begins
 mod Lists
 mod Naming
 mod NameOrder
+mod RisingNames
 mod MemberLists
 mod Spans
 mod Gives

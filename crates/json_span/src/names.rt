@@ -1,7 +1,7 @@
 //! The names of an object, and the first one that repeats another.
 
 ghost use Rattle.std.specs.Prelude.{◌≡◌, ◌≤◌, ◌<◌, ◌^◌, List, [], length, take, drop, slice_get};
-ghost use Rattle.std.specs.Prelude.{Some, IfOk, IfErr, OnOk};
+ghost use Rattle.std.specs.Prelude.{true, Some, None, IfOk, IfErr, IfSome, OnOk};
 ghost use Rattle.std.specs.Str.{bytes_eq};
 ghost use Rattle.grammar.specs.Grammar.{named};
 ghost use Rattle.json_span.specs.Grammar.{string};
@@ -10,7 +10,7 @@ ghost use Rattle.json_span.specs.Flaw.{equal_names, is_seen};
 ghost use Rattle.json_span.specs.inner.Scan.{Halts};
 ghost use Rattle.json_span.specs.inner.Names.{IsNameSpan, IsNameOf, AreNamesOf, reversed_names};
 ghost use Rattle.json_span.specs.inner.Building.{flaw_view};
-ghost use Rattle.json_span.specs.inner.NameOrder.{SortsNames, TellsSecond, again_in, least};
+ghost use Rattle.json_span.specs.inner.NameOrder.{SortsNames, TellsSecond, again_in, least, rises};
 
 use crate::bytes::{Class, has};
 use crate::flaw::Flaw;
@@ -184,6 +184,48 @@ fn flaw_in_order(alloc: Global, text: &str, names: &[NameSpan]) -> Result<Option
     }
 }
 
+// The bytes of a name in whose string no escape stands.
+fn plain_bytes<'s>(text: &'s str, name: NameSpan) -> Option<&'s [u8]>
+    requires { (e : Entry) × IsNameOf text.now name e }
+    ensures { IfSome result (λ b. (e : Entry) → IsNameOf text.entry.now name e → b.now ≡ e.name) }
+{
+    if !name.is_plain {
+        return None;
+    }
+    Some(&text.as_bytes()[name.start as usize + 1..name.end as usize - 1])
+}
+
+// Whether the next name is seen to stand behind the name, where a longer one stands behind a shorter
+// one.
+fn rises(text: &str, name: NameSpan, next: NameSpan) -> bool
+    requires first { (e : Entry) × IsNameOf text.now name e }
+    requires second { (e : Entry) × IsNameOf text.now next e }
+    ensures { result ≡ true → (e f : Entry) → IsNameOf text.now name e → IsNameOf text.now next f
+        → rises e.name f.name ≡ true }
+{
+    let (Some(bytes), Some(others)) = (plain_bytes(text, name), plain_bytes(text, next)) else {
+        return false;
+    };
+    if bytes.len() == others.len() {
+        return bytes.cmp(others).is_lt();
+    }
+    bytes.len() < others.len()
+}
+
+// Whether each name is seen to stand behind the one before it, as those of a list that is numbered
+// do: then none repeats another.
+fn are_rising(text: &str, names: &[NameSpan]) -> bool
+    requires { (es : List Entry) × AreNamesOf text.now names.now es }
+    ensures { result ≡ true → TellsSecond text.now names.now None }
+{
+    for i in 1..names.len() {
+        if !rises(text, names[i - 1], names[i]) {
+            return false;
+        }
+    }
+    true
+}
+
 // The first name that repeats another.
 fn flaw_of_names(alloc: Global, text: &str, names: &[NameSpan]) -> Result<Option<Flaw>, NoMemory>
     requires { (es : List Entry) × AreNamesOf text.now names.now es }
@@ -191,6 +233,9 @@ fn flaw_of_names(alloc: Global, text: &str, names: &[NameSpan]) -> Result<Option
 {
     if names.len() <= MOST_PAIRED {
         return flaw_in_pairs(alloc, text, names);
+    }
+    if are_rising(text, names) {
+        return Ok(None);
     }
     flaw_in_order(alloc, text, names)
 }

@@ -1,5 +1,5 @@
 -- The names of an object in their order, and the least place of a name that equals the one before it.
-use Rattle.std.specs.Prelude.{◌≡◌, ℕ, ◌+◌, List, [], ◌∷◌, Bool, Option, Some, None, option_map, cond, nat_le}
+use Rattle.std.specs.Prelude.{◌≡◌, ℕ, ◌+◌, List, [], ◌∷◌, Bool, Option, Some, None, option_map, cond, nat_le, length}
 use Rattle.std.specs.List.Sorted.{IsSortedBy, IsStableBy}
 use Rattle.std.specs.Ordering.{is_lt}
 use Rattle.std.specs.Str.{bytes_eq}
@@ -39,6 +39,10 @@ again_behind x (y ∷ ys) = least (cond (bytes_eq x.name y.name) (Some y.place) 
 abbrev pub again_in : List PlacedName → Option ℕ
 again_in [] = None
 again_in (x ∷ ys) = again_behind x ys
+
+-- the next name stands behind the name, where a longer one stands behind a shorter one
+abbrev pub rises : List ℕ → List ℕ → Bool
+rises name next = is_lt (text_cmp (length name ∷ name) (length next ∷ next))
 
 -- The names of an object as a builder keeps them: in their order, and with the flaw that is reported of them.
 abbrev pub SortsNames : List ℕ → List NameSpan → List PlacedName → Type 0
