@@ -75,6 +75,10 @@ pub passed_over : (l : ListedMembers) (name : List ℕ) (n : Placed) → is_rese
 passed_over l name n plain =
     pure (λ kept wanted reserved. sym (ap (λ b. option_or (kept l) (cond b (Some n) None)) (other name wanted plain reserved) ∙ alone (kept l)))
 
+-- a value of another name is not kept
+pub unnamed : (name wanted : List ℕ) (n : Placed) (kept : Option Placed) → bytes_eq name wanted ≡ false → kept ≡ option_or kept (if_named wanted name n)
+unnamed name wanted n kept e = sym (ap (λ b. option_or kept (cond b (Some n) None)) e ∙ alone kept)
+
 -- a name and a value are those of the member
 pub noted_as : (old new : ListedMembers) (name other : List ℕ) (n m : Placed) → name ≡ other → n ≡ m → IsNoted name n old new → IsNoted other m old new
 noted_as old new name other n m named holds noted =

@@ -67,7 +67,10 @@ impl<'d, 's> ListedMembers<'d, 's> {
     fn note_named(&mut self, name: &str, value: NodeRef<'d, 's>)
         ensures { IsNoted name.now (ref_view value.entry) self.old self.new }
     {
-        self.value = first(self.value, "$value", name, value);
+        if name == "$value" {
+            self.value = self.value.or(Some(value));
+            return;
+        }
         self.reference = first(self.reference, "$ref", name, value);
         self.kind = first(self.kind, "$type", name, value);
         self.description = first(self.description, "$description", name, value);
