@@ -19,17 +19,36 @@ use std::alloc::Global;
 use tk_io::{Bytes, NoMemory};
 use transforms::{Config, Names, Texts};
 
-/// A buffer for the lines of one platform, and the texts of a token. Both are used again for the next token, so that
-/// memory is seldom asked for.
+/// Buffers for a token's names and bodies. They are used again for the next token, so that memory is seldom asked for.
 #[derive(Drop)]
 pub(crate) struct Drafts {
-    lines: Bytes,
-    pub(crate) texts: Texts,
+    /// The name on CSS.
+    pub(crate) property: Bytes,
+    /// The name on Android, which is that in Swift.
+    pub(crate) identifier: Bytes,
+    pub(crate) bodies: Bodies,
 }
 
 impl Drafts {
     pub(crate) fn new(alloc: Global) -> Drafts {
         Drafts {
+            property: Bytes::new(alloc),
+            identifier: Bytes::new(alloc),
+            bodies: Bodies::new(alloc),
+        }
+    }
+}
+
+/// A buffer for the lines of one platform, and the texts of a token.
+#[derive(Drop)]
+pub(crate) struct Bodies {
+    lines: Bytes,
+    pub(crate) texts: Texts,
+}
+
+impl Bodies {
+    fn new(alloc: Global) -> Bodies {
+        Bodies {
             lines: Bytes::new(alloc),
             texts: Texts::new(alloc),
         }

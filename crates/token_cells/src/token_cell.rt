@@ -27,7 +27,7 @@ use std::alloc::Global;
 use std::sync::ledger::Ledger;
 use tk_io::{NoMemory, Steps};
 use token_tree::Mark;
-use transforms::{Config, Platform, name_for};
+use transforms::{Config, Platform, write_name};
 use type_rules::{ValueFault, ValueRule};
 
 fn refused_value<'s>(
@@ -98,15 +98,18 @@ fn made<'s>(
 {
     value_laws();
     let extras = extras(entry)?;
-    let property = name_for(alloc, Platform::Css, path, cfg)?;
+    write_name(alloc, Platform::Css, path, cfg, &mut drafts.property)?;
     // Its name in Swift is that on Android.
-    let identifier = name_for(alloc, Platform::Android, path, cfg)?;
-    drafts.texts.clear();
-    let css = drafts.add_css(alloc, property.as_slice(), typed, &resolved.links, cfg)?;
-    let android = drafts.add_android(alloc, identifier.as_slice(), typed, cfg)?;
-    let swift = drafts.add_swift(alloc, identifier.as_slice(), typed, cfg)?;
-    drafts.add_json(path, typed, &extras)?;
-    Fragments::new(alloc, &mut drafts.texts, &css, &android, &swift)
+    write_name(alloc, Platform::Android, path, cfg, &mut drafts.identifier)?;
+    let property = drafts.property.as_slice();
+    let identifier = drafts.identifier.as_slice();
+    let bodies = &mut drafts.bodies;
+    bodies.texts.clear();
+    let css = bodies.add_css(alloc, property, typed, &resolved.links, cfg)?;
+    let android = bodies.add_android(alloc, identifier, typed, cfg)?;
+    let swift = bodies.add_swift(alloc, identifier, typed, cfg)?;
+    bodies.add_json(path, typed, &extras)?;
+    Fragments::new(alloc, &mut bodies.texts, &css, &android, &swift)
 }
 
 // What a token comes to whose references break no rule.

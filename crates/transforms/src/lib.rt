@@ -26,7 +26,7 @@ pub use config::{Config, ConfigFault, read_config};
 pub use frag::Names;
 pub use hexadecimal::hex8;
 pub use laws::{clash_laws, config_laws, name_laws, sheet_laws, spelling_laws};
-pub use name::{name_for, name_with_ending};
+pub use name::{name_for, name_with_ending, write_name};
 pub use platform::Platform;
 pub use quoted::{append_escaped, is_printable};
 pub use scaling::scale_rem;

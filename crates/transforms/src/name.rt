@@ -133,16 +133,16 @@ fn append_joined(
     Ok(())
 }
 
-fn property(alloc: Global, prefix: &[u8], path: &Path<'_>) -> Result<Bytes, NoMemory>
-    ensures is { IfOk result (λ name. name
+fn write_property(prefix: &[u8], path: &Path<'_>, name: &mut Bytes) -> Result<(), NoMemory>
+    ensures is { OnOk result (name.new
         ≡ codes "--" ++ joined Platform.Css prefix.now path.now) }
-    ensures named { IfOk result (λ name. is_prefix prefix.now ≡ true → IsTokenPath path.now
-        → is_property name ≡ true) }
+    ensures named { OnOk result (is_prefix prefix.now ≡ true → IsTokenPath path.now
+        → is_property name.new ≡ true) }
 {
-    let mut name = Bytes::with_room(alloc, ROOM)?;
+    name.truncate(0);
     name.append(b"--")?;
-    append_joined(Platform::Css, prefix, path, &mut name)?;
-    Ok(name)
+    append_joined(Platform::Css, prefix, path, name)?;
+    Ok(())
 }
 
 fn begins_with_digit(name: &[u8]) -> bool
@@ -163,28 +163,50 @@ fn behind_mark(alloc: Global, name: &[u8]) -> Result<Bytes, NoMemory>
     Ok(marked)
 }
 
-fn identifier(
+fn write_identifier(
     alloc: Global,
     platform: Platform,
     prefix: &[u8],
     path: &Path<'_>,
-) -> Result<Bytes, NoMemory>
-    ensures is { IfOk result (λ name. name ≡ behind_mark (joined platform prefix.now path.now)) }
+    name: &mut Bytes,
+) -> Result<(), NoMemory>
+    ensures is { OnOk result (name.new ≡ behind_mark (joined platform prefix.now path.now)) }
     ensures named { joint platform ≡ joint Platform.Android → is_prefix prefix.now ≡ true
-        → IsTokenPath path.now → IfOk result (λ name. is_identifier name ≡ true) }
+        → IsTokenPath path.now → OnOk result (is_identifier name.new ≡ true) }
 {
-    let mut name = Bytes::with_room(alloc, ROOM)?;
-    append_joined(platform, prefix, path, &mut name)?;
+    name.truncate(0);
+    append_joined(platform, prefix, path, name)?;
     if begins_with_digit(name.as_slice()) {
         let marked = behind_mark(alloc, name.as_slice())?;
-        return Ok(marked);
+        *name = marked;
+        return Ok(());
     }
-    Ok(name)
+    Ok(())
 }
 
-/// The name of the token at the path: the prefix and the path's names without a last `$root`, character by character. On
-/// CSS they are joined by `-` after `--`, elsewhere by `_`, with a `_` before a leading digit. The path `$root` alone has
-/// the name `root`.
+/// Writes the name of the token at the path in place of what the buffer holds: the prefix and the path's names without a
+/// last `$root`, character by character. On CSS they are joined by `-` after `--`, elsewhere by `_`, with a `_` before a
+/// leading digit. The path `$root` alone has the name `root`. On `NoMemory` the buffer holds anything.
+pub fn write_name(
+    alloc: Global,
+    platform: Platform,
+    path: &Path<'_>,
+    cfg: &Config,
+    name: &mut Bytes,
+) -> Result<(), NoMemory>
+    ensures is { OnOk result (name.new ≡ name_on platform cfg.now.prefix path.now) }
+    // A path that a token can have gives a name of the platform's language.
+    ensures named { OnOk result (IsTokenPath path.now → is_name_on platform name.new ≡ true) }
+{
+    let prefix = cfg.prefix.as_slice();
+    match platform {
+        Platform::Css => write_property(prefix, path, name),
+        Platform::Android => write_identifier(alloc, Platform::Android, prefix, path, name),
+        Platform::Swift => write_identifier(alloc, Platform::Swift, prefix, path, name),
+    }
+}
+
+/// The name of the token at the path, in a buffer of its own. Else as [`write_name`].
 pub fn name_for(
     alloc: Global,
     platform: Platform,
@@ -195,12 +217,9 @@ pub fn name_for(
     // A path that a token can have gives a name of the platform's language.
     ensures named { IfOk result (λ name. IsTokenPath path.now → is_name_on platform name ≡ true) }
 {
-    let prefix = cfg.prefix.as_slice();
-    match platform {
-        Platform::Css => property(alloc, prefix, path),
-        Platform::Android => identifier(alloc, Platform::Android, prefix, path),
-        Platform::Swift => identifier(alloc, Platform::Swift, prefix, path),
-    }
+    let mut name = Bytes::with_room(alloc, ROOM)?;
+    write_name(alloc, platform, path, cfg, &mut name)?;
+    Ok(name)
 }
 
 /// The name with an ending, as the five values of a typography have it.
