@@ -1,6 +1,7 @@
 -- From the breaks that are taken in, phase by phase, to the answer for a document.
 use Rattle.std.proofs.Common.{◌≡◌, ℕ, inl, inr, List, [], ◌++◌, Option, Some, None, refl, sym, ap, ◌∙◌, subst, map, length, true}
 use Rattle.std.specs.List.{flat_map}
+use Rattle.std.specs.Option.{option_or}
 use Rattle.std.specs.declared.alloc.Global.{Global}
 use Rattle.std.specs.declared.vec.Vec.{Vec}
 use Rattle.json_span.specs.Tree.{Placed, Entry}
@@ -15,7 +16,7 @@ use Rattle.resolver_doc.specs.Document.{SetData, ItemData, resolver_of, set_entr
 use Rattle.resolver_doc.specs.Form.{form_breaks, entries_at}
 use Rattle.resolver_doc.specs.Naming.{set_breaks, modifier_breaks, item_breaks, repeats, naming_breaks}
 use Rattle.resolver_doc.specs.Rings.{set_needs, IsRingOfSets, HasNoRingOfSets, ring_string, are_sets_right, are_items_right}
-use Rattle.resolver_doc.specs.inner.Faults.{IsSetRingAt, IsSetRingFault, IsNamedFault, break_fault}
+use Rattle.resolver_doc.specs.inner.Faults.{IsSetRingAt, IsSetRingFault, break_fault}
 use Rattle.resolver_doc.proofs.Breaks.{with_breaks-append}
 use Rattle.resolver_doc.proofs.First.{none_is_told}
 use Rattle.resolver_doc.proofs.HaveChoices.{order_chosen}
@@ -50,17 +51,25 @@ naming_taken root sets modifiers f g h i s m p q r t =
     sym (all_taken (flat_map (λ e. set_breaks sets (entries_at e.value)) sets) (flat_map (λ e. modifier_breaks sets (entries_at e.value)) modifiers)
     (flat_map (item_breaks sets modifiers) (order_items root)) (repeats sets modifiers [] (order_items root)) f g h i p q r t ∙ (ap (λ (es : List Entry). first_of (breaks_in es modifiers root)) s ∙ ap (λ (es : List Entry). first_of (breaks_in (set_entries root) es root)) m))
 
-pub none_broken : (bs : List Break) (i : Option Break) → first_of bs ≡ i → i ≡ None → bs ≡ []
-none_broken bs i e f = none_is_told bs (e ∙ f)
+-- the breaks of the form and of references and names as the document's: the first of the form, and where it has none the
+-- first of the others
 
-pub some_named : (root : Placed) (b : Break) (i : Option Break) → first_of (naming_breaks root) ≡ i → i ≡ Some b → IsNamedFault root (break_fault b [])
-some_named root b i e f = (e ∙ f, refl)
+pub phase_fault : (root : Placed) (form named : Option Break) (b : Break) → form ≡ first_of (form_breaks root) → named ≡ first_of (naming_breaks root)
+    → option_or form named ≡ Some b → IsPlanFault root (break_fault b [])
+phase_fault root (Some a) named b f n e = inl (record { first = sym f ∙ e; no_ring = refl })
+phase_fault root None named b f n e =
+    inr (inl (record {
+      forms = none_is_told (form_breaks root) (sym f);
+      first = sym n ∙ e;
+      no_ring = refl;
+    }))
 
--- a break of a phase as the document's
+pub no_phase_broken : (root : Placed) (form named : Option Break) → form ≡ first_of (form_breaks root) → named ≡ first_of (naming_breaks root)
+    → option_or form named ≡ None → (form_breaks root ≡ []) × (naming_breaks root ≡ [])
+no_phase_broken root (Some a) named f n e = let some : Some a ≡ None = e in cc
+no_phase_broken root None named f n e = (none_is_told (form_breaks root) (sym f), none_is_told (naming_breaks root) (sym n ∙ e))
 
-pub named_fault : (root : Placed) (f : PlanFault) → form_breaks root ≡ [] → IsNamedFault root f → IsPlanFault root f
-named_fault root (Broken rule start end ring) forms is = inr (inl (record { forms = forms; first = is.0; no_ring = is.1 }))
-named_fault root NoMemory forms is = tt
+-- a ring as the document's
 
 pub ring_fault : (root : Placed) (sets : List Entry) (listed : List SetData) (f : PlanFault) → form_breaks root ≡ [] → naming_breaks root ≡ []
     → sets ≡ set_entries root → listed ≡ (resolver_of root).sets → IsSetRingFault sets listed f → IsPlanFault root f

@@ -3,12 +3,13 @@
 ghost use Rattle.std.specs.Prelude.{◌≡◌, [], IfOk, IfErr, OnOk};
 ghost use Rattle.json_span.specs.View.{node_view, ref_view};
 ghost use Rattle.resolver_doc.specs.Answer.{IsUnbroken, IsPlanFault};
+ghost use Rattle.resolver_doc.specs.Break.{first_of};
 ghost use Rattle.resolver_doc.specs.Document.{ResolverData, resolver_of, set_entries};
 ghost use Rattle.resolver_doc.specs.Naming.{naming_breaks};
 ghost use Rattle.resolver_doc.specs.ResolverView.{resolver_view};
 ghost use Rattle.resolver_doc.specs.Rings.{HasNoRingOfSets};
 ghost use Rattle.resolver_doc.specs.View.{sets_view, order_view};
-ghost use Rattle.resolver_doc.specs.inner.Faults.{IsNamedFault, break_fault};
+ghost use Rattle.resolver_doc.specs.inner.Faults.{break_fault};
 ghost use Rattle.resolver_doc.specs.inner.Known.{known_sets};
 
 use crate::document::form_break;
@@ -23,13 +24,15 @@ use crate::written::{Order, Sets};
 use json_span::{Node, NodeRef};
 use name_path::Trail;
 use std::alloc::Global;
+use tk_io::NoMemory;
 
-// What a document says, and what is known of its sets and modifiers.
+// What a document says, what is known of its sets and modifiers, and the first break of its references and names.
 #[derive(Drop)]
 struct Said<'a, 's> {
     known: Known<'a, 's>,
     sets: Sets<'a, 's>,
     order: Order<'a, 's>,
+    first: Option<Break>,
 }
 
 fn broken<'s>(alloc: Global, found: Break) -> PlanFault<'s>
@@ -43,16 +46,16 @@ fn broken<'s>(alloc: Global, found: Break) -> PlanFault<'s>
     }
 }
 
-// What a document says whose references all name something, and whose items have different names.
-fn read_said<'a, 's>(alloc: Global, root: NodeRef<'a, 's>) -> Result<Said<'a, 's>, PlanFault<'s>>
+// What the document says, and its first break of references and names. Its form need not be met.
+fn read_said<'a, 's>(alloc: Global, root: NodeRef<'a, 's>) -> Result<Said<'a, 's>, NoMemory>
     ensures known { IfOk result
         (λ said. known_sets said.known ≡ set_entries (ref_view root.entry)) }
     ensures sets { IfOk result
         (λ said. sets_view said.sets ≡ (resolver_of (ref_view root.entry)).sets) }
     ensures order { IfOk result
         (λ said. order_view said.order ≡ (resolver_of (ref_view root.entry)).order) }
-    ensures named { OnOk result (naming_breaks (ref_view root.entry) ≡ []) }
-    ensures broken { IfErr result (IsNamedFault (ref_view root.entry)) }
+    ensures first { IfOk result
+        (λ said. said.first ≡ first_of (naming_breaks (ref_view root.entry))) }
 {
     let known = Known::new(alloc, root)?;
     let mut first = None;
@@ -60,10 +63,12 @@ fn read_said<'a, 's>(alloc: Global, root: NodeRef<'a, 's>) -> Result<Said<'a, 's
     check_modifiers(alloc, &known, &mut first)?;
     let order = order(alloc, &known, root, &mut first)?;
     repeats(alloc, &known, root, &mut first)?;
-    match first {
-        Some(found) => Err(broken(alloc, found)),
-        None => Ok(Said { known, sets, order }),
-    }
+    Ok(Said {
+        known,
+        sets,
+        order,
+        first,
+    })
 }
 
 /// What a resolver document says (Design Tokens Resolver Module 2025.10, in this project's profile): its sets and the items
@@ -83,10 +88,12 @@ pub fn read_resolver<'a, 's>(
     ensures broken { IfErr result (IsPlanFault (node_view root.entry.now)) }
 {
     let root = root.as_ref();
-    if let Some(found) = form_break(alloc, root)? {
+    let form = form_break(alloc, root)?;
+    let said = read_said(alloc, root)?;
+    // (a break of the form comes before all of references and names, wherever it stands)
+    if let Some(found) = form.or(said.first) {
         return Err(broken(alloc, found));
     }
-    let said = read_said(alloc, root)?;
     check_rings(alloc, &said.known, said.sets.as_slice())?;
     Ok(Resolver {
         sets: said.sets,

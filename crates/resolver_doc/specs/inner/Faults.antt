@@ -1,13 +1,11 @@
 -- A ring of sets as a fault.
-use Rattle.std.specs.Prelude.{◌≡◌, ℕ, List, [], Some, map}
+use Rattle.std.specs.Prelude.{◌≡◌, ℕ, List, Some, map}
 use Rattle.json_span.specs.Tree.{Placed, Entry, start_of, end_of}
 use Rattle.resolver_doc.specs.declared.rule.PlanRule.{PlanRule}
 use Rattle.resolver_doc.specs.declared.rule.PlanRule.TheVariants.{Cycle}
 use Rattle.resolver_doc.specs.declared.fault.PlanFault.{PlanFault}
 use Rattle.resolver_doc.specs.declared.fault.PlanFault.TheVariants.{Broken, NoMemory}
 use Rattle.resolver_doc.specs.declared.rule.Break.{Break}
-use Rattle.resolver_doc.specs.Break.{first_of}
-use Rattle.resolver_doc.specs.Naming.{naming_breaks}
 use Rattle.resolver_doc.specs.Document.{SetData, name_in}
 use Rattle.resolver_doc.specs.Rings.{IsRingOfSets, ring_string}
 
@@ -32,9 +30,3 @@ IsSetRingFault sets listed NoMemory = Unit {0}
 -- a break as a fault
 abbrev pub break_fault : Break → List (List ℕ) → PlanFault
 break_fault b ring = Broken b.rule b.start b.end ring
-
--- the fault tells the first break of references and names; memory may always run out
-abbrev pub IsNamedFault : Placed → PlanFault → Type 0
-IsNamedFault root (Broken rule start end names) =
-    (first_of (naming_breaks root) ≡ Some (record { rule = rule; start = start; end = end })) × (names ≡ [])
-IsNamedFault root NoMemory = Unit {0}
