@@ -1,6 +1,6 @@
 //! The spelling of a decimal.
 
-ghost use Rattle.std.specs.Prelude.{◌≡◌, ◌+◌, ◌/◌, ◌^◌, ◌≤◌, ◌<◌, true, ℕ, List, ◌++◌, length};
+ghost use Rattle.std.specs.Prelude.{◌≡◌, ◌+◌, ◌/◌, ◌%◌, ◌^◌, ◌≤◌, ◌<◌, true, ℕ, List, ◌++◌, length};
 ghost use Rattle.std.specs.Prelude.{OnOk, OnErr};
 ghost use Rattle.std.specs.Fmt.{decimal};
 ghost use Rattle.dec_fix.specs.Decimal.{IsDec, computed_limit, most_computed_places};
@@ -14,6 +14,18 @@ use crate::decimal::Dec;
 use crate::front::Front;
 use tk_io::{Bytes, NoMemory};
 
+/// What stands before the last digit of `n`, and that digit. Most numbers are small, and the machine divides those at once.
+fn without_last(n: u128) -> (u128, u8)
+    ensures rest { result.0 ≡ n / 10 }
+    ensures last { result.1 ≡ n % 10 }
+{
+    if n <= u64::MAX as u128 {
+        let small = n as u64;
+        return ((small / 10) as u128, (small % 10) as u8);
+    }
+    (n / 10, (n % 10) as u8)
+}
+
 /// Puts the last `k` digits of `n` before the rest, and gives what stands before them.
 fn put_last(text: &mut Front, n: u128, k: u8) -> u128
     requires room { length text.old + k ≤ ROOM }
@@ -23,8 +35,9 @@ fn put_last(text: &mut Front, n: u128, k: u8) -> u128
 {
     let mut left = n;
     for _ in 0..k {
-        text.put(b'0' + (left % 10) as u8);
-        left /= 10;
+        let (rest, digit) = without_last(left);
+        text.put(b'0' + digit);
+        left = rest;
     }
     left
 }
@@ -38,8 +51,9 @@ fn put_whole(text: &mut Front, n: u128)
 {
     let mut left = n;
     while left >= 10 {
-        text.put(b'0' + (left % 10) as u8);
-        left /= 10;
+        let (rest, digit) = without_last(left);
+        text.put(b'0' + digit);
+        left = rest;
     }
     text.put(b'0' + left as u8);
 }

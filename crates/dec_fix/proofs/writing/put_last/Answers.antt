@@ -8,8 +8,8 @@ put-requires c = omega (arith, ap length c.loop.invariant.text, length-append (l
 
 pub loop-preserved : goal.loop-preserved
 loop-preserved c = record {
-  text = rw (last_digits-more c.loop.counter c.args.n) (rw (c.put.ensures, c.loop.invariant.text, c.loop.invariant.rest) refl);
-  rest = rw c.loop.invariant.rest (tenth c.args.n c.loop.counter);
+  text = rw (last_digits-more c.loop.counter c.args.n) (rw (c.put.ensures, c.loop.invariant.text, c.without_last-rest.ensures.last, c.loop.invariant.rest) refl);
+  rest = rw (c.without_last-rest.ensures.rest, c.loop.invariant.rest) (tenth c.args.n c.loop.counter);
 }
 
 pub returns-clause-length : goal.returns-clause-length

@@ -13,7 +13,7 @@ put-requires-2 c = decimal_room c.loop-left.left c.args.n c.loop-left.text c.arg
 pub loop-left-preserved : goal.loop-left-preserved
 loop-left-preserved c = record {
   small = omega arith;
-  text = rw c.put.ensures (decimal_more c.loop-left.left c.loop-left.text _ (omega arith) c.loop-left.invariant.small c.loop-left.invariant.text);
+  text = rw (c.put.ensures, c.without_last-rest.ensures.rest, c.without_last-rest.ensures.last) (decimal_more c.loop-left.left c.loop-left.text _ (omega arith) c.loop-left.invariant.small c.loop-left.invariant.text);
 }
 
 pub returns-clause-length : goal.returns-clause-length
