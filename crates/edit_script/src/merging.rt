@@ -15,7 +15,7 @@ use crate::record_line::{file_line, gone_line};
 use crate::{Change, Changes};
 use std::alloc::Global;
 use std::cmp::Ordering;
-use tk_io::{Bytes, NoMemory, Outputs};
+use tk_io::{Body, NoMemory, Outputs};
 
 /// The changes from the old outputs to the new ones, in byte order of paths: gone where only the old have the path, and
 /// written where only the new have it or have other bytes there. An output that stays as it was has no change. Each
@@ -29,7 +29,7 @@ pub fn delta<'a>(alloc: Global, old: &'a Outputs, new: &'a Outputs) -> Result<Ch
 }
 
 // The path of an output, with its bytes.
-type Entry = (String, Bytes);
+type Entry = (String, Body);
 
 // The changes from one list of entries in path order to another.
 fn merge<'a>(alloc: Global, old: &'a [Entry], new: &'a [Entry]) -> Result<Changes<'a>, NoMemory>

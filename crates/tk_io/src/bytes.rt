@@ -42,8 +42,13 @@ impl Bytes {
         ensures { result ≡ [] }
     {
         Bytes {
-            items: Vec::new(*self.items.allocator()),
+            items: Vec::new(self.allocator()),
         }
+    }
+
+    /// The memory that these bytes grow in.
+    pub(crate) fn allocator(&self) -> Global {
+        *self.items.allocator()
     }
 
     /// Adds the piece at the end. Where memory runs out nothing changes.

@@ -2,6 +2,7 @@
 //! contracts see as lists and finite maps, and counted steps.
 #![tactic(auto)]
 
+mod body;
 mod bytes;
 mod clean;
 mod faults;
@@ -18,6 +19,7 @@ mod tests;
 mod text;
 mod text_map;
 
+pub use body::Body;
 pub use bytes::Bytes;
 pub use clean::{CleanSource, NullSink};
 pub use faults::{Failed, NoMemory};

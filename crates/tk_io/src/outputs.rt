@@ -7,14 +7,14 @@ ghost use Rattle.std.specs.String.{string_bytes};
 ghost use Rattle.tk_io.specs.Entries.{PutsEntry};
 ghost use Rattle.tk_io.specs.View.{entries_view};
 
-use crate::{Bytes, NoMemory, TextMap};
+use crate::{Body, Bytes, NoMemory, TextMap};
 use std::alloc::Global;
 use std::marker::Model;
 
 /// The bytes of each output file, seen as a finite map from path to bytes.
 #[derive(Debug, Drop)]
 pub struct Outputs {
-    bodies: TextMap<Bytes>,
+    bodies: TextMap<Body>,
 }
 
 impl Model for Outputs {
@@ -75,7 +75,7 @@ impl Outputs {
     }
 
     /// All outputs in byte order of paths.
-    pub fn entries(&self) -> &[(String, Bytes)]
+    pub fn entries(&self) -> &[(String, Body)]
         ensures { entries_view string_bytes (λ body. body) result.now ≡ map.entries self.now }
     {
         self.bodies.entries()
@@ -83,6 +83,17 @@ impl Outputs {
 
     /// Adds the output, or replaces the bytes of its path. Where memory runs out the body is dropped and the outputs stay.
     pub fn insert(&mut self, path: &str, body: Bytes) -> Result<(), NoMemory>
+        ensures ok { OnOk result (self.new ≡ map.insert self.old path.now body) }
+        // What stands at each path afterwards.
+        ensures at { OnOk result (PutsEntry self.old self.new path.now body) }
+        ensures err { OnErr result (self.new ≡ self.old) }
+    {
+        let body = Body::new(body)?;
+        self.insert_shared(path, body)
+    }
+
+    /// The same with bytes that may be held elsewhere too. They are not copied.
+    pub fn insert_shared(&mut self, path: &str, body: Body) -> Result<(), NoMemory>
         ensures ok { OnOk result (self.new ≡ map.insert self.old path.now body) }
         // What stands at each path afterwards.
         ensures at { OnOk result (PutsEntry self.old self.new path.now body) }
