@@ -10,12 +10,19 @@ ghost use Rattle.type_rules.specs.Sound.{IsColor, IsSize, IsTime, IsSimple, IsHe
 ghost use Rattle.android_out.specs.PlatformValue.{component_color, digits_color, color_content};
 ghost use Rattle.android_out.specs.PlatformValue.{is_srgb, is_rem, size_content, whole_content};
 ghost use Rattle.android_out.specs.PlatformValue.{milliseconds_in, time_content, simple_content};
-ghost use Rattle.android_out.specs.inner.View.{content_view};
+ghost use Rattle.android_out.specs.inner.View.{unit_view, content_view};
 
 use crate::family::family_content;
 use dec_fix::Dec;
 use transforms::{Config, scale_rem};
 use type_rules::{Color, Simple, Size, SizeUnit, Space, Time, TimeUnit};
+
+/// The unit of a length.
+#[derive(Clone, Copy, Debug)]
+pub(crate) enum DimenUnit {
+    Dp,
+    Sp,
+}
 
 /// What an element holds.
 #[derive(Clone, Copy, Debug)]
@@ -23,7 +30,7 @@ pub(crate) enum Content<'a> {
     /// The bytes of alpha, red, green and blue.
     Color(u8, u8, u8, u8),
     /// A number and its unit.
-    Dimen(Dec, &'static str),
+    Dimen(Dec, DimenUnit),
     /// A whole number.
     Integer(Dec),
     Item(Dec),
@@ -133,9 +140,9 @@ fn is_rem(unit: SizeUnit) -> bool
 }
 
 /// A length in pixels, in this unit.
-pub(crate) fn size_content(cfg: &Config, unit: &'static str, size: &Size) -> Content<'static>
+pub(crate) fn size_content(cfg: &Config, unit: DimenUnit, size: &Size) -> Content<'static>
     requires { IsSize size.now }
-    ensures { content_view result ≡ size_content cfg.now unit.now size.now }
+    ensures { content_view result ≡ size_content cfg.now (unit_view unit) size.now }
 {
     Content::Dimen(
         scale_rem(&size.value, is_rem(size.unit), cfg.rem_base),
@@ -170,7 +177,7 @@ pub(crate) fn simple_content<'a>(cfg: &Config, simple: &'a Simple<'_>) -> Option
 {
     match simple {
         Simple::Color(color) => color_content(color),
-        Simple::Dimension(size) => Some(size_content(cfg, "dp", size)),
+        Simple::Dimension(size) => Some(size_content(cfg, DimenUnit::Dp, size)),
         Simple::FontFamily(families) => family_content(families.as_slice()),
         Simple::FontWeight(weight) => whole_content(weight),
         Simple::Duration(time) => whole_content(&milliseconds(time)),

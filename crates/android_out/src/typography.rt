@@ -7,7 +7,7 @@ ghost use Rattle.android_out.specs.Spelling.{line_text};
 ghost use Rattle.android_out.specs.inner.View.{content_view};
 ghost use Rattle.android_out.specs.inner.Written.{IsFragment};
 
-use crate::content::{Content, size_content};
+use crate::content::{Content, DimenUnit, size_content};
 use composite_rules::Typography;
 use std::alloc::Global;
 use tk_io::{Bytes, NoMemory, Sequence};
@@ -51,8 +51,8 @@ pub(crate) fn typography_fragment<'a>(
 {
     let mut names = Sequence::new(alloc);
     draft.truncate(0);
-    let size = size_content(cfg, "sp", &value.size);
-    let spacing = size_content(cfg, "dp", &value.spacing);
+    let size = size_content(cfg, DimenUnit::Sp, &value.size);
+    let spacing = size_content(cfg, DimenUnit::Dp, &value.spacing);
     let height = Content::Item(value.line_height);
     add(alloc, &mut names, draft, name, "_font_family", family)?;
     add(alloc, &mut names, draft, name, "_font_size", &size)?;

@@ -26,11 +26,19 @@ pub(crate) enum Argument {
     Bare(Quantity),
 }
 
+/// The type of a constant that is a number.
+#[derive(Clone, Copy, Debug)]
+pub(crate) enum NumberType {
+    CgFloat,
+    TimeInterval,
+    Double,
+}
+
 /// What a constant holds.
 #[derive(Clone, Copy, Debug)]
 pub(crate) enum Content<'a> {
     /// A number of a type.
-    Number(&'static str, Dec),
+    Number(NumberType, Dec),
     /// A string.
     Text(&'a str),
     /// What a constructor makes of four arguments.
@@ -58,7 +66,7 @@ fn size_content(cfg: &Config, size: &Size) -> Content<'static>
     requires { IsSize size.now }
     ensures { content_view result ≡ size_content cfg.now size.now }
 {
-    Content::Number("CGFloat", points(cfg, size))
+    Content::Number(NumberType::CgFloat, points(cfg, size))
 }
 
 fn seconds(time: &Time) -> Dec
@@ -75,7 +83,7 @@ fn time_content(time: &Time) -> Content<'static>
     requires { IsTime time.now }
     ensures { content_view result ≡ time_content time.now }
 {
-    Content::Number("TimeInterval", seconds(time))
+    Content::Number(NumberType::TimeInterval, seconds(time))
 }
 
 fn curve_content(curve: &Curve) -> Content<'static>
@@ -99,9 +107,9 @@ pub(crate) fn simple_content<'a>(cfg: &Config, simple: &'a Simple<'_>) -> Option
         Simple::Color(color) => color_content(color),
         Simple::Dimension(size) => Some(size_content(cfg, size)),
         Simple::FontFamily(families) => family_content(families.as_slice()),
-        Simple::FontWeight(weight) => Some(Content::Number("Double", *weight)),
+        Simple::FontWeight(weight) => Some(Content::Number(NumberType::Double, *weight)),
         Simple::Duration(time) => Some(time_content(time)),
         Simple::CubicBezier(curve) => Some(curve_content(curve)),
-        Simple::Number(number) => Some(Content::Number("Double", *number)),
+        Simple::Number(number) => Some(Content::Number(NumberType::Double, *number)),
     }
 }

@@ -4,9 +4,9 @@ ghost use Rattle.std.specs.Prelude.{◌≡◌, ◌∷◌, [], ◌++◌, codes, O
 ghost use Rattle.ios_out.specs.Constant.{over_255, number, string, made};
 ghost use Rattle.ios_out.specs.PlatformValue.{text_type};
 ghost use Rattle.ios_out.specs.Spelling.{quantity_text, argument_text, content_text, line_text};
-ghost use Rattle.ios_out.specs.inner.View.{quantity_view, argument_view, content_view};
+ghost use Rattle.ios_out.specs.inner.View.{quantity_view, argument_view, type_view, content_view};
 
-use crate::content::{Argument, Content, Quantity};
+use crate::content::{Argument, Content, NumberType, Quantity};
 use dec_fix::Dec;
 use tk_io::{Bytes, NoMemory};
 use transforms::append_escaped;
@@ -57,12 +57,24 @@ fn append_further(out: &mut Bytes, argument: &Argument) -> Result<(), NoMemory>
     Ok(())
 }
 
-fn append_number(out: &mut Bytes, type_name: &str, value: &Dec) -> Result<(), NoMemory>
-    ensures { OnOk result (out.new ≡ out.old ++ content_text (number type_name.now value.now)) }
+impl NumberType {
+    // What stands between the name and the number.
+    fn opening(self) -> &'static [u8]
+        ensures { result.now ≡ codes ": " ++ (type_view self ++ codes " = ") }
+    {
+        match self {
+            NumberType::CgFloat => b": CGFloat = ",
+            NumberType::TimeInterval => b": TimeInterval = ",
+            NumberType::Double => b": Double = ",
+        }
+    }
+}
+
+fn append_number(out: &mut Bytes, number_type: NumberType, value: &Dec) -> Result<(), NoMemory>
+    ensures { OnOk result (out.new
+        ≡ out.old ++ content_text (number (type_view number_type) value.now)) }
 {
-    out.append(b": ")?;
-    out.append(type_name.as_bytes())?;
-    out.append(b" = ")?;
+    out.append(number_type.opening())?;
     value.write_point(out)?;
     Ok(())
 }
@@ -103,15 +115,15 @@ fn append_made(
 pub(crate) fn append_number_line(
     out: &mut Bytes,
     name: &[u8],
-    type_name: &str,
+    number_type: NumberType,
     value: &Dec,
 ) -> Result<(), NoMemory>
     ensures { OnOk result (out.new
-        ≡ out.old ++ line_text (name.now, number type_name.now value.now)) }
+        ≡ out.old ++ line_text (name.now, number (type_view number_type) value.now)) }
 {
     out.append(b"  public static let ")?;
     out.append(name)?;
-    append_number(out, type_name, value)?;
+    append_number(out, number_type, value)?;
     out.append(b"\n")?;
     Ok(())
 }
@@ -121,7 +133,7 @@ impl Content<'_> {
         ensures { OnOk result (out.new ≡ out.old ++ content_text (content_view self.now)) }
     {
         match self {
-            Content::Number(type_name, value) => append_number(out, type_name, value),
+            Content::Number(number_type, value) => append_number(out, *number_type, value),
             Content::Text(text) => append_string(out, text),
             Content::Made(maker, first, second, third, fourth) => {
                 append_made(out, maker, first, second, third, fourth)

@@ -5,10 +5,10 @@ ghost use Rattle.composite_rules.specs.Sound.{IsTypography};
 ghost use Rattle.ios_out.specs.Constant.{number};
 ghost use Rattle.ios_out.specs.PlatformValue.{five_values};
 ghost use Rattle.ios_out.specs.Spelling.{line_text};
-ghost use Rattle.ios_out.specs.inner.View.{content_view};
+ghost use Rattle.ios_out.specs.inner.View.{type_view, content_view};
 ghost use Rattle.ios_out.specs.inner.Written.{IsFragment};
 
-use crate::content::{Content, points};
+use crate::content::{Content, NumberType, points};
 use crate::line::append_number_line;
 use composite_rules::Typography;
 use dec_fix::Dec;
@@ -43,16 +43,17 @@ fn add_number(
     draft: &mut Bytes,
     name: &[u8],
     ending: &str,
-    type_name: &str,
+    number_type: NumberType,
     value: &Dec,
 ) -> Result<(), NoMemory>
     ensures names { OnOk result (names.new
         ≡ names.old ++ (name.now ++ ending.now) ∷ []) }
     ensures body { OnOk result (draft.new
-        ≡ draft.old ++ line_text (name.now ++ ending.now, number type_name.now value.now)) }
+        ≡ draft.old
+        ++ line_text (name.now ++ ending.now, number (type_view number_type) value.now)) }
 {
     let name = name_with_ending(alloc, name, ending)?;
-    append_number_line(draft, name.as_slice(), type_name, value)?;
+    append_number_line(draft, name.as_slice(), number_type, value)?;
     names.push(name)?;
     Ok(())
 }
@@ -75,8 +76,8 @@ pub(crate) fn typography_fragment<'a>(
     draft.truncate(0);
     let size = points(cfg, &value.size);
     let spacing = points(cfg, &value.spacing);
-    let lengths = "CGFloat";
-    let numbers = "Double";
+    let lengths = NumberType::CgFloat;
+    let numbers = NumberType::Double;
     add(alloc, &mut names, draft, name, "_font_family", family)?;
     add_number(alloc, &mut names, draft, name, "_font_size", lengths, &size)?;
     add_number(

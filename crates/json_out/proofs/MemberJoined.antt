@@ -22,11 +22,13 @@ path_inside first others =
 
 -- quotes that stand beside the texts around them
 pub joined : (s word rest : List ℕ) → word ≡ inside_text word
-    → codes "  \"" ++ (inside_text s ++ (codes "\": {\"$type\": \"" ++ (word ++ (codes "\", \"$value\": " ++ rest))))
+    → codes "  \"" ++ (inside_text s ++ ((codes "\": {\"$type\": \"" ++ (word ++ codes "\", \"$value\": ")) ++ rest))
     ≡ codes "  " ++ (string_text s ++ (codes ": " ++ (codes "{\"$type\": " ++ (string_text word ++ (codes ", \"$value\": " ++ rest)))))
 joined s word rest plain =
     ap (λ t. codes "  \"" ++ t)
-    (ap (λ t. inside_text s ++ (codes "\": {\"$type\": \"" ++ t)) (ap (λ w. w ++ (codes "\", \"$value\": " ++ rest)) plain ∙ sym (append_assoc (inside_text word) (quote ∷ []) (codes ", \"$value\": " ++ rest)))
+    (ap (λ t. inside_text s ++ (codes "\": {\"$type\": \"" ++ t))
+    (append_assoc word (codes "\", \"$value\": ") rest
+    ∙ ap (λ w. w ++ (codes "\", \"$value\": " ++ rest)) plain ∙ sym (append_assoc (inside_text word) (quote ∷ []) (codes ", \"$value\": " ++ rest)))
     ∙ sym (append_assoc (inside_text s) (quote ∷ []) (codes ": {\"$type\": \"" ++ ((inside_text word ++ quote ∷ []) ++ (codes ", \"$value\": " ++ rest)))))
 
 -- the characters of a kind's name stand for themselves

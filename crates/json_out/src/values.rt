@@ -1,7 +1,8 @@
 //! The JSON values of typed values.
 
-ghost use Rattle.std.specs.Prelude.{◌≡◌, ◌∷◌, ◌++◌, OnOk};
+ghost use Rattle.std.specs.Prelude.{◌≡◌, ◌∷◌, ◌++◌, codes, OnOk};
 ghost use Rattle.json_span.specs.Plain.{plain_string, plain_members_of};
+ghost use Rattle.json_span.specs.Spelling.{string_text};
 ghost use Rattle.type_rules.specs.Words.{size_unit_name, time_unit_name, space_name};
 ghost use Rattle.composite_rules.specs.Words.{stroke_word_name, cap_name};
 ghost use Rattle.json_out.specs.PlatformValue.{component_json, hex_members, size_json, time_json};
@@ -18,22 +19,6 @@ use dec_fix::Dec;
 use json_span::write_string_bytes;
 use tk_io::{Bytes, NoMemory};
 use type_rules::{Color, Curve, Simple, Size, SizeUnit, Space, Time, TimeUnit};
-
-impl Spell for SizeUnit {
-    ghost json = { λ unit. plain_string (size_unit_name unit) };
-
-    fn spell(&self, out: &mut Bytes) -> Result<(), NoMemory> {
-        spell_word(out, self.name())
-    }
-}
-
-impl Spell for TimeUnit {
-    ghost json = { λ unit. plain_string (time_unit_name unit) };
-
-    fn spell(&self, out: &mut Bytes) -> Result<(), NoMemory> {
-        spell_word(out, self.name())
-    }
-}
 
 impl Spell for Space {
     ghost json = { λ space. plain_string (space_name space) };
@@ -59,14 +44,35 @@ impl Spell for Cap {
     }
 }
 
+// The member of a size's unit, and the end of the size.
+fn size_end(unit: SizeUnit) -> &'static [u8]
+    ensures { result.now
+        ≡ codes ", \"unit\": " ++ (string_text (size_unit_name unit) ++ codes "}") }
+{
+    match unit {
+        SizeUnit::Px => b", \"unit\": \"px\"}",
+        SizeUnit::Rem => b", \"unit\": \"rem\"}",
+    }
+}
+
 impl Spell for Size {
     ghost json = { size_json };
 
     fn spell(&self, out: &mut Bytes) -> Result<(), NoMemory> {
         spell_behind(out, b"{\"value\": ", &self.value)?;
-        spell_behind(out, b", \"unit\": ", &self.unit)?;
-        out.append(b"}")?;
+        out.append(size_end(self.unit))?;
         Ok(())
+    }
+}
+
+// The member of a time's unit, and the end of the time.
+fn time_end(unit: TimeUnit) -> &'static [u8]
+    ensures { result.now
+        ≡ codes ", \"unit\": " ++ (string_text (time_unit_name unit) ++ codes "}") }
+{
+    match unit {
+        TimeUnit::Ms => b", \"unit\": \"ms\"}",
+        TimeUnit::S => b", \"unit\": \"s\"}",
     }
 }
 
@@ -75,8 +81,7 @@ impl Spell for Time {
 
     fn spell(&self, out: &mut Bytes) -> Result<(), NoMemory> {
         spell_behind(out, b"{\"value\": ", &self.value)?;
-        spell_behind(out, b", \"unit\": ", &self.unit)?;
-        out.append(b"}")?;
+        out.append(time_end(self.unit))?;
         Ok(())
     }
 }

@@ -4,6 +4,7 @@ ghost use Rattle.std.specs.Prelude.{◌≡◌, [], ◌∷◌, ◌++◌, option_m
 ghost use Rattle.std.specs.List.{flat_map};
 ghost use Rattle.tk_io.specs.Characters.{full_stop};
 ghost use Rattle.json_span.specs.Spelling.{inside_text, string_text};
+ghost use Rattle.name_path.specs.Kinds.{kind_name};
 ghost use Rattle.name_path.specs.Reference.{path_text};
 ghost use Rattle.transforms.specs.View.{frame_view};
 ghost use Rattle.composite_rules.specs.Sound.{IsTyped};
@@ -13,11 +14,11 @@ ghost use Rattle.json_out.specs.Spelling.{fragment_text};
 ghost use Rattle.json_out.specs.Sheets.{json_frame, AreBytes, IsReadAsMember};
 
 use crate::extras::Extras;
-use crate::spelling::spell_behind;
+use crate::spelling::{Spell, spell_behind};
 use crate::texts::are_bytes;
 use composite_rules::Typed;
 use json_span::{write_string, write_string_inside};
-use name_path::Path;
+use name_path::{Kind, Path};
 use tk_io::{Bytes, NoMemory, Text};
 use token_tree::Mark;
 use transforms::Frame;
@@ -111,6 +112,28 @@ fn append_path(out: &mut Bytes, path: &Path<'_>) -> Result<(), NoMemory>
     Ok(())
 }
 
+// What stands between a path and a value of this kind.
+fn before_value(kind: Kind) -> &'static [u8]
+    ensures { result.now
+        ≡ codes "\": {\"$type\": \"" ++ (kind_name kind ++ codes "\", \"$value\": ") }
+{
+    match kind {
+        Kind::Color => b"\": {\"$type\": \"color\", \"$value\": ",
+        Kind::Dimension => b"\": {\"$type\": \"dimension\", \"$value\": ",
+        Kind::FontFamily => b"\": {\"$type\": \"fontFamily\", \"$value\": ",
+        Kind::FontWeight => b"\": {\"$type\": \"fontWeight\", \"$value\": ",
+        Kind::Duration => b"\": {\"$type\": \"duration\", \"$value\": ",
+        Kind::CubicBezier => b"\": {\"$type\": \"cubicBezier\", \"$value\": ",
+        Kind::Number => b"\": {\"$type\": \"number\", \"$value\": ",
+        Kind::StrokeStyle => b"\": {\"$type\": \"strokeStyle\", \"$value\": ",
+        Kind::Border => b"\": {\"$type\": \"border\", \"$value\": ",
+        Kind::Transition => b"\": {\"$type\": \"transition\", \"$value\": ",
+        Kind::Shadow => b"\": {\"$type\": \"shadow\", \"$value\": ",
+        Kind::Gradient => b"\": {\"$type\": \"gradient\", \"$value\": ",
+        Kind::Typography => b"\": {\"$type\": \"typography\", \"$value\": ",
+    }
+}
+
 fn append_member(
     out: &mut Bytes,
     path: &Path<'_>,
@@ -122,9 +145,8 @@ fn append_member(
 {
     out.append(b"  \"")?;
     append_path(out, path)?;
-    out.append(b"\": {\"$type\": \"")?;
-    out.append(typed.kind().name().as_bytes())?;
-    spell_behind(out, b"\", \"$value\": ", typed)?;
+    out.append(before_value(typed.kind()))?;
+    typed.spell(out)?;
     append_extras(out, extras)?;
     out.append(b"}")?;
     Ok(())
