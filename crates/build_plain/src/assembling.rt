@@ -74,7 +74,7 @@ fn assemble_perm<'s>(
             let Some(cells) = parts.cells.get(name) else {
                 unreachable!();
             };
-            put_tokens(alloc, files, name, flat, cells.as_slice(), outputs)
+            put_tokens(alloc, files, name, flat, cells, outputs)
         }
         Some(Merge::Broken(fault)) => {
             let first = first_file(&home, perm.sources.as_slice());

@@ -5,7 +5,7 @@ ghost use Rattle.std.specs.String.{string_bytes};
 ghost use Rattle.build_plain.specs.Out.{one_output};
 
 use std::alloc::Global;
-use tk_io::{Bytes, NoMemory, Outputs};
+use tk_io::{Body, Bytes, NoMemory, Outputs};
 
 /// One output.
 pub(crate) fn one_output(alloc: Global, path: &str, body: Bytes) -> Result<Outputs, NoMemory>
@@ -35,6 +35,20 @@ pub(crate) fn put_output(
 ) -> Result<(), NoMemory>
     ensures { OnOk result (outputs.new ≡ map.insert outputs.old (name.now ++ file.now) body) }
 {
+    let body = Body::new(body)?;
+    put_shared(alloc, name, file, body, outputs)
+}
+
+/// The same of a file that may be held elsewhere too.
+pub(crate) fn put_shared(
+    alloc: Global,
+    name: &str,
+    file: &str,
+    body: Body,
+    outputs: &mut Outputs,
+) -> Result<(), NoMemory>
+    ensures { OnOk result (outputs.new ≡ map.insert outputs.old (name.now ++ file.now) body) }
+{
     let path = output_path(alloc, name, file)?;
-    outputs.insert(path.as_str(), body)
+    outputs.insert_shared(path.as_str(), body)
 }

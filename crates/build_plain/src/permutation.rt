@@ -5,11 +5,10 @@ ghost use Rattle.std.specs.List.{zip};
 ghost use Rattle.refusals.specs.Refusal.{counted, report, report_text};
 ghost use Rattle.source_trees.specs.View.{break_view};
 ghost use Rattle.token_cells.specs.Breaks.{token_reports, verdict};
-ghost use Rattle.token_cells.specs.View.{cells_view};
 ghost use Rattle.build_plain.specs.Breaks.{source_report, tree_reports};
 ghost use Rattle.build_plain.specs.Out.{four_outputs, perm_outputs, put_beside};
 
-use crate::output::put_output;
+use crate::output::{put_output, put_shared};
 use crate::sources::source_rule;
 use file_plan::Files;
 use group_inherit::{Flat, TreeFault};
@@ -17,7 +16,7 @@ use refusals::{Rule, append_count, append_lost_group, append_ring_groups, refuse
 use source_trees::SourceBreak;
 use std::alloc::Global;
 use tk_io::{Bytes, NoMemory, Outputs};
-use token_cells::{Format, SharedCell, sheet_of, verdict_text};
+use token_cells::{Cells, Format, sheet_of, verdict_text};
 
 /// Puts the refusal of a source that breaks a rule.
 pub(crate) fn put_source_break(
@@ -104,20 +103,20 @@ pub(crate) fn put_tree_break(
 fn put_sheets(
     alloc: Global,
     name: &str,
-    cells: &[SharedCell<'_>],
+    cells: &Cells<'_>,
     outputs: &mut Outputs,
 ) -> Result<(), NoMemory>
     ensures { OnOk result
-        (outputs.new ≡ put_beside outputs.old (four_outputs name.now (cells_view cells.now))) }
+        (outputs.new ≡ put_beside outputs.old (four_outputs name.now cells.now)) }
 {
-    let swift = sheet_of(alloc, Format::Swift, cells)?;
-    put_output(alloc, name, "/Tokens.swift", swift, outputs)?;
-    let css = sheet_of(alloc, Format::Css, cells)?;
-    put_output(alloc, name, "/tokens.css", css, outputs)?;
-    let json = sheet_of(alloc, Format::Json, cells)?;
-    put_output(alloc, name, "/tokens.json", json, outputs)?;
-    let android = sheet_of(alloc, Format::Android, cells)?;
-    put_output(alloc, name, "/tokens.xml", android, outputs)
+    let swift = sheet_of(Format::Swift, cells)?;
+    put_shared(alloc, name, "/Tokens.swift", swift, outputs)?;
+    let css = sheet_of(Format::Css, cells)?;
+    put_shared(alloc, name, "/tokens.css", css, outputs)?;
+    let json = sheet_of(Format::Json, cells)?;
+    put_shared(alloc, name, "/tokens.json", json, outputs)?;
+    let android = sheet_of(Format::Android, cells)?;
+    put_shared(alloc, name, "/tokens.xml", android, outputs)
 }
 
 /// Puts the outputs of tokens: the refusal of the first break among them, or else their files.
@@ -126,12 +125,12 @@ pub(crate) fn put_tokens<'s>(
     files: &Files<'s>,
     name: &str,
     flat: &Flat<'s>,
-    cells: &[SharedCell<'s>],
+    cells: &Cells<'s>,
     outputs: &mut Outputs,
 ) -> Result<(), NoMemory>
     ensures { OnOk result (outputs.new
-        ≡ put_beside outputs.old (perm_outputs files.now name.now (cells_view cells.now)
-        (verdict (token_reports flat.now (zip (map.entries flat.now) (cells_view cells.now)))))) }
+        ≡ put_beside outputs.old (perm_outputs files.now name.now cells.now
+        (verdict (token_reports flat.now (zip (map.entries flat.now) cells.now))))) }
 {
     match verdict_text(alloc, files, flat, cells)? {
         Some(text) => put_output(alloc, name, "/REFUSED", text, outputs),

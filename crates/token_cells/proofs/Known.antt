@@ -1,5 +1,5 @@
 -- What is known of a token of an earlier tree.
-use Rattle.std.proofs.Common.{◌≡◌, ℕ, ◌+◌, ◌<◌, Bool, List, [], ◌∷◌, ◌++◌, Some, IsSomeAnd, MatchOption, sym, ap, ◌∙◌, subst, get_or, length, take, Equal}
+use Rattle.std.proofs.Common.{◌≡◌, ℕ, zero, suc, ◌+◌, ◌<◌, Bool, List, [], ◌∷◌, ◌++◌, Some, IsSomeAnd, MatchOption, sym, ap, ◌∙◌, subst, get_or, length, take, Equal}
 use Rattle.std.specs.List.{AllZip, slice_get}
 use Rattle.std.specs.FinMap.{slice_cmp-IsAntisymmetric, nat_cmp-IsAntisymmetric}
 use Rattle.std.proofs.lemmas.List.{take_more}
@@ -8,7 +8,9 @@ use Rattle.std.proofs.lemmas.Slice.Zip.{AllZip-left, all_zipped_more}
 use Rattle.tk_io.specs.Order.{names_cmp}
 use Rattle.group_inherit.specs.Flattening.{TokenAt}
 use Rattle.token_cells.specs.Cell.{TokenPath}
+use Rattle.token_cells.specs.declared.row.Row.{Row}
 use Rattle.token_cells.specs.inner.Earlier.{IsLone, AreLone}
+use Rattle.token_cells.specs.inner.Kept.{PageTexts, row_view, rows_view}
 
 -- what holds of the items of two lists at one place
 pub at_place : {A B : Type 0} (P : A → B → Type 0) (xs : List A) (ys : List B) (i : ℕ) (x : A) (y : B) → AllZip P xs ys → slice_get xs i ≡ Some x → slice_get ys i ≡ Some y → P x y
@@ -18,6 +20,12 @@ at_place P xs ys i x y all e k =
 -- the item at a place below the length
 pub found_at : {A : Type 0} (xs : List A) (i : ℕ) (x : A) → i < length xs → ((d : A) → x ≡ get_or xs i d) → slice_get xs i ≡ Some x
 found_at xs i x within is = slice_get-get_or xs i x within ∙ ap Some (sym (is x))
+
+-- what a row at a place shows
+pub shown_at : (pages : PageTexts) (rows : List Row) (i : ℕ) (row : Row) → slice_get rows i ≡ Some row → slice_get (rows_view pages rows) i ≡ Some (row_view pages row)
+shown_at pages [] i row e = cc
+shown_at pages (r ∷ rows) zero row e = let is : r ≡ row = cc in ap (λ x. Some (row_view pages x)) is
+shown_at pages (r ∷ rows) (suc i) row e = shown_at pages rows i row e
 
 -- paths between which the order makes no difference
 pub same_path : (p q : TokenPath) → names_cmp p q ≡ Equal → p ≡ q

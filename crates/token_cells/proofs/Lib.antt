@@ -1,7 +1,7 @@
 mod AndroidDenotes
 mod ApartCells
 mod Beside
-mod Bodies
+mod Growing
 mod CellsExist
 mod Comes
 mod Entries
@@ -18,5 +18,6 @@ mod TextsOfTokens
 mod ValuesFit
 mod Runs
 mod NamedAlike
+mod AlikeRows
 mod UnchangedTokens
 mod Known

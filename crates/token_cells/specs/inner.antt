@@ -1,3 +1,4 @@
 pub mod Making
 pub mod Kept
+pub mod Growing
 pub mod Earlier

@@ -1,25 +1,75 @@
 // What all tokens of a flat tree come to.
-ghost use Rattle.std.specs.Prelude.{◌≡◌, ◌+◌, ◌≤◌, Some, IfOk, IfSome, OnOk, length};
+ghost use Rattle.std.specs.Prelude.{◌≡◌, ◌+◌, ◌≤◌, List, Some, IfOk, IfSome, OnOk, length};
 ghost use Rattle.std.specs.FinMap as map;
 ghost use Rattle.token_cells.specs.Cell.{AreCells, IsCell};
+ghost use Rattle.token_cells.specs.TokenCell.{TokenCell};
 ghost use Rattle.token_cells.specs.inner.Earlier.{IsKeptCell, IsLone};
+ghost use Rattle.token_cells.specs.inner.Growing.{AreSheets, AreShown, HoldAll};
+ghost use Rattle.token_cells.specs.inner.Kept.{kept_view, open_texts, rows_view, texts_of};
+ghost use Rattle.token_cells.specs.inner.Making.{ComesTo};
 
 use crate::drafts::Drafts;
 use crate::earlier::Earlier;
-use crate::evaluated::{Cells, Evaluated};
-use crate::shared_cell::SharedCell;
-use crate::token_cell::cell_of_entry;
+use crate::evaluated::Evaluated;
+use crate::keeping::Kept;
+use crate::pages::{OpenPages, Pages};
+use crate::row::Row;
+use crate::token_cell::row_of_entry;
 use group_inherit::{Entry, Flat};
 use name_path::Path;
 use std::alloc::Global;
+use std::marker::Model;
 use std::sync::ledger::Ledger;
 use tk_io::{NoMemory, Steps};
 use transforms::Config;
 
+/// What tokens come to, in path order, and the files that they give, of which each token's lines are a part; seen as the
+/// list of what they come to.
+#[derive(Debug, Drop)]
+pub struct Cells<'s> {
+    rows: Vec<Row<'s>>,
+    pages: Pages,
+}
+
+impl<'s> Model for Cells<'s> {
+    ghost use Rattle.std.specs.Prelude.{List};
+    ghost use Rattle.token_cells.specs.TokenCell.{TokenCell};
+    ghost use Rattle.token_cells.specs.inner.Growing.{AreSheets};
+    ghost use Rattle.token_cells.specs.inner.Kept.{rows_view, texts_of};
+
+    ghost Value = { List TokenCell };
+
+    ghost view = { λ c. rows_view (texts_of c.pages) c.rows.items };
+
+    ghost invariant = { λ c. AreSheets c.pages (rows_view (texts_of c.pages) c.rows.items) };
+}
+
+impl<'s> Cells<'s> {
+    /// The tokens whose rows these are, which were added to the pages.
+    pub(crate) fn new(pages: OpenPages, rows: Vec<Row<'s>>) -> Result<Cells<'s>, NoMemory>
+        requires { (cells : List TokenCell)
+            × HoldAll pages cells × AreShown (open_texts pages) rows.items cells }
+        ensures { (cells : List TokenCell)
+            → AreShown (open_texts pages) rows.entry.items cells
+            → IfOk result (λ c. c ≡ cells) }
+    {
+        let pages = pages.close()?;
+        Ok(Cells { rows, pages })
+    }
+
+    /// What each comes to, and the files, in which its lines stand.
+    pub(crate) fn parts(&self) -> (&[Row<'s>], &Pages)
+        ensures rows { rows_view (texts_of result.1.now) result.0.now ≡ self.now }
+        ensures pages { AreSheets result.1.now self.now }
+    {
+        (self.rows.as_slice(), &self.pages)
+    }
+}
+
 /// What a token comes to, and whether it is known to name no other.
 #[derive(Drop)]
 struct Answer<'s> {
-    cell: SharedCell<'s>,
+    row: Row<'s>,
     lone: bool,
 }
 
@@ -27,28 +77,31 @@ struct Answer<'s> {
 fn token_answer<'s, N: Ledger>(
     alloc: Global,
     drafts: &mut Drafts,
+    pages: &mut OpenPages,
     flat: &Flat<'s>,
     token: &(Path<'s>, Entry<'s>),
     cfg: &Config,
-    kept: Option<SharedCell<'s>>,
+    kept: Option<Kept<'_, 's>>,
     evals: &mut Steps<N>,
 ) -> Result<Answer<'s>, NoMemory>
     requires token { map.get flat.now token.now.0 ≡ Some token.now.1 }
-    requires kept { IfSome kept (IsKeptCell cfg.now token.now) }
+    requires kept { IfSome kept (λ k. IsKeptCell cfg.now token.now (kept_view k)) }
     ensures step { evals.new ≡ evals.old + 1 }
-    ensures cell { IfOk result (λ a. IsCell flat.now cfg.now token.now.0 a.cell) }
+    ensures row { IfOk result (λ a.
+        ComesTo (IsCell flat.now cfg.now token.now.0) pages.old pages.new a.row) }
     ensures lone { IfOk result (λ a. IsLone token.now a.lone) }
 {
-    if let Some(cell) = kept {
+    if let Some(kept) = kept {
         evals.tick();
-        return Ok(Answer { cell, lone: true });
+        let row = kept.add_to(pages)?;
+        return Ok(Answer { row, lone: true });
     }
-    let cell = cell_of_entry(alloc, drafts, flat, &token.0, &token.1, cfg, evals)?;
-    Ok(Answer { cell, lone: false })
+    let row = row_of_entry(alloc, drafts, pages, flat, &token.0, &token.1, cfg, evals)?;
+    Ok(Answer { row, lone: false })
 }
 
-/// What each token of the flat tree comes to, in path order. Each token is one step. A token that stands as it stood in
-/// the earlier tree and names no other is neither evaluated nor spelled again.
+/// What each token of the flat tree comes to, in path order, and the files that they give. Each token is one step. A token
+/// that stands as it stood in the earlier tree and names no other is neither evaluated nor spelled again.
 pub fn cells_of<'s, N: Ledger>(
     alloc: Global,
     flat: Flat<'s>,
@@ -63,18 +116,27 @@ pub fn cells_of<'s, N: Ledger>(
     // Where memory runs out, some tokens are not evaluated.
     ensures at_most { evals.new ≤ evals.old + length (map.entries flat.entry) }
 {
+    let tokens = flat.as_slice();
     let mut at = 0;
-    let mut cells = Cells::new(alloc);
+    let mut pages = OpenPages::new(alloc, tokens.len())?;
+    let mut rows = Vec::with_capacity(alloc, tokens.len())?;
     let mut lone = Vec::new(alloc);
     let mut drafts = Drafts::new(alloc);
-    for token in flat.as_slice() {
+    for token in tokens {
         let kept = earlier.cell(alloc, cfg, &mut at, token)?;
-        let Answer {
-            cell,
-            lone: is_lone,
-        } = token_answer(alloc, &mut drafts, &flat, token, cfg, kept, evals)?;
-        cells.push(cell)?;
+        let Answer { row, lone: is_lone } = token_answer(
+            alloc,
+            &mut drafts,
+            &mut pages,
+            &flat,
+            token,
+            cfg,
+            kept,
+            evals,
+        )?;
+        rows.push(row)?;
         lone.push(is_lone)?;
     }
+    let cells = Cells::new(pages, rows)?;
     Ok(Evaluated::new(flat, cells, lone))
 }

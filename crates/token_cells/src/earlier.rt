@@ -10,9 +10,12 @@ ghost use Rattle.alias_ref.specs.Unchanged.{raw_of};
 ghost use Rattle.transforms.specs.Config.{Settings};
 ghost use Rattle.token_cells.specs.Cell.{IsCell, AreCells};
 ghost use Rattle.token_cells.specs.inner.Earlier.{IsKeptCell};
+ghost use Rattle.token_cells.specs.inner.Kept.{kept_view, row_view, texts_of};
 
 use crate::evaluated::Evaluated;
-use crate::shared_cell::SharedCell;
+use crate::keeping::Kept;
+use crate::pages::Pages;
+use crate::row::Row;
 use alias_ref::{refs_of, source_decides, unchanged_is_alike};
 use group_inherit::Entry;
 use name_path::Path;
@@ -117,24 +120,26 @@ fn place_from<'s>(
     None
 }
 
-// The same cell, in one place more. The token stands as it stood in an earlier tree.
-fn kept_cell<'s>(
+// The row, whose token stands as it stood in an earlier tree.
+fn kept_row<'a, 's>(
     old: &(Path<'s>, Entry<'s>),
     token: &(Path<'s>, Entry<'s>),
-    cell: &SharedCell<'s>,
-) -> Result<SharedCell<'s>, NoMemory>
+    row: &'a Row<'s>,
+    pages: &'a Pages,
+) -> Kept<'a, 's>
     requires path { old.now.0 ≡ token.now.0 }
     requires same { raw_of old.now.1 ≡ raw_of token.now.1 }
     requires lone { refs_of old.now.1.def ≡ [] }
     ensures { (settings : Settings) (flat : FlatTree)
-        → map.get flat old.now.0 ≡ Some old.now.1 → IsCell flat settings old.now.0 cell.now
-        → IfOk result (IsKeptCell settings token.now) }
+        → map.get flat old.now.0 ≡ Some old.now.1
+        → IsCell flat settings old.now.0 (row_view (texts_of pages.now) row.now)
+        → IsKeptCell settings token.now (kept_view result) }
 {
     unchanged_is_alike();
     source_decides();
     old.1.def.keeps();
     token.1.def.keeps();
-    cell.share()
+    Kept { row, pages }
 }
 
 impl<'s> Known<'s> {
@@ -144,21 +149,22 @@ impl<'s> Known<'s> {
         alloc: Global,
         at: &mut usize,
         token: &(Path<'s>, Entry<'s>),
-    ) -> Result<Option<SharedCell<'s>>, NoMemory>
-        ensures { IfOk result (λ kept. IfSome kept (IsKeptCell self.now.settings token.now)) }
+    ) -> Result<Option<Kept<'_, 's>>, NoMemory>
+        ensures { IfOk result (λ kept.
+            IfSome kept (λ k. IsKeptCell self.now.settings token.now (kept_view k))) }
     {
         let tokens = self.tree.tokens().as_slice();
         let Some(i) = place_from(tokens, at, &token.0) else {
             return Ok(None);
         };
-        let (Some(old), Some(cell)) = (tokens.get(i), self.tree.cells().get(i)) else {
+        let (rows, pages) = self.tree.cells().parts();
+        let (Some(old), Some(row)) = (tokens.get(i), rows.get(i)) else {
             return Ok(None);
         };
         if !is_same(&old.1, &token.1) || !is_lone(alloc, self.tree.is_lone(i), &old.1.def)? {
             return Ok(None);
         }
-        let kept = kept_cell(old, token, cell)?;
-        Ok(Some(kept))
+        Ok(Some(kept_row(old, token, row, pages)))
     }
 }
 
@@ -211,8 +217,9 @@ impl<'s> Earlier<'s> {
         config: &Config,
         at: &mut usize,
         token: &(Path<'s>, Entry<'s>),
-    ) -> Result<Option<SharedCell<'s>>, NoMemory>
-        ensures { IfOk result (λ kept. IfSome kept (IsKeptCell config.now token.now)) }
+    ) -> Result<Option<Kept<'_, 's>>, NoMemory>
+        ensures { IfOk result (λ kept.
+            IfSome kept (λ k. IsKeptCell config.now token.now (kept_view k))) }
     {
         match self.under(config) {
             Some(known) => known.cell(alloc, at, token),

@@ -6,13 +6,9 @@ ghost use Rattle.std.specs.List.{slice_get};
 ghost use Rattle.group_inherit.specs.Flattening.{TokenAt};
 ghost use Rattle.token_cells.specs.inner.Earlier.{AreLone, IsLone};
 
-use crate::shared_cell::SharedCell;
+use crate::cells::Cells;
 use group_inherit::Flat;
 use std::marker::Model;
-use tk_io::Sequence;
-
-/// What tokens come to, in path order.
-pub type Cells<'s> = Sequence<SharedCell<'s>>;
 
 /// A flat tree, and what its tokens come to.
 #[derive(Debug, Drop)]
@@ -60,10 +56,10 @@ impl<'s> Evaluated<'s> {
     }
 
     /// What they come to, in path order.
-    pub fn cells(&self) -> &[SharedCell<'s>]
+    pub fn cells(&self) -> &Cells<'s>
         ensures { result.now ≡ self.now.cells }
     {
-        self.cells.as_slice()
+        &self.cells
     }
 
     /// The tokens, and what they come to.

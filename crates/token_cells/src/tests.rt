@@ -2,7 +2,9 @@
 
 ghost use Rattle.std.specs.Prelude.{◌≡◌, ◌<◌};
 
-use crate::{Earlier, Format, SharedCell, cell, cells_of, sheet_of};
+use crate::pages::Pages;
+use crate::row::{Fragments, Row};
+use crate::{Cells, Earlier, Format, cell, cells_of, sheet_of};
 use group_inherit::{Flat, flatten};
 use json_span::read;
 use name_path::print_place;
@@ -10,35 +12,52 @@ use refusals::Rule;
 use std::alloc::Global;
 use std::marker::Brand;
 use std::process::Abort;
+use std::str;
 use std::sync::ledger::{Blank, Ledger};
 use std::test::Fail;
-use std::{slice, str};
-use tk_io::{Bytes, NoMemory, Steps};
+use tk_io::{Body, Bytes, NoMemory, Steps};
 use token_tree::shape;
 use transforms::Config;
 
 const FORMATS: [Format; 4] = [Format::Css, Format::Android, Format::Swift, Format::Json];
 
+/// The lines of a token in the file of this format.
+fn lines<'a>(pages: &'a Pages, format: Format, fragments: &Fragments) -> &'a [u8] {
+    let extent = match format {
+        Format::Css => fragments.css.lines,
+        Format::Android => fragments.android.lines,
+        Format::Swift => fragments.swift.lines,
+        Format::Json => fragments.json,
+    };
+    extent.text(pages.page(format).as_slice())
+}
+
 /// The lines of each platform, or the rule and the place where it is broken.
-fn append_cell(out: &mut Bytes, cell: &SharedCell<'_>) -> Result<(), NoMemory> {
-    if let Some(refusal) = cell.refusal() {
-        out.append(Rule::Token(refusal.rule).name())?;
-        out.append(b" ")?;
-        print_place(&refusal.place, out)?;
-    }
-    if let Some(fragments) = cell.fragments() {
-        for format in FORMATS {
-            out.append(fragments.body(format))?;
+fn append_row(out: &mut Bytes, pages: &Pages, row: &Row<'_>) -> Result<(), NoMemory> {
+    match row {
+        Row::Broken(refusal) => {
+            out.append(Rule::Token(refusal.rule).name())?;
+            out.append(b" ")?;
+            print_place(&refusal.place, out)?;
+        }
+        Row::Unbroken(fragments) => {
+            for format in FORMATS {
+                out.append(lines(pages, format, fragments))?;
+            }
         }
     }
     Ok(())
 }
 
-/// The files of CSS and JSON.
-fn append_files(alloc: Global, out: &mut Bytes, cells: &[SharedCell<'_>]) -> Result<(), NoMemory> {
+/// What the tokens come to, and the files of CSS and JSON.
+fn append_cells(out: &mut Bytes, cells: &Cells<'_>) -> Result<(), NoMemory> {
+    let (rows, pages) = cells.parts();
+    for row in rows {
+        append_row(out, pages, row)?;
+    }
     out.append(b"\n")?;
     for format in [Format::Css, Format::Json] {
-        out.append(sheet_of(alloc, format, cells)?.as_slice())?;
+        out.append(sheet_of(format, cells)?.as_slice())?;
     }
     Ok(())
 }
@@ -66,10 +85,9 @@ fn first_cell<L: Ledger>(alloc: Global, text: &[u8], page: Blank) -> Option<Byte
         return None;
     }
     let cfg = Config::plain(alloc);
-    let cell = cell(alloc, &flat, path, &cfg, &mut steps).ok()?;
+    let cells = cell(alloc, &flat, path, &cfg, &mut steps).ok()?;
     let mut out = Bytes::new(alloc);
-    append_cell(&mut out, &cell).ok()?;
-    append_files(alloc, &mut out, slice::from_ref(&cell)).ok()?;
+    append_cells(&mut out, &cells).ok()?;
     Some(out)
 }
 
@@ -118,11 +136,11 @@ fn json_after<'s, L: Ledger>(
     text: &'s str,
     earlier: &mut Earlier<'s>,
     steps: &mut Steps<L>,
-) -> Option<Bytes> {
+) -> Option<Body> {
     let flat = flat_of(alloc, text.as_bytes(), steps)?;
     let cfg = Config::plain(alloc);
     let tree = cells_of(alloc, flat, &cfg, earlier, steps).ok()?;
-    let sheet = sheet_of(alloc, Format::Json, tree.cells()).ok()?;
+    let sheet = sheet_of(Format::Json, tree.cells()).ok()?;
     earlier.keep(alloc, &cfg, tree).ok()?;
     Some(sheet)
 }

@@ -1,6 +1,6 @@
 //! What tokens come to.
 
-ghost use Rattle.std.specs.Prelude.{◌≡◌, ◌+◌, [], Ok, Some, IfOk, unwrap_or, option_map};
+ghost use Rattle.std.specs.Prelude.{◌≡◌, ◌+◌, [], ◌∷◌, Ok, Some, IfOk, unwrap_or, option_map};
 ghost use Rattle.std.specs.FinMap as map;
 ghost use Rattle.json_span.specs.PlainView.{plain_view};
 ghost use Rattle.group_inherit.specs.Flattening.{Flattened};
@@ -10,13 +10,15 @@ ghost use Rattle.alias_ref.specs.Answer.{IsResolved};
 ghost use Rattle.composite_rules.specs.Value.{value_of};
 ghost use Rattle.alias_ref.specs.Laws.{Flat as FlatTree};
 ghost use Rattle.token_cells.specs.Cell.{IsCell, extras_of};
-ghost use Rattle.token_cells.specs.TokenCell.{Refused};
-ghost use Rattle.token_cells.specs.inner.Kept.{fragments_view};
-ghost use Rattle.token_cells.specs.inner.Making.{IsMadeOf};
+ghost use Rattle.token_cells.specs.TokenCell.{TokenCell, Refused};
+ghost use Rattle.token_cells.specs.inner.Kept.{PageTexts, row_view};
+ghost use Rattle.token_cells.specs.inner.Making.{IsMadeOf, ComesTo};
 
+use crate::adding::{add_android, add_css, add_json, add_swift};
+use crate::cells::Cells;
 use crate::drafts::Drafts;
-use crate::fragments::Fragments;
-use crate::shared_cell::{Refusal, SharedCell};
+use crate::pages::OpenPages;
+use crate::row::{Fragments, Refusal, Row};
 use alias_ref::{RefFault, Resolved, evaluate_entry};
 use composite_rules::{Typed, check, value_laws};
 use group_inherit::{Entry, Flat};
@@ -24,20 +26,30 @@ use json_out::Extras;
 use name_path::{Path, Place, Ring, Trail};
 use refusals::CellRule;
 use std::alloc::Global;
+use std::rc::Rc;
 use std::sync::ledger::Ledger;
 use tk_io::{NoMemory, Steps};
 use token_tree::Mark;
 use transforms::{Config, Platform, write_name};
 use type_rules::{ValueFault, ValueRule};
 
+// The row of a token that breaks the rule.
+fn refused<'s>(alloc: Global, refusal: Refusal<'s>) -> Result<Row<'s>, NoMemory>
+    ensures { IfOk result (λ row. (pages : PageTexts) → row_view pages row
+        ≡ Refused refusal.entry.rule refusal.entry.place refusal.entry.ring) }
+{
+    let refusal = Rc::new(alloc, refusal)?;
+    Ok(Row::Broken(refusal))
+}
+
 fn refused_value<'s>(
     alloc: Global,
     path: &Path<'s>,
     rule: ValueRule,
     trail: Trail<'s>,
-) -> Result<SharedCell<'s>, NoMemory>
-    ensures { IfOk result (λ c. c ≡ Refused (CellRule.Value rule)
-        (record { token = path.now; trail = trail.entry }) []) }
+) -> Result<Row<'s>, NoMemory>
+    ensures { IfOk result (λ row. (pages : PageTexts) → row_view pages row
+        ≡ Refused (CellRule.Value rule) (record { token = path.now; trail = trail.entry }) []) }
 {
     let token = path.copy()?;
     let refusal = Refusal {
@@ -45,7 +57,7 @@ fn refused_value<'s>(
         place: Place { token, trail },
         ring: Ring::new(alloc),
     };
-    SharedCell::refused(alloc, refusal)
+    refused(alloc, refusal)
 }
 
 // The mark that holds for the token: its own, else that of the nearest group upwards that has one.
@@ -82,19 +94,21 @@ fn extras<'a, 's: 'a>(entry: &'a Entry<'s>) -> Result<Extras<'a>, NoMemory>
     })
 }
 
-// What the token gives to each platform, which has this value.
+// Adds what the token gives to each platform, which has this value.
 fn made<'s>(
     alloc: Global,
     drafts: &mut Drafts,
+    pages: &mut OpenPages,
     path: &Path<'s>,
     entry: &Entry<'s>,
     resolved: &Resolved<'s>,
     typed: &Typed<'s>,
     cfg: &Config,
-) -> Result<Fragments, NoMemory>
+) -> Result<Row<'s>, NoMemory>
     requires { value_of resolved.now.kind (plain_view resolved.now.plain) ≡ Ok typed.now }
-    ensures { IfOk result (λ f. IsMadeOf cfg.now path.now entry.now
-        resolved.now.links typed.now (fragments_view f)) }
+    ensures { IfOk result (ComesTo
+        (IsMadeOf cfg.now path.now entry.now resolved.now.links typed.now)
+        pages.old pages.new) }
 {
     value_laws();
     let extras = extras(entry)?;
@@ -103,78 +117,127 @@ fn made<'s>(
     write_name(alloc, Platform::Android, path, cfg, &mut drafts.identifier)?;
     let property = drafts.property.as_slice();
     let identifier = drafts.identifier.as_slice();
-    let bodies = &mut drafts.bodies;
-    bodies.texts.clear();
-    let css = bodies.add_css(alloc, property, typed, &resolved.links, cfg)?;
-    let android = bodies.add_android(alloc, identifier, typed, cfg)?;
-    let swift = bodies.add_swift(alloc, identifier, typed, cfg)?;
-    bodies.add_json(path, typed, &extras)?;
-    Fragments::new(alloc, &mut bodies.texts, &css, &android, &swift)
+    let lines = &mut drafts.lines;
+    let links = &resolved.links;
+    let all = &mut pages.names;
+    let css = add_css(
+        alloc,
+        lines,
+        &mut pages.css,
+        all,
+        property,
+        typed,
+        links,
+        cfg,
+    )?;
+    let android = add_android(
+        alloc,
+        lines,
+        &mut pages.android,
+        all,
+        identifier,
+        typed,
+        cfg,
+    )?;
+    let swift = add_swift(
+        alloc,
+        lines,
+        &mut pages.swift,
+        all,
+        identifier,
+        &android,
+        typed,
+        cfg,
+    )?;
+    let json = add_json(lines, &mut pages.json, path, typed, &extras)?;
+    Ok(Row::Unbroken(Fragments {
+        css,
+        android: android.shown,
+        swift,
+        json,
+    }))
 }
 
 // What a token comes to whose references break no rule.
-fn resolved_cell<'s>(
+fn resolved_row<'s>(
     alloc: Global,
     drafts: &mut Drafts,
+    pages: &mut OpenPages,
     path: &Path<'s>,
     entry: &Entry<'s>,
     resolved: &Resolved<'s>,
     cfg: &Config,
-) -> Result<SharedCell<'s>, NoMemory>
-    ensures { IfOk result (λ c. (flat : FlatTree) → map.get flat path.now ≡ Some entry.now
-        → IsResolved flat path.now resolved.now → IsCell flat cfg.now path.now c) }
+) -> Result<Row<'s>, NoMemory>
+    ensures { (flat : FlatTree) → map.get flat path.now ≡ Some entry.now
+        → IsResolved flat path.now resolved.now
+        → IfOk result (ComesTo (IsCell flat cfg.now path.now) pages.old pages.new) }
 {
     match check(alloc, resolved.kind, &resolved.plain) {
-        Ok(typed) => {
-            let fragments = made(alloc, drafts, path, entry, resolved, &typed, cfg)?;
-            SharedCell::made(alloc, fragments)
-        }
+        Ok(typed) => made(alloc, drafts, pages, path, entry, resolved, &typed, cfg),
         Err(ValueFault::Broken { rule, trail }) => refused_value(alloc, path, rule, trail),
         Err(ValueFault::NoMemory) => Err(NoMemory),
     }
 }
 
-/// What a token comes to that is at hand: the flat tree holds it under the path. Its lines are made in
-/// the drafts, whatever they hold. Else as [`cell`].
-pub(crate) fn cell_of_entry<'s, N: Ledger>(
+/// What a token comes to that is at hand: the flat tree holds it under the path. What it gives is added to the pages; its
+/// lines are made in the drafts, whatever they hold. Else as [`cell`].
+pub(crate) fn row_of_entry<'s, N: Ledger>(
     alloc: Global,
     drafts: &mut Drafts,
+    pages: &mut OpenPages,
     flat: &Flat<'s>,
     path: &Path<'s>,
     entry: &Entry<'s>,
     cfg: &Config,
     evals: &mut Steps<N>,
-) -> Result<SharedCell<'s>, NoMemory>
+) -> Result<Row<'s>, NoMemory>
     requires token { map.get flat.now path.now ≡ Some entry.now }
     ensures step { evals.new ≡ evals.old + 1 }
-    ensures cell { IfOk result (IsCell flat.now cfg.now path.now) }
+    ensures row { IfOk result (ComesTo (IsCell flat.now cfg.now path.now) pages.old pages.new) }
 {
     match evaluate_entry(alloc, flat, path, entry, evals) {
-        Ok(resolved) => resolved_cell(alloc, drafts, path, entry, &resolved, cfg),
+        Ok(resolved) => resolved_row(alloc, drafts, pages, path, entry, &resolved, cfg),
         Err(RefFault::Broken { rule, place, ring }) => {
             let rule = CellRule::Ref(rule);
-            SharedCell::refused(alloc, Refusal { rule, place, ring })
+            refused(alloc, Refusal { rule, place, ring })
         }
         Err(RefFault::NoMemory) => Err(NoMemory),
     }
 }
 
-/// What the token of a path comes to under a configuration: what it gives to each platform, or the first rule that it
-/// breaks, of its references, then of its kind, then of its value. The flat tree holds the path. One step of `evals`.
+/// What the token of a path comes to under a configuration, alone: what it gives to each platform, or the first rule that
+/// it breaks, of its references, then of its kind, then of its value. The flat tree holds the path. One step of `evals`.
 pub fn cell<'s, N: Ledger>(
     alloc: Global,
     flat: &Flat<'s>,
     path: &Path<'s>,
     cfg: &Config,
     evals: &mut Steps<N>,
-) -> Result<SharedCell<'s>, NoMemory>
+) -> Result<Cells<'s>, NoMemory>
     requires token { (f : Flattened) × (map.get flat.now path.now ≡ Some f) }
     ensures step { evals.new ≡ evals.old + 1 }
-    ensures cell { IfOk result (IsCell flat.now cfg.now path.now) }
+    ensures cell { IfOk result (λ cells. (c : TokenCell)
+        × (cells ≡ c ∷ []) × IsCell flat.now cfg.now path.now c) }
 {
     let Some(entry) = flat.get(path) else {
         unreachable!();
     };
+    let Ok(mut pages) = OpenPages::new(alloc, 1) else {
+        evals.tick();
+        return Err(NoMemory);
+    };
     let mut drafts = Drafts::new(alloc);
-    cell_of_entry(alloc, &mut drafts, flat, path, entry, cfg, evals)
+    let mut rows = Vec::new(alloc);
+    let row = row_of_entry(
+        alloc,
+        &mut drafts,
+        &mut pages,
+        flat,
+        path,
+        entry,
+        cfg,
+        evals,
+    )?;
+    rows.push(row)?;
+    Cells::new(pages, rows)
 }

@@ -5,11 +5,13 @@ ghost use Rattle.std.specs.List.{zip};
 ghost use Rattle.refusals.specs.Refusal.{report, report_text};
 ghost use Rattle.token_cells.specs.Cell.{token_break};
 ghost use Rattle.token_cells.specs.Breaks.{place_span, token_report, cell_reports, names_on, clash_report, clashes_on, name_clashes, token_reports, verdict_text};
-ghost use Rattle.token_cells.specs.View.{cells_view};
+ghost use Rattle.token_cells.specs.inner.Kept.{row_view, rows_view, texts_of};
 ghost use Rattle.transforms.specs.Clash.{first_taken, Leaves};
 
-use crate::names::{all_names, are_named_alike, push_names};
-use crate::shared_cell::{Refusal, SharedCell};
+use crate::cells::Cells;
+use crate::names::{all_names, all_rise, are_named_alike, push_names};
+use crate::pages::Pages;
+use crate::row::{Refusal, Row};
 use alias_ref::span_of;
 use file_plan::Files;
 use group_inherit::{Entry, FileSpan, Flat};
@@ -67,13 +69,14 @@ fn first_refused<'s>(
     files: &Files<'s>,
     flat: &Flat<'s>,
     tokens: &[(Path<'s>, Entry<'s>)],
-    cells: &[SharedCell<'s>],
+    pages: &Pages,
+    rows: &[Row<'s>],
 ) -> Result<Option<Bytes>, NoMemory>
     ensures { IfOk result (λ text. text ≡ verdict_text files.now
-        (flat_map (cell_reports flat.now) (zip tokens.now (cells_view cells.now)))) }
+        (flat_map (cell_reports flat.now) (zip tokens.now (rows_view (texts_of pages.now) rows.now)))) }
 {
-    for (token, cell) in tokens.iter().zip(cells) {
-        if let Some(refusal) = cell.refusal() {
+    for (token, row) in tokens.iter().zip(rows) {
+        if let Row::Broken(refusal) = row {
             let text = token_text(alloc, files, flat, &token.0, refusal)?;
             return Ok(Some(text));
         }
@@ -87,15 +90,16 @@ fn add_names<'s>(
     clash: &mut Clash<'s>,
     platform: Platform,
     path: &Path<'s>,
-    cell: &SharedCell<'s>,
+    pages: &Pages,
+    row: &Row<'s>,
 ) -> Result<Option<Path<'s>>, NoMemory>
     ensures answer { IfOk result (λ other. other
-        ≡ first_taken clash.old (names_on platform cell.now)) }
-    ensures leaves { IfOk result
-        (Leaves clash.old (names_on platform cell.now) path.now clash.new) }
+        ≡ first_taken clash.old (names_on platform (row_view (texts_of pages.now) row.now))) }
+    ensures leaves { IfOk result (Leaves clash.old
+        (names_on platform (row_view (texts_of pages.now) row.now)) path.now clash.new) }
 {
     let mut names = Vec::new(alloc);
-    push_names(platform, cell, &mut names)?;
+    push_names(platform, pages, row, &mut names)?;
     clash.add(path, names.as_slice())
 }
 
@@ -133,14 +137,15 @@ fn told_clash<'s>(
     files: &Files<'s>,
     platform: Platform,
     tokens: &[(Path<'s>, Entry<'s>)],
-    cells: &[SharedCell<'s>],
+    pages: &Pages,
+    rows: &[Row<'s>],
 ) -> Result<Option<Bytes>, NoMemory>
     ensures { IfOk result (λ text. text ≡ verdict_text files.now
-        (clashes_on platform (zip tokens.now (cells_view cells.now)))) }
+        (clashes_on platform (zip tokens.now (rows_view (texts_of pages.now) rows.now)))) }
 {
     let mut clash = Clash::new(alloc);
-    for (token, cell) in tokens.iter().zip(cells) {
-        if let Some(other) = add_names(alloc, &mut clash, platform, &token.0, cell)? {
+    for (token, row) in tokens.iter().zip(rows) {
+        if let Some(other) = add_names(alloc, &mut clash, platform, &token.0, pages, row)? {
             let text = clash_text(alloc, files, platform, &token.0, &token.1, &other)?;
             return Ok(Some(text));
         }
@@ -154,16 +159,20 @@ fn first_clash<'s>(
     files: &Files<'s>,
     platform: Platform,
     tokens: &[(Path<'s>, Entry<'s>)],
-    cells: &[SharedCell<'s>],
+    pages: &Pages,
+    rows: &[Row<'s>],
 ) -> Result<Option<Bytes>, NoMemory>
     ensures { IfOk result (λ text. text ≡ verdict_text files.now
-        (clashes_on platform (zip tokens.now (cells_view cells.now)))) }
+        (clashes_on platform (zip tokens.now (rows_view (texts_of pages.now) rows.now)))) }
 {
-    let names = all_names(alloc, platform, cells)?;
+    if all_rise(platform, pages, rows) {
+        return Ok(None);
+    }
+    let names = all_names(alloc, platform, pages, rows)?;
     if are_apart(names)? {
         return Ok(None);
     }
-    told_clash(alloc, files, platform, tokens, cells)
+    told_clash(alloc, files, platform, tokens, pages, rows)
 }
 
 // The same on CSS, then on Android, then in Swift, where names that are all those on Android have no clash of their own.
@@ -171,21 +180,22 @@ fn first_name_clash<'s>(
     alloc: Global,
     files: &Files<'s>,
     tokens: &[(Path<'s>, Entry<'s>)],
-    cells: &[SharedCell<'s>],
+    pages: &Pages,
+    rows: &[Row<'s>],
 ) -> Result<Option<Bytes>, NoMemory>
     ensures { IfOk result (λ text. text ≡ verdict_text files.now
-        (name_clashes (zip tokens.now (cells_view cells.now)))) }
+        (name_clashes (zip tokens.now (rows_view (texts_of pages.now) rows.now)))) }
 {
-    if let Some(text) = first_clash(alloc, files, Platform::Css, tokens, cells)? {
+    if let Some(text) = first_clash(alloc, files, Platform::Css, tokens, pages, rows)? {
         return Ok(Some(text));
     }
-    if let Some(text) = first_clash(alloc, files, Platform::Android, tokens, cells)? {
+    if let Some(text) = first_clash(alloc, files, Platform::Android, tokens, pages, rows)? {
         return Ok(Some(text));
     }
-    if are_named_alike(cells) {
+    if are_named_alike(rows) {
         return Ok(None);
     }
-    first_clash(alloc, files, Platform::Swift, tokens, cells)
+    first_clash(alloc, files, Platform::Swift, tokens, pages, rows)
 }
 
 /// What is printed of the verdict of tokens: of the first that breaks a rule, or else of the first that has a name of an
@@ -194,13 +204,15 @@ pub fn verdict_text<'s>(
     alloc: Global,
     files: &Files<'s>,
     flat: &Flat<'s>,
-    cells: &[SharedCell<'s>],
+    cells: &Cells<'s>,
 ) -> Result<Option<Bytes>, NoMemory>
     ensures { IfOk result (λ text. text ≡ verdict_text files.now
-        (token_reports flat.now (zip (map.entries flat.now) (cells_view cells.now)))) }
+        (token_reports flat.now (zip (map.entries flat.now) cells.now))) }
 {
-    if let Some(text) = first_refused(alloc, files, flat, flat.as_slice(), cells)? {
+    let tokens = flat.as_slice();
+    let (rows, pages) = cells.parts();
+    if let Some(text) = first_refused(alloc, files, flat, tokens, pages, rows)? {
         return Ok(Some(text));
     }
-    first_name_clash(alloc, files, flat.as_slice(), cells)
+    first_name_clash(alloc, files, tokens, pages, rows)
 }

@@ -15,4 +15,5 @@ pub mod RunsAreFirst
 pub mod ScaledAreWritten
 mod SortedNames
 mod RisingNames
+mod Risen
 mod TextEnds

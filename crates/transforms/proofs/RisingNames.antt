@@ -7,7 +7,7 @@ use Rattle.std.specs.FinMap.{nat_cmp-IsAntisymmetric}
 use Rattle.std.proofs.lemmas.Cmp.{tied_itself}
 use Rattle.ring.specs.Lists.{In, AreApart}
 use Rattle.tk_io.specs.Order.{text_cmp}
-use Rattle.transforms.specs.inner.Rising.{rank, rises}
+use Rattle.transforms.specs.Rising.{rank, rises}
 use Rattle.transforms.proofs.SortedNames as sorted
 
 module _ {A B C : Type 0} (name : A → B) (ranked : B → C) where

@@ -29,7 +29,7 @@ apart_moved xs ys moved apart =
 pub rising_apart : (names : List (List ℕ)) → ((k : ℕ) → k + 1 < length names → text_cmp (get_or names k []) (get_or names (k + 1) []) ≡ Less) → AreApart names
 rising_apart names rise = places_apart names (AllPairs-from_IsDistinct same names (IsDistinct-from_sorted text_cmp names (sorted_from_all_adjacent nat_list_cmp_total names [] rise)))
 
-less : (r : Ordering) → true ≡ is_lt r → r ≡ Less
+pub less : (r : Ordering) → true ≡ is_lt r → r ≡ Less
 less Less e = refl
 less Equal e = cc
 less Greater e = cc

@@ -6,7 +6,9 @@ pub mod Quoted
 pub mod Runs
 pub mod Scaling
 pub mod Frag
+pub mod Extent
 pub mod Sheet
+pub mod Rising
 pub mod Clash
 pub mod View
 pub mod inner

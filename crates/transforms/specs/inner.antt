@@ -4,4 +4,3 @@ pub mod Elsewhere
 pub mod Unread
 pub mod Held
 pub mod Ends
-pub mod Rising

@@ -2,7 +2,7 @@
 
 ghost use Rattle.std.specs.Prelude.{◌≡◌, Decides, IfOk, map};
 ghost use Rattle.ring.specs.Lists.{AreApart};
-ghost use Rattle.transforms.specs.inner.Rising.{rank, rises};
+ghost use Rattle.transforms.specs.Rising.{rank, rises};
 
 use tk_io::NoMemory;
 
@@ -16,8 +16,8 @@ fn rank(byte: u8) -> u8
     }
 }
 
-// Whether the next name stands behind the name in the order of these ranks.
-fn rises(name: &[u8], next: &[u8]) -> bool
+/// Whether the next name stands behind the name in the order of these ranks.
+pub(crate) fn rises(name: &[u8], next: &[u8]) -> bool
     ensures { result ≡ rises name.now next.now }
 {
     for (byte, other) in name.iter().zip(next) {

@@ -7,18 +7,20 @@ ghost use Rattle.transforms.specs.FiveNames.{FiveNamesDiffer};
 ghost use Rattle.transforms.specs.Hexadecimal.{NumbersReadBack};
 ghost use Rattle.transforms.specs.PlatformName.{EndingsStay, PathsAreNamed};
 ghost use Rattle.transforms.specs.Quoted.{QuotedReadsBack, QuotedReadsOn};
+ghost use Rattle.transforms.specs.Rising.{RisingAreApart};
 ghost use Rattle.transforms.specs.Runs.{NumbersPass, NumbersStart, RunsAreFirst};
 ghost use Rattle.transforms.specs.Scaling.{ScaledAreWritten};
 ghost use Rattle.transforms.specs.Sheet.{PlainFramesJoin};
 
 /// Where tokens are added one after another and no clash is answered, no token has a name of an earlier one. What is there
 /// then are the names of the tokens, each under the path of its token. All names are apart, where the names of each token
-/// are and no two tokens share one.
+/// are and no two tokens share one. Names that rise are apart.
 pub fn clash_laws()
     ensures apart { TokenNamesApart }
     ensures there { NamesAreThere }
     ensures tokens { NamesComeFromTokens }
     ensures all { AllNamesApart }
+    ensures rising { RisingAreApart }
 {}
 
 /// What a text says, and the settings of no text, are settings that a configuration can have.

@@ -1,10 +1,13 @@
 // Sheets of fragments.
 
 ghost use Rattle.std.specs.Prelude.{◌≡◌, [], IfOk, OnOk, OnErr};
+ghost use Rattle.tk_io.specs.Writing.{Extends};
+ghost use Rattle.transforms.specs.Extent.{EndsWith};
 ghost use Rattle.transforms.specs.Sheet.{Holds, Gains, IsSheetText};
 ghost use Rattle.transforms.specs.View.{frame_view};
-ghost use Rattle.transforms.specs.inner.Growing.{OnlyTextGrows};
+ghost use Rattle.transforms.specs.inner.Growing.{behind_glue, OnlyTextGrows};
 
+use crate::Extent;
 use std::alloc::Global;
 use std::marker::Model;
 use tk_io::{Bytes, NoMemory};
@@ -51,32 +54,57 @@ impl Sheet {
         })
     }
 
-    fn append_glued(&mut self, body: &[u8]) -> Result<(), NoMemory>
-        ensures ok { OnOk result (Gains self.old self.new body.now) }
-        ensures err { OnErr result (OnlyTextGrows self.old self.new) }
+    // The glue, where a body stands before it.
+    fn append_glue(&mut self) -> Result<(), NoMemory>
+        ensures ok { OnOk result (self.new ≡ behind_glue self.old) }
+        ensures err { OnErr result (self.new ≡ self.old) }
     {
-        if self.has_body {
-            self.text.append(self.frame.glue)?;
+        if !self.has_body || self.frame.glue.is_empty() {
+            return Ok(());
         }
-        self.text.append(body)?;
-        self.has_body = true;
-        Ok(())
+        self.text.append(self.frame.glue)
     }
 
-    /// Adds the body at the end, after the glue where there is a body before it. Where memory runs out the sheet stays.
-    pub fn add_body(&mut self, body: &[u8]) -> Result<(), NoMemory>
+    // The body behind the glue. Where memory runs out, the glue may stay.
+    fn append_glued(&mut self, body: &[u8]) -> Result<Extent, NoMemory>
         ensures ok { OnOk result (Gains self.old self.new body.now) }
+        ensures there { IfOk result
+            (λ extent. EndsWith self.old.text body.now extent self.new.text) }
+        ensures err { OnErr result (OnlyTextGrows self.old self.new) }
+    {
+        self.append_glue()?;
+        let Some(extent) = Extent::from(self.text.len(), body.len()) else {
+            return Err(NoMemory);
+        };
+        self.text.append(body)?;
+        self.has_body = true;
+        Ok(extent)
+    }
+
+    /// Adds the body at the end, after the glue where there is a body before it, and says where it stands. Where memory
+    /// runs out the sheet stays; it has less than 4 GiB.
+    pub fn add_body(&mut self, body: &[u8]) -> Result<Extent, NoMemory>
+        ensures ok { OnOk result (Gains self.old self.new body.now) }
+        ensures there { IfOk result
+            (λ extent. EndsWith self.old.text body.now extent self.new.text) }
         ensures err { OnErr result (self.new ≡ self.old) }
     {
         let start = self.text.len();
-        let appended = self.append_glued(body);
-        self.text.all_or_nothing(start, appended)
+        match self.append_glued(body) {
+            Ok(extent) => Ok(extent),
+            Err(NoMemory) => {
+                self.text.truncate(start);
+                Err(NoMemory)
+            }
+        }
     }
 
     /// The bytes of the sheet: the head, the bodies with the glue between, `last` where there is a body, and the tail. Where
     /// memory runs out nothing is handed back.
     pub fn finish(self) -> Result<Bytes, NoMemory>
-        ensures { IfOk result (IsSheetText self) }
+        ensures sheet { IfOk result (IsSheetText self) }
+        // What stood in it stands there still.
+        ensures grows { IfOk result (Extends self.text) }
     {
         let mut text = self.text;
         if self.has_body {

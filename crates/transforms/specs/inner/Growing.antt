@@ -1,5 +1,5 @@
 -- Sheets whose text grows before they have a further body.
-use Rattle.std.specs.Prelude.{◌≡◌}
+use Rattle.std.specs.Prelude.{◌≡◌, ◌++◌, [], if◌then◌else◌}
 use Rattle.tk_io.specs.Writing.{Extends}
 use Rattle.transforms.specs.Sheet.{OpenSheet}
 
@@ -8,3 +8,7 @@ pub record OnlyTextGrows (before after : OpenSheet) : Type 0 where
   pub frame : after.frame ≡ before.frame
   pub text : Extends before.text after.text
   pub has_body : after.has_body ≡ before.has_body
+
+-- the sheet before a further body: with the glue, where a body stands before it
+abbrev pub behind_glue : OpenSheet → OpenSheet
+behind_glue s = record { frame = s.frame; text = s.text ++ (if s.has_body then s.frame.glue else []); has_body = s.has_body }

@@ -2,9 +2,10 @@
 use Rattle.std.proofs.Common.{◌≡◌, drop, map}
 use Rattle.transforms.specs.declared.platform.Platform.TheVariants.{Android, Swift}
 use Rattle.token_cells.specs.Breaks.{names_on}
+use Rattle.token_cells.specs.inner.Kept.{PageTexts, rows_view}
 use Rattle.token_cells.proofs.names.are_named_alike.Given as goal
 
-abbrev pub invariant-loop-cell : goal.invariant-loop-cell
-invariant-loop-cell l =
-    map (names_on Swift) (drop l.cell-index l.cells) ≡ map (names_on Android) (drop l.cell-index l.cells)
-    → map (names_on Swift) l.cells ≡ map (names_on Android) l.cells
+abbrev pub invariant-loop-row : goal.invariant-loop-row
+invariant-loop-row l =
+    (pages : PageTexts) → map (names_on Swift) (rows_view pages (drop l.row-index l.rows)) ≡ map (names_on Android) (rows_view pages (drop l.row-index l.rows))
+    → map (names_on Swift) (rows_view pages l.rows) ≡ map (names_on Android) (rows_view pages l.rows)

@@ -1,7 +1,10 @@
-use Rattle.token_cells.proofs.Bodies.{more_bodies}
+use Rattle.std.proofs.Common.{◌≡◌, ◌∙◌}
+use Rattle.std.proofs.lemmas.Result.{IfOk-weaker}
+use Rattle.token_cells.specs.Sheets.{sheet_for}
+use Rattle.token_cells.proofs.Growing.{page_is}
 use Rattle.token_cells.proofs.sheet.sheet_of.Goals as goal
 
-pub loop-cell-preserved : goal.loop-cell-preserved
-loop-cell-preserved c =
-    more_bodies c.args.format c.add_body.new.sheet c.args.cells.now c.loop-cell.cell-index c.cell-item.result c.loop-cell-test.true c.cell-item.is
-    (c.in_ok-add_body.ensures _ _ c.loop-cell.invariant)
+pub returns : goal.returns
+returns c =
+    IfOk-weaker c.share.result _ (λ b. b ≡ sheet_for c.args.format c.args.cells.now)
+    (λ b is. is ∙ (c.page.ensures ∙ page_is c.args.format c.parts.result.1.now c.args.cells.now c.parts.ensures.pages)) c.share.ensures

@@ -1,7 +1,7 @@
 use Rattle.std.proofs.Common.{rules, subst, ◌≡◌, Bor, List, ℕ, refl}
 use Rattle.std.proofs.lemmas.List.Sorted.{answers_always}
 use Rattle.std.specs.List.{IsAllAdjacentAnswer}
-use Rattle.transforms.specs.inner.Rising.{rises}
+use Rattle.transforms.specs.Rising.{rises}
 use Rattle.transforms.proofs.RisingNames.{rising_names}
 use Rattle.transforms.proofs.apart.are_apart.Goals as goal
 

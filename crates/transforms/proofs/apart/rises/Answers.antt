@@ -1,5 +1,5 @@
 use Rattle.std.proofs.Common.{◌≡◌, nat_lt, length, inl, inr}
-use Rattle.transforms.specs.inner.Rising.{rises}
+use Rattle.transforms.specs.Rising.{rises}
 use Rattle.transforms.proofs.RisingNames.{first_ended, second_ended}
 use Rattle.transforms.proofs.apart.rises.Goals as goal
 

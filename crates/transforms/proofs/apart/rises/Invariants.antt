@@ -2,7 +2,7 @@
 use Rattle.std.proofs.Common.{◌≡◌, ◌+◌, length}
 use Rattle.std.specs.Iterator.Adapters.{zip_first, zip_second}
 use Rattle.std.specs.Slice.Iter.{iter_rest}
-use Rattle.transforms.specs.inner.Rising.{rises}
+use Rattle.transforms.specs.Rising.{rises}
 use Rattle.transforms.proofs.apart.rises.Given as goal
 
 abbrev pub invariant-loop-byte : goal.invariant-loop-byte

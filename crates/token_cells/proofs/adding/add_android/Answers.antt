@@ -1,0 +1,23 @@
+use Rattle.std.proofs.Common.{ap, ◌∙◌}
+use Rattle.transforms.specs.Frag.{Frag}
+use Rattle.token_cells.specs.declared.row.Shown.{Shown}
+use Rattle.android_out.specs.Element.{value_names}
+use Rattle.android_out.specs.PlatformValue.{android_values}
+use Rattle.android_out.specs.Spelling.{body_text}
+use Rattle.token_cells.proofs.Growing.{adds_frag}
+use Rattle.token_cells.proofs.adding.add_android.Goals as goal
+
+pub returns-clause-added : goal.returns-clause-added
+returns-clause-added c = λ path is named.
+    let frag : Frag = record { names = c.in_ok-names.names; body = c.fragment.new.draft } in
+    let shown : Shown = record { lines = c.in_ok-add_body.field-0; names = c.in_ok-push_names.field-0 } in (
+      frag,
+      record {
+        names = c.in_ok-names.ensures.names ∙ ap (λ name. value_names (android_values c.args.cfg.now name c.args.typed.now)) is;
+        body = c.in_ok-names.ensures.body ∙ ap (λ name. body_text name (android_values c.args.cfg.now name c.args.typed.now)) is;
+        base = c.in_ok-names.ensures.base;
+        named = named;
+      },
+      adds_frag c.args.sheet.now c.add_body.new.self c.args.all.now c.push_names.new.all shown frag c.as_slice.result.now c.as_slice.ensures
+          c.in_ok-add_body.ensures.ok c.in_ok-add_body.ensures.there c.in_ok-push_names.ensures,
+    )

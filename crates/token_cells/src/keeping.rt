@@ -1,0 +1,138 @@
+//! Adding what a token gave to other files, where it gives the same again.
+
+ghost use Rattle.std.specs.Prelude.{◌≡◌, ◌++◌, IfOk, OnOk, slice_range};
+ghost use Rattle.transforms.specs.Extent.{text_in};
+ghost use Rattle.token_cells.specs.inner.Kept.{fragment_in, fragments_view, kept_view, texts_of};
+ghost use Rattle.token_cells.specs.inner.Growing.{AddsNames, AddsFrag, AddsBody, AddsRow, AreNamesAt};
+
+use crate::adding::place;
+use crate::pages::{OpenPages, Pages};
+use crate::row::{Fragments, Row, Run, Shown};
+use tk_io::{Body, NoMemory};
+use transforms::{Extent, Sheet, Texts};
+
+/// A row of other files.
+#[derive(Clone, Copy, Debug)]
+pub(crate) struct Kept<'a, 's> {
+    pub(crate) row: &'a Row<'s>,
+    pub(crate) pages: &'a Pages,
+}
+
+fn copy_names(all: &mut Texts, others: &Texts, run: Run) -> Result<(), NoMemory>
+    ensures { OnOk result (all.new ≡ all.old ++ slice_range others.now run.start run.end) }
+{
+    for i in run.start..run.end {
+        let Some(name) = others.at(i as usize) else {
+            return Ok(());
+        };
+        all.push(name)?;
+    }
+    Ok(())
+}
+
+// Adds the names of the run, and says where they stand.
+fn keep_names(all: &mut Texts, others: &Texts, run: Run) -> Result<Run, NoMemory>
+    ensures { IfOk result (λ own. AddsNames
+        all.old all.new own (slice_range others.now run.start run.end)) }
+{
+    let start = place(all.len())?;
+    copy_names(all, others, run)?;
+    let end = place(all.len())?;
+    Ok(Run { start, end })
+}
+
+// Adds the lines that stand there.
+fn keep_lines(sheet: &mut Sheet, page: &Body, lines: Extent) -> Result<Extent, NoMemory>
+    ensures { IfOk result (λ own. AddsBody sheet.old sheet.new own (text_in page.now lines)) }
+{
+    sheet.add_body(lines.text(page.as_slice()))
+}
+
+// Adds what a token gives to a platform.
+fn keep_shown(
+    sheet: &mut Sheet,
+    all: &mut Texts,
+    page: &Body,
+    names: &Texts,
+    shown: Shown,
+) -> Result<Shown, NoMemory>
+    ensures { IfOk result (λ own. AddsFrag sheet.old sheet.new all.old all.new own
+        (fragment_in page.now names.now shown)) }
+{
+    Ok(Shown {
+        lines: keep_lines(sheet, page, shown.lines)?,
+        names: keep_names(all, names, shown.names)?,
+    })
+}
+
+// Adds the names in Swift, unless they are those on Android, and says where they stand.
+fn keep_swift_names(
+    all: &mut Texts,
+    names: &Texts,
+    android: Run,
+    swift: Run,
+    run: Run,
+) -> Result<Run, NoMemory>
+    requires { AreNamesAt all.old run (slice_range names.now android.start android.end) }
+    ensures { IfOk result (λ own. AddsNames
+        all.old all.new own (slice_range names.now swift.start swift.end)) }
+{
+    if android.start == swift.start && android.end == swift.end {
+        return Ok(run);
+    }
+    keep_names(all, names, swift)
+}
+
+fn keep_fragments(
+    pages: &mut OpenPages,
+    others: &Pages,
+    fragments: &Fragments,
+) -> Result<Fragments, NoMemory>
+    ensures { IfOk result (λ own. AddsRow pages.old pages.new (Row.Unbroken own)
+        (fragments_view (texts_of others.now) fragments.now)) }
+{
+    let names = &others.names;
+    let all = &mut pages.names;
+    let css = keep_shown(&mut pages.css, all, &others.css, names, fragments.css)?;
+    let android = keep_shown(
+        &mut pages.android,
+        all,
+        &others.android,
+        names,
+        fragments.android,
+    )?;
+    let swift = Shown {
+        lines: keep_lines(&mut pages.swift, &others.swift, fragments.swift.lines)?,
+        names: keep_swift_names(
+            all,
+            names,
+            fragments.android.names,
+            fragments.swift.names,
+            android.names,
+        )?,
+    };
+    Ok(Fragments {
+        css,
+        android,
+        swift,
+        json: keep_lines(&mut pages.json, &others.json, fragments.json)?,
+    })
+}
+
+impl<'a, 's> Kept<'a, 's> {
+    /// Adds what the token gives to other files, and says where it stands there.
+    pub(crate) fn add_to(&self, pages: &mut OpenPages) -> Result<Row<'s>, NoMemory>
+        ensures { IfOk result (λ row. AddsRow pages.old pages.new row (kept_view self.now)) }
+    {
+        match self.row {
+            Row::Broken(refusal) => {
+                let refusal = refusal.clone()?;
+                Ok(Row::Broken(refusal))
+            }
+            Row::Unbroken(fragments) => {
+                let fragments = keep_fragments(pages, self.pages, fragments)?;
+                Ok(Row::Unbroken(fragments))
+            }
+        }
+    }
+}
