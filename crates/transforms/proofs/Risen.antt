@@ -3,15 +3,15 @@ use Rattle.std.proofs.Common.{◌≡◌, ℕ, zero, suc, ◌+◌, ◌<◌, true,
 use Rattle.std.proofs.lemmas.List.{map-id}
 use Rattle.ring.specs.Lists.{AreApart}
 use Rattle.tk_io.specs.Order.{text_cmp}
-use Rattle.transforms.specs.Rising.{rank, rises, AllRise, RiseTo, RisingAreApart}
+use Rattle.transforms.specs.Rising.{rank, stands_behind, AllRise, RiseTo, RisingAreApart}
 use Rattle.transforms.proofs.RisingNames.{apart_by_rank}
 use Rattle.transforms.proofs.SortedNames.{less, rising_apart}
 
 -- one name more, which stands behind the last
-pub risen : (names : List (List ℕ)) (last : Option (List ℕ)) (name : List ℕ) → RiseTo names last → ((other : List ℕ) → last ≡ Some other → rises other name ≡ true)
+pub risen : (names : List (List ℕ)) (last : Option (List ℕ)) (name : List ℕ) → RiseTo names last → stands_behind last name ≡ true
     → RiseTo (names ++ name ∷ []) (Some name)
 risen [] last name rise behind = record { rise = tt; last_is = refl }
-risen (first ∷ []) last name rise behind = record { rise = (behind first (sym rise.last_is), tt); last_is = refl }
+risen (first ∷ []) last name rise behind = record { rise = (subst (λ l. stands_behind l name ≡ true) (sym rise.last_is) behind, tt); last_is = refl }
 risen (first ∷ next ∷ names) last name rise behind =
     let rest = risen (next ∷ names) last name (record { rise = rise.rise.1; last_is = rise.last_is }) behind in
     record { rise = (rise.rise.0, rest.rise); last_is = rest.last_is }

@@ -25,6 +25,11 @@ last_of [] = None
 last_of (name ∷ []) = Some name
 last_of (name ∷ next ∷ names) = last_of (next ∷ names)
 
+-- the name stands behind the last one, where there is one
+abbrev pub stands_behind : Option (List ℕ) → List ℕ → Bool
+stands_behind None name = true
+stands_behind (Some last) name = rises last name
+
 -- the names rise, and this is the last of them
 pub record RiseTo (names : List (List ℕ)) (last : Option (List ℕ)) : Type 0 where
   pub rise : AllRise names

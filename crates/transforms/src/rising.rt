@@ -1,7 +1,7 @@
-// Names that rise.
+//! Names that rise.
 
-ghost use Rattle.std.specs.Prelude.{◌≡◌, ◌++◌, ◌∷◌, [], true, List, ℕ, Some, option_map};
-ghost use Rattle.transforms.specs.Rising.{rises, RiseTo};
+ghost use Rattle.std.specs.Prelude.{◌≡◌, ◌++◌, ◌∷◌, [], true, List, ℕ, Some, option_map, if◌then◌else◌};
+ghost use Rattle.transforms.specs.Rising.{stands_behind, RiseTo};
 
 use crate::apart::rises;
 use std::marker::Model;
@@ -23,8 +23,7 @@ impl<'a> Model for Rising<'a> {
 
 // Whether the name stands behind the last one, where there is one.
 fn is_behind(last: Option<&[u8]>, name: &[u8]) -> bool
-    ensures { (other : List ℕ) → option_map (λ l. l.now) last.entry ≡ Some other
-        → result ≡ true → rises other name.now ≡ true }
+    ensures { result ≡ stands_behind (option_map (λ l. l.now) last.entry) name.now }
 {
     match last {
         Some(last) => rises(last, name),
@@ -40,9 +39,13 @@ impl<'a> Rising<'a> {
         Rising { last: None }
     }
 
-    /// Whether the name stands behind the last one, whose place it takes then.
+    /// Whether the name stands behind the last one, where there is one. It takes its place then, and is passed over else.
     pub fn add(&mut self, name: &'a [u8]) -> bool
-        ensures { (names : List (List ℕ)) → RiseTo names self.old → result ≡ true
+        ensures answer { result ≡ stands_behind self.old name.now }
+        ensures last { self.new
+            ≡ (if stands_behind self.old name.now then Some name.now else self.old) }
+        // So that names which rose do so with it.
+        ensures names { (names : List (List ℕ)) → RiseTo names self.old → result ≡ true
             → RiseTo (names ++ name.now ∷ []) self.new }
     {
         if !is_behind(self.last, name) {

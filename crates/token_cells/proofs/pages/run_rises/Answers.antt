@@ -11,7 +11,7 @@ loop-i-preserved c = λ names rise.
     let (so_far, risen, is) = c.loop-i.invariant names rise in
     let name = c.in-Some.name.now in (
       so_far ++ name ∷ [],
-      c.add.ensures so_far risen c.if-not-add.false,
+      c.add.ensures.names so_far risen c.if-not-add.false,
       one_pushed so_far c.args.texts.now _ c.loop-i.i c.args.run.end name c.loop-i-test.true (sym c.in-Some.ensures) is,
     )
 

@@ -1,6 +1,9 @@
-use Rattle.std.proofs.Common.{◌∙◌}
+use Rattle.std.proofs.Common.{sym, ap, ◌∙◌}
+use Rattle.transforms.specs.Rising.{stands_behind}
 use Rattle.transforms.proofs.Risen.{risen}
 use Rattle.transforms.proofs.rising.Rising.add.Goals as goal
 
-pub returns : goal.returns
-returns c = λ names rise _. risen names c.args.self.now c.args.name.now rise (λ other is. c.is_behind.ensures other (c.self.view_is ∙ is) c.if-not-is_behind.false)
+pub returns-clause-names : goal.returns-clause-names
+returns-clause-names c = λ names rise _.
+    let name = c.args.name.now in
+    risen names c.args.self.now name rise (ap (λ l. stands_behind l name) (sym c.self.view_is) ∙ (sym c.is_behind.ensures ∙ c.if-not-is_behind.false))
