@@ -18,7 +18,6 @@ use Rattle.transforms.specs.Config.{Settings}
 use Rattle.transforms.specs.declared.config.ConfigFault.{ConfigFault}
 use Rattle.tk_io.specs.FilesData.{FilesData}
 use Rattle.token_cells.specs.Cell.{AreCells}
-use Rattle.token_cells.specs.View.{cells_view}
 use Rattle.token_cells.specs.TokenCell.{TokenCell}
 use Rattle.build_plain.specs.Breaks.{home_of}
 use Rattle.build_plain.specs.Out.{settings_of}
@@ -29,7 +28,7 @@ use Rattle.build_plain.specs.declared.parts.Parts.{Parts}
 -- a flat tree has cells, those of its tokens; a tree that breaks a rule has none
 abbrev pub AreCellsFor : Settings → Merge → Option (List TokenCell) → Type 0
 AreCellsFor settings (merge.Flat flat) None = ⊥
-AreCellsFor settings (merge.Flat flat) (Some cells) = AreCells flat settings (finite.entries flat) (cells_view cells)
+AreCellsFor settings (merge.Flat flat) (Some cells) = AreCells flat settings (finite.entries flat) cells
 AreCellsFor settings (merge.Broken fault) cells = cells ≡ None
 
 -- sources without a break come to what their merged tree comes to; nothing is kept of others

@@ -1,7 +1,6 @@
 pub mod TokenCell
 pub mod Cell
 pub mod Evaluated
-pub mod View
 pub mod Breaks
 pub mod Sheets
 pub mod Denotes

@@ -23,14 +23,13 @@ impl<'s> Model for Evaluated<'s> {
     ghost use Rattle.std.specs.FinMap as map;
     ghost use Rattle.std.specs.Coded.{codes};
     ghost use Rattle.token_cells.specs.Evaluated.{EvaluatedTree, coded_flat};
-    ghost use Rattle.token_cells.specs.View.{cells_view};
     ghost use Rattle.token_cells.specs.inner.Earlier.{AreLone};
 
     ghost Value = { EvaluatedTree };
 
     ghost coded = { Prim.hlevel (codes, coded_flat) };
 
-    ghost view = { λ e. record { tokens = e.tokens; cells = cells_view e.cells } };
+    ghost view = { λ e. record { tokens = e.tokens; cells = e.cells } };
 
     ghost invariant = { λ e. AreLone (map.entries e.tokens) e.lone.items };
 }
