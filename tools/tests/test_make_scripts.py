@@ -68,6 +68,12 @@ class Table(unittest.TestCase):
         told = {rule.decode() for row in self.rows for rule in MAKE.RULE.findall(row.stream)}
         self.assertEqual(told, RULES)
 
+    def test_values_are_refused_where_a_rule_is_told(self):
+        first = len(MAKE.script_cases.CASES)
+        cases = MAKE.value_cases.CASES
+        refused = [row.status == 1 for row in self.rows[first:first + len(cases)]]
+        self.assertEqual(refused, [it.rule is not None for it in cases])
+
     def test_what_else_the_streams_have(self):
         streams = b"".join(row.stream for row in self.rows)
         outputs = [b"/Tokens.swift ", b"/tokens.css ", b"/tokens.json ", b"/tokens.xml ", b"\nfile REFUSED ", b"\ngone REFUSED\n"]
@@ -76,7 +82,7 @@ class Table(unittest.TestCase):
         self.assertTrue(any(b"commit 4\n" in row.stream for row in self.rows))
 
     def test_the_size(self):
-        self.assertLess(len(read(TABLE)), 1_500_000)
+        self.assertLess(len(read(TABLE)), 2_500_000)
         self.assertLess(max(len(row.stream) for row in self.rows), 50_000)
 
     def test_streams_and_statuses_agree(self):

@@ -33,6 +33,16 @@ class Words(Room):
                 self.assertRegex(ran.err, r"\Ausage: tokc [^\n]+\n[^\n]*docs/MANUAL.md[^\n]*\n\Z")
         self.assertEqual(sorted(os.listdir(self.room)), ["tokc", "tokens"])
 
+    def test_the_program_without_what_stands_before_it(self):
+        """What it writes on each of its streams, and the number that it ends with."""
+        script = b'tokc-script 1\nput tokens.json 13\n{"a":1,"a":2}\ncommit\ncommit\n'
+        refused = "tokc-stream 1\ncommit 1\nfile default/REFUSED 64\nrule json-duplicate\nfile tokens.json\nline 1 column 8\nbytes 7 10\n\ncommit 2\ndone 2\n"
+        usage = "usage: tokc build | replay | stats | gen SEED SIZE\n"
+        for words, status, out, err in ((["replay"], 1, refused, ""), (["builds"], 2, "", usage)):
+            with self.subTest(words=words):
+                ran = run([PROGRAM, *words], script)
+                self.assertEqual((ran.status, ran.out, ran.err), (status, out, err))
+
     def test_a_build_that_fails(self):
         """Without sources the build fails, which is told with the end of its log, and with a status that the program has not."""
         shutil.copy(TOKC, self.at("tokc"))

@@ -12,8 +12,6 @@ mod refs;
 mod resolved;
 mod span;
 mod spot;
-#[cfg(test)]
-mod tests;
 mod trace;
 mod walking;
 

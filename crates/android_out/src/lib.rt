@@ -6,8 +6,6 @@ mod content;
 mod family;
 mod laws;
 mod line;
-#[cfg(test)]
-mod tests;
 mod typography;
 mod writing;
 

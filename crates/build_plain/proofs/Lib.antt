@@ -3,7 +3,6 @@ mod EachBuilds
 mod Gives
 mod Kept
 mod KeptParts
-mod NoParts
 mod OneOutputs
 mod OutputsStand
 mod Perm

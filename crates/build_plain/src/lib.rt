@@ -13,8 +13,6 @@ mod parts;
 mod permutation;
 mod planning;
 mod sources;
-#[cfg(test)]
-mod tests;
 
 pub use assembling::assemble;
 pub use building::build;

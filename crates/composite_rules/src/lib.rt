@@ -8,8 +8,6 @@ mod gradient;
 mod laws;
 mod shadow;
 mod stroke;
-#[cfg(test)]
-mod tests;
 mod transition;
 mod typed;
 mod typography;

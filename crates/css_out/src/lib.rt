@@ -10,8 +10,6 @@ mod line;
 mod links;
 mod spellable;
 mod spelling;
-#[cfg(test)]
-mod tests;
 mod token;
 mod typography;
 mod writing;

@@ -8,8 +8,6 @@ mod laws;
 mod plan;
 mod refusal;
 mod source;
-#[cfg(test)]
-mod tests;
 mod tree;
 
 pub use files::Files;

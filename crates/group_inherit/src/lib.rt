@@ -16,8 +16,6 @@ mod numbered;
 mod rings;
 mod sizes;
 mod targets;
-#[cfg(test)]
-mod tests;
 mod walking;
 
 pub use entry::Entry;

@@ -7,8 +7,6 @@ mod content;
 mod family;
 mod laws;
 mod line;
-#[cfg(test)]
-mod tests;
 mod typography;
 mod writing;
 

@@ -9,8 +9,6 @@
 mod extras;
 mod laws;
 mod spelling;
-#[cfg(test)]
-mod tests;
 mod texts;
 mod values;
 mod writing;

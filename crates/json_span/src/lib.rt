@@ -13,22 +13,14 @@ mod laws;
 mod names;
 mod node;
 mod node_ref;
-#[cfg(test)]
-mod objects;
 mod plain;
 mod reader;
 mod scan;
 mod skip;
-#[cfg(test)]
-mod spanned;
 mod stop;
 mod string;
 mod table;
-#[cfg(test)]
-mod tests;
 mod text;
-#[cfg(test)]
-mod texts;
 mod value_type;
 mod written;
 

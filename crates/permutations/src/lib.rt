@@ -13,8 +13,6 @@ mod options;
 mod part;
 mod perm;
 mod table;
-#[cfg(test)]
-mod tests;
 
 pub use fault::{LAST_NUMBER, ListFault, MOST_PERMUTATIONS, MOST_SOURCES};
 pub use laws::{each_list_answers, name_laws, source_laws};

@@ -17,8 +17,6 @@ mod resolver;
 mod rings;
 mod rule;
 mod sources;
-#[cfg(test)]
-mod tests;
 mod written;
 
 pub use document::form_break;

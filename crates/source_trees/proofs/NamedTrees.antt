@@ -12,9 +12,8 @@ use Rattle.file_plan.specs.Trees.{IsTreeOf, IsRead, AreTreesIn}
 use Rattle.file_plan.specs.View.{plan_perm_view, plan_view}
 use Rattle.file_plan.specs.declared.source.PlanPerm.{PlanPerm}
 use Rattle.file_plan.specs.declared.tree.Tree.{Tree}
-use Rattle.file_plan.proofs.FilesInUse.{named_absent, named_seen, named_new, among_none, among_all, no_fewer, in_use_append}
+use Rattle.file_plan.proofs.FilesInUse.{named_absent, named_seen, named_new, among_all, no_fewer, in_use_append}
 use Rattle.source_trees.specs.Reading.{AddsTrees, CountsAdded, CountsAtMost}
-use Rattle.source_trees.specs.Trees.{AreTreesOfSome}
 
 abbrev Trees : Type 0
 Trees = finite.FinMap text_cmp Tree
@@ -112,14 +111,3 @@ next_perms perms i x h is = ap plan_view (drop_more perms i x h) ∙ ap (λ y. p
 
 pub no_perms : (perms : List PlanPerm) (i : ℕ) → length perms ≤ i → plan_view (drop i perms) ≡ []
 no_perms perms i h = ap plan_view (drop_all i perms h)
-
--- no tree is that of no file
-pub trees_none : (trees : Trees) → trees ≡ finite.empty → AreTreesIn finite.empty trees
-trees_none trees e q =
-    subst (λ (o : Option (List ℕ)). IsRead o (finite.get trees q)) (sym (finite.get-empty text_cmp q))
-    (subst (λ (o : Option Tree). IsRead None o) (sym (ap (λ m. finite.get m q) e ∙ finite.get-empty text_cmp q)) tt)
-
--- The trees that names add to none are those of some of the files.
-pub some_of_names : (files : FilesData) (names : List (List ℕ)) (old new : Trees) → old ≡ finite.empty → AddsTrees files names old new → AreTreesOfSome files new
-some_of_names files names old new e adds =
-    (in_use_by files finite.empty names, among_all files names finite.empty (among_none files), adds finite.empty (among_none files) (trees_none old e))

@@ -10,8 +10,6 @@ mod reading;
 mod shape;
 mod shapes;
 mod source;
-#[cfg(test)]
-mod tests;
 
 pub use laws::{each_merge, merged_by_content, merged_tokens, one_merge, shapes_known};
 pub use laying::{Merged, merged_sources};

@@ -13,8 +13,6 @@ mod names;
 mod pages;
 mod row;
 mod sheet;
-#[cfg(test)]
-mod tests;
 mod token_cell;
 mod verdict;
 

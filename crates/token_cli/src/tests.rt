@@ -1,5 +1,6 @@
 //! Runs of the command line: what is written, what is said of a failure, and how it ends.
 
+mod calls;
 mod stops;
 mod table;
 

@@ -18,8 +18,6 @@ mod quoted;
 mod rising;
 mod scaling;
 mod sheet;
-#[cfg(test)]
-mod tests;
 mod texts;
 
 pub use apart::are_apart;

@@ -19,8 +19,6 @@ mod range;
 mod simple;
 mod size;
 mod space;
-#[cfg(test)]
-mod tests;
 mod time;
 mod weight;
 mod words;

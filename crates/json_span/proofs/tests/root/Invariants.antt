@@ -1,4 +1,0 @@
-use Rattle.json_span.proofs.tests.root.Given as goal
-
-abbrev pub ghosts-read_by : goal.ghosts-read_by
-ghosts-read_by a = record { name = a.page.name; parts = a.page.parts }
