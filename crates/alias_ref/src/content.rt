@@ -1,17 +1,13 @@
 //! What is written at a place, as far as a walk looks at it.
 
-ghost use Rattle.std.specs.Prelude.{◌≡◌, ◌==◌, ◌&&◌, List, [], ℕ, false, Some, None, IfOk};
-ghost use Rattle.std.specs.Prelude.{option_map, codes, nat_le, length, slice_index};
-ghost use Rattle.json_span.specs.Tree.{Tree, string_in, array_in, object_in};
-ghost use Rattle.json_span.specs.PlainView.{plain_view};
-ghost use Rattle.token_tree.specs.Shape.{has};
+ghost use Rattle.std.specs.Prelude.{◌≡◌, ◌==◌, ◌&&◌, [], false, Some, IfOk};
+ghost use Rattle.std.specs.Prelude.{option_map, length};
 ghost use Rattle.alias_ref.specs.References.{is_curly, alias_named, place_named};
-ghost use Rattle.alias_ref.specs.Written.{Role, of_value, of_token, reference_written, whole};
-ghost use Rattle.alias_ref.specs.Written.{parts_by_name, text_written, object_pointed};
-ghost use Rattle.alias_ref.specs.Written.{object_written, written_as, is_misspelled, is_reference};
-ghost use Rattle.alias_ref.specs.Written.{part_under};
+ghost use Rattle.alias_ref.specs.Written.{reference_written, whole};
+ghost use Rattle.alias_ref.specs.Written.{parts_by_name, text_written};
+ghost use Rattle.alias_ref.specs.Written.{object_written, is_misspelled, is_reference};
 ghost use Rattle.alias_ref.specs.inner.Contents.{content_view, content_parts, IsContent, role_of};
-ghost use Rattle.json_span.specs.View.{ref_view, json_view, fields_view};
+ghost use Rattle.json_span.specs.View.{json_view, fields_view};
 
 use json_span::{Fields, Items, NodeRef, Plain};
 use name_path::{Place, RefStop, Trail, read_curly, read_pointer};

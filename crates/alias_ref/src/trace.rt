@@ -1,6 +1,6 @@
 //! The trace of a walk: the places that are being visited, and how many visits there were.
 
-ghost use Rattle.std.specs.Prelude.{◌≡◌, ◌≤◌, ◌+◌, ◌∷◌, ◌++◌, [], ℕ, List, Contains, length, drop};
+ghost use Rattle.std.specs.Prelude.{◌≡◌, ◌≤◌, ◌+◌, ◌∷◌, ◌++◌, [], ℕ, List, length, drop};
 ghost use Rattle.std.specs.Prelude.{◌<◌, map, Some, IfOk, OnOk, IfSome, IfNone, IsTrue, false};
 ghost use Rattle.name_path.specs.declared.place.Place.{Place};
 ghost use Rattle.alias_ref.specs.Written.{WrittenPlaces, leaf, part, is_misspelled};

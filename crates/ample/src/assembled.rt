@@ -1,4 +1,5 @@
-// The parts of many tokens, kept and put together.
+//! The parts of many tokens, kept and put together.
+
 ghost use Rattle.std.specs.Prelude.{◌≡◌, ◌<◌};
 
 use build_plain::{Earlier, assemble, build, parts_of};

@@ -1,4 +1,5 @@
-// Maps that are lists in the order of their keys, filled in some order and read back.
+//! Maps that are lists in the order of their keys, filled in some order and read back.
+
 use itoa::Buffer;
 use name_path::{Path, PathMap};
 use std::alloc::Global;

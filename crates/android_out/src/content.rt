@@ -1,15 +1,13 @@
 //! What the element of a value holds.
 
 ghost use Rattle.std.specs.Prelude.{◌≡◌, Some, None, option_map, option_and_then, true, ◌∷◌, []};
-ghost use Rattle.std.specs.Prelude.{length};
 ghost use Rattle.std.specs.Char.{digit_value};
-ghost use Rattle.std.specs.List.{list_all};
 ghost use Rattle.dec_fix.specs.Arithmetic.{byte_of};
 ghost use Rattle.transforms.specs.Hexadecimal.{hex_value};
 ghost use Rattle.type_rules.specs.Sound.{IsColor, IsSize, IsTime, IsSimple, IsHex, is_hex_digit};
 ghost use Rattle.android_out.specs.PlatformValue.{component_color, digits_color, color_content};
 ghost use Rattle.android_out.specs.PlatformValue.{is_srgb, is_rem, size_content, whole_content};
-ghost use Rattle.android_out.specs.PlatformValue.{milliseconds_in, time_content, simple_content};
+ghost use Rattle.android_out.specs.PlatformValue.{milliseconds_in, simple_content};
 ghost use Rattle.android_out.specs.inner.View.{unit_view, content_view};
 
 use crate::family::family_content;

@@ -1,4 +1,5 @@
-// Putting the outputs of files together from parts that are kept.
+//! Putting the outputs of files together from parts that are kept.
+
 ghost use Rattle.std.specs.Prelude.{◌≡◌, Ok, IfOk, OnOk};
 ghost use Rattle.std.specs.FinMap as map;
 ghost use Rattle.file_plan.specs.InUse.{resolver_path};

@@ -1,4 +1,5 @@
-// Building the outputs of files from nothing.
+//! Building the outputs of files from nothing.
+
 ghost use Rattle.std.specs.Prelude.{IfOk, OnOk};
 ghost use Rattle.file_plan.specs.View.{plan_perm_view};
 ghost use Rattle.build_plain.specs.Out.{Builds, BuildsUnder, GivesOf};

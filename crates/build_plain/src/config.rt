@@ -1,4 +1,5 @@
-// The configuration of files.
+//! The configuration of files.
+
 ghost use Rattle.std.specs.Prelude.{◌≡◌, [], Ok, Err, IfOk, IfErr, length};
 ghost use Rattle.refusals.specs.Refusal.{file_text, report, report_text};
 ghost use Rattle.build_plain.specs.Out.{settings_of, config_path, config_reports, refused_config};

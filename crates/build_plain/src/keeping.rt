@@ -1,4 +1,5 @@
-// Keeping the parts of files that are built from nothing.
+//! Keeping the parts of files that are built from nothing.
+
 ghost use Rattle.std.specs.Prelude.{◌≡◌, IfOk, OnOk};
 ghost use Rattle.std.specs.FinMap as map;
 ghost use Rattle.build_plain.specs.Parts.{ArePartsOf, ArePartsUnder};

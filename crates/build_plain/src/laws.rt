@@ -1,4 +1,5 @@
-// Laws over the definitions alone.
+//! Laws over the definitions alone.
+
 ghost use Rattle.build_plain.specs.Denotes.{EachIsAnswered, NeverBoth, NoOtherStands};
 ghost use Rattle.build_plain.specs.Laws.{EachBuilds, EachWorks, OneBuild, OneWork};
 

@@ -1,4 +1,5 @@
-// Making something of files, by the outcomes of their permutations, one after another.
+//! Making something of files, by the outcomes of their permutations, one after another.
+
 ghost use Rattle.std.specs.Prelude.{◌≡◌, ◌≢◌, ◌+◌, ◌≤◌, [], ◌∷◌, List, Result, Ok, Err, IfOk, OnOk, true, is_some, map as each};
 ghost use Rattle.std.specs.FinMap as map;
 ghost use Rattle.ring.specs.Lists.{AreApart};

@@ -1,4 +1,5 @@
-// What a permutation comes to.
+//! What a permutation comes to.
+
 ghost use Rattle.std.specs.Prelude.{IfOk, OnOk};
 ghost use Rattle.token_tree.specs.View.{group_view};
 ghost use Rattle.file_plan.specs.View.{plan_perm_view, plan_sources_view};

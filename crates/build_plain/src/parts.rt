@@ -1,4 +1,4 @@
-// What is kept of a build.
+//! What is kept of a build.
 
 use file_plan::Trees;
 use source_trees::Merges;

@@ -1,4 +1,5 @@
-// The outputs of one permutation, which are put beside those of others.
+//! The outputs of one permutation, which are put beside those of others.
+
 ghost use Rattle.std.specs.Prelude.{◌≡◌, ◌∷◌, [], Some, IfOk, OnOk, option_map};
 ghost use Rattle.std.specs.FinMap as map;
 ghost use Rattle.std.specs.List.{zip};

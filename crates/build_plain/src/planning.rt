@@ -1,4 +1,5 @@
-// The one output of files whose plan is refused.
+//! The one output of files whose plan is refused.
+
 ghost use Rattle.std.specs.Prelude.{◌≡◌, Some, IfOk, codes, option_map};
 ghost use Rattle.refusals.specs.Planning.{break_of, plan_report};
 ghost use Rattle.refusals.specs.Refusal.{report_text};

@@ -1,4 +1,5 @@
-// Where the sources of permutations are named.
+//! Where the sources of permutations are named.
+
 ghost use Rattle.std.specs.Prelude.{◌≡◌};
 ghost use Rattle.file_plan.specs.View.{plan_sources_view};
 ghost use Rattle.source_trees.specs.View.{home_view};

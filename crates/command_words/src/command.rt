@@ -1,4 +1,5 @@
-// Commands, and why arguments are none.
+//! Commands, and why arguments are none.
+
 ghost use Rattle.std.specs.Prelude.{◌≡◌};
 ghost use Rattle.command_words.specs.declared.command.WordStop.TheVariants as stops;
 

@@ -1,4 +1,5 @@
-// Which command clap's matches show.
+//! Which command clap's matches show.
+
 ghost use Rattle.std.specs.Prelude.{◌≡◌, Some, codes, option_map};
 ghost use Rattle.clap.specs.Matches.{found_of};
 ghost use Rattle.clap.specs.Simple.{subcommand_rows_of};

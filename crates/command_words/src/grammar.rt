@@ -1,4 +1,5 @@
-// The command line as clap is told of it: four subcommands, and two arguments of the last.
+//! The command line as clap is told of it: four subcommands, and two arguments of the last.
+
 ghost use Rattle.std.specs.Prelude.{◌≡◌, IfOk, false};
 ghost use Rattle.clap.specs.Simple.{app_of, new_app, with_subcommand};
 ghost use Rattle.clap.specs.declared.builder.command.Command.TheViews.{out-Command};

@@ -1,4 +1,5 @@
-// Laws of the definitions: functions that do nothing and are called for what they ensure.
+//! Laws of the definitions: functions that do nothing and are called for what they ensure.
+
 ghost use Rattle.std.specs.Prelude.{◌≡◌, ℕ, List, Some};
 ghost use Rattle.command_words.specs.Words.{IsCommand, command_of};
 ghost use Rattle.command_words.specs.declared.command.Command.{Command as CommandData};

@@ -1,4 +1,5 @@
-// Numbers as the command line spells them.
+//! Numbers as the command line spells them.
+
 ghost use Rattle.std.specs.Prelude.{◌≡◌};
 ghost use Rattle.command_words.specs.Words.{decimal_within};
 

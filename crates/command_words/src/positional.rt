@@ -1,4 +1,5 @@
-// Which arguments clap is given.
+//! Which arguments clap is given.
+
 ghost use Rattle.std.specs.Prelude.{◌≡◌, map, string_bytes};
 ghost use Rattle.std.specs.List.{list_all};
 ghost use Rattle.command_words.specs.inner.ClapWords.{is_known, is_positional, is_ready};

@@ -1,4 +1,5 @@
-// Reading the arguments of the command line.
+//! Reading the arguments of the command line.
+
 ghost use Rattle.std.specs.Prelude.{◌≡◌, true, Some, None, Err, IfOk, map, string_bytes};
 ghost use Rattle.command_words.specs.Words.{command_of};
 ghost use Rattle.command_words.specs.inner.ClapWords.{is_ready};

@@ -1,9 +1,8 @@
 //! Shadows.
 
-ghost use Rattle.std.specs.Prelude.{◌≡◌, Ok, IfOk, IfErr, codes, false};
+ghost use Rattle.std.specs.Prelude.{◌≡◌, Ok, IfOk, IfErr, false};
 ghost use Rattle.json_span.specs.PlainView.{plain_view, plain_fields_view};
 ghost use Rattle.type_rules.specs.Answer.{IsFound, IsBreak};
-ghost use Rattle.type_rules.specs.Forms.{member_or};
 ghost use Rattle.composite_rules.specs.Value.{boolean_in, inset_member, shadow_item_in, one_item};
 ghost use Rattle.composite_rules.specs.Value.{one_shadow, shadows_in};
 

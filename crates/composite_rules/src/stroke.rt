@@ -1,10 +1,8 @@
 //! Stroke styles.
 
-ghost use Rattle.std.specs.Prelude.{◌≡◌, Ok, IfOk, IfErr, codes};
+ghost use Rattle.std.specs.Prelude.{◌≡◌, Ok, IfOk, IfErr};
 ghost use Rattle.json_span.specs.PlainView.{plain_view, plain_fields_view};
 ghost use Rattle.type_rules.specs.Answer.{IsFound, IsBreak};
-ghost use Rattle.type_rules.specs.Forms.{member, list_in};
-ghost use Rattle.type_rules.specs.Value.{size_in};
 ghost use Rattle.composite_rules.specs.Value.{stroke_of_word, lengths_member, dashes_in, stroke_in};
 ghost use Rattle.composite_rules.specs.Words.{stroke_word_name, cap_name};
 

@@ -1,6 +1,6 @@
 //! Lines that grow piece by piece in one buffer.
 
-ghost use Rattle.std.specs.Prelude.{◌≡◌, [], ◌∷◌, ◌++◌, codes, OnOk};
+ghost use Rattle.std.specs.Prelude.{◌≡◌, [], ◌++◌, codes, OnOk};
 ghost use Rattle.css_out.specs.Piece.{mark, var, number, percent, unit, string, word, opens};
 ghost use Rattle.css_out.specs.Piece.{closes, comma, slash};
 ghost use Rattle.css_out.specs.inner.Added.{gap, with_piece, started};

@@ -1,6 +1,6 @@
 //! Values without references, mark by mark.
 
-ghost use Rattle.std.specs.Prelude.{◌≡◌, List, ℕ, [], ◌∷◌, OnOk};
+ghost use Rattle.std.specs.Prelude.{◌≡◌, List, ◌∷◌, OnOk};
 ghost use Rattle.std.specs.List.{flat_map};
 ghost use Rattle.css_out.specs.Piece.{Mark, mark, comma};
 ghost use Rattle.css_out.specs.PlatformValue.{size_marks, time_marks, number_marks, curve_marks};

@@ -1,6 +1,6 @@
 //! Products, quotients, the order and whole numbers.
 
-ghost use Rattle.std.specs.Prelude.{◌≡◌, ◌+◌, ◌*ℤ◌, ◌^◌, ◌≤◌, pos, ℤ, FitsSigned, IfSome, OnErr};
+ghost use Rattle.std.specs.Prelude.{◌≡◌, ◌+◌, ◌*ℤ◌, ◌^◌, ◌≤◌, pos, ℤ, FitsSigned, IfSome};
 ghost use Rattle.std.specs.Prelude.{IfNone};
 ghost use Rattle.dec_fix.specs.Decimal.{IsExact, IsSameNumber, computed_limit};
 ghost use Rattle.dec_fix.specs.Decimal.{most_computed_places};

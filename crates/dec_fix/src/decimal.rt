@@ -2,7 +2,7 @@
 
 ghost use Rattle.std.specs.Prelude.{◌≡◌, ◌^◌, ◌≤◌, ◌<◌, pos};
 ghost use Rattle.std.specs.Result.{result_ok};
-ghost use Rattle.dec_fix.specs.Decimal.{signed, shortest, decimal_of, IsShort, IsDec};
+ghost use Rattle.dec_fix.specs.Decimal.{signed, decimal_of, IsShort, IsDec};
 ghost use Rattle.dec_fix.specs.Decimal.{computed_limit, most_computed_places};
 ghost use Rattle.dec_fix.specs.Arithmetic.{whole_decimal};
 ghost use Rattle.dec_fix.specs.Reading.{within_bounds};

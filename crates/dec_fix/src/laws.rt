@@ -1,4 +1,5 @@
-// Laws of the definitions, for the crates above: functions that do nothing and are called for what they ensure.
+//! Laws of the definitions, for the crates above: functions that do nothing and are called for what they ensure.
+
 ghost use Rattle.std.specs.Prelude.{◌≡◌, ◌++◌, ℕ, List, true, Some, unsigned_abs};
 ghost use Rattle.dec_fix.specs.Decimal.{Decimal, IsDec, IsExact, IsSameNumber, IsShort};
 ghost use Rattle.dec_fix.specs.Following.{ends_number, number_at};

@@ -1,6 +1,6 @@
 //! Reading a JSON number exactly.
 
-ghost use Rattle.std.specs.Prelude.{◌≡◌, ◌*◌, ◌^◌, ◌<◌, ◌≤◌, ℕ, true, length, min, option_map};
+ghost use Rattle.std.specs.Prelude.{◌≡◌, ◌*◌, ◌^◌, ◌<◌, ◌≤◌, ℕ, true, min, option_map};
 ghost use Rattle.std.specs.Prelude.{IsTrue, IfOk, IfSome, OnErr};
 ghost use Rattle.std.specs.Result.{result_ok};
 ghost use Rattle.std.specs.Str.{all_ascii_digits};

@@ -1,4 +1,5 @@
-// Cutting texts at a byte.
+//! Cutting texts at a byte.
+
 ghost use Rattle.std.specs.Prelude.{◌≡◌, ◌<◌, ℕ, true, List, ◌∷◌, ◌++◌, length, MatchOption};
 ghost use Rattle.edit_script.specs.inner.Cut.{lacks, IsFirstCut};
 

@@ -1,4 +1,5 @@
-// Laws of the definitions, for the crates above: functions that do nothing and are called for what they ensure.
+//! Laws of the definitions, for the crates above: functions that do nothing and are called for what they ensure.
+
 ghost use Rattle.std.specs.Prelude.{◌≡◌, ℕ, suc, ◌+◌, ◌≤◌, List, [], ◌∷◌, ◌++◌, length, take, Some};
 ghost use Rattle.std.specs.Prelude.{map as map_list};
 ghost use Rattle.std.specs.FinMap as map;

@@ -1,4 +1,5 @@
-// Lengths of texts, as scripts spell them.
+//! Lengths of texts, as scripts spell them.
+
 ghost use Rattle.std.specs.Prelude.{◌≡◌, ◌≢◌, ℕ, ◌<◌, ◌^◌, MatchOption};
 ghost use Rattle.std.specs.Fmt.{decimal};
 

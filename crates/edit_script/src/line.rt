@@ -1,4 +1,5 @@
-// The lines of the stream and of the statistics that stand by themselves.
+//! The lines of the stream and of the statistics that stand by themselves.
+
 ghost use Rattle.std.specs.Prelude.{◌≡◌, ◌+◌, ◌≤◌, ◌++◌, length, take, codes, OnOk, OnErr};
 ghost use Rattle.std.specs.Fmt.{decimal};
 ghost use Rattle.std.specs.Io.KnownBytes.{Appends};

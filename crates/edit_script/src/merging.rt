@@ -1,4 +1,5 @@
-// The changes from some outputs to others.
+//! The changes from some outputs to others.
+
 ghost use Rattle.std.specs.Prelude.{◌≡◌, ◌<◌, ◌^◌, T, List, map, ◌++◌, length, None, IfOk, OnOk};
 ghost use Rattle.std.specs.Prelude.{MatchOption};
 ghost use Rattle.std.specs.List.{slice_get};

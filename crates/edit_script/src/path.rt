@@ -1,4 +1,5 @@
-// Paths of files.
+//! Paths of files.
+
 ghost use Rattle.std.specs.Prelude.{◌≡◌, ◌==◌};
 ghost use Rattle.std.specs.List.{list_all, slice_split};
 ghost use Rattle.edit_script.specs.Script.{is_dots, is_path, is_path_byte, is_segment};

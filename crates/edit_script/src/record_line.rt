@@ -1,4 +1,5 @@
-// The records of changes: their first lines, and writing them.
+//! The records of changes: their first lines, and writing them.
+
 ghost use Rattle.std.specs.Prelude.{◌≡◌, Some, None, IfOk, OnOk, OnErr};
 ghost use Rattle.std.specs.Io.KnownBytes.{Appends};
 ghost use Rattle.tk_io.specs.Causes.{HasCause};

@@ -1,4 +1,5 @@
-// Reading a script.
+//! Reading a script.
+
 ghost use Rattle.std.specs.Prelude.{◌≡◌, ℕ, List, ◌++◌, ◌∷◌, Err, IfOk, MatchOption, length};
 ghost use Rattle.std.specs.Fmt.{decimal};
 ghost use Rattle.edit_script.specs.Script.{EventData, EventFits, IsScript, IsScriptEnd, event_text};

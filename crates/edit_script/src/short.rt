@@ -1,4 +1,5 @@
-// The line of a commit in the short statistics, and its numbers.
+//! The line of a commit in the short statistics, and its numbers.
+
 ghost use Rattle.std.specs.Prelude.{◌≡◌, ◌≤◌, [], ◌∷◌};
 ghost use Rattle.edit_script.specs.View.{change_view};
 ghost use Rattle.edit_script.specs.Stats.{without_lines, gone_count, short_line};

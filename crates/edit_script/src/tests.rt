@@ -1,4 +1,5 @@
-// Scripts with what is read of them, and changes with the records that are written.
+//! Scripts with what is read of them, and changes with the records that are written.
+
 use crate::record_line::{file_line, gone_line};
 use crate::{
     Change, Changes, Event, Events, Line, ScriptStop, delta, read_script, short_line, write_change,

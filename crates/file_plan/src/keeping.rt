@@ -1,4 +1,4 @@
-// Permutations that are kept without the document that they were listed of.
+//! Permutations that are kept without the document that they were listed of.
 
 ghost use Rattle.std.specs.Prelude.{◌≡◌, IfOk};
 ghost use Rattle.permutations.specs.View.{token_source_view, token_sources_view, perm_view};

@@ -1,4 +1,4 @@
-// Laws of the definitions alone, for the layers above.
+//! Laws of the definitions alone, for the layers above.
 
 ghost use Rattle.file_plan.specs.Laws.{EachPlan, InlinesStand, OnePlan, NamesAreApart};
 ghost use Rattle.file_plan.specs.Laws.{WantedAreInUse};

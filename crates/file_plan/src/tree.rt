@@ -1,4 +1,4 @@
-// The trees of files.
+//! The trees of files.
 
 ghost use Rattle.std.specs.Prelude.{◌≡◌, ◌+◌, IfOk};
 ghost use Rattle.file_plan.specs.Trees.{IsTreeOf};

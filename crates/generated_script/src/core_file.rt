@@ -1,4 +1,5 @@
-// The generated file `core.json`: chains of ten tokens, each with a literal at its start.
+//! The generated file `core.json`: chains of ten tokens, each with a literal at its start.
+
 ghost use Rattle.std.specs.Prelude.{◌≡◌, ◌<◌, ◌≤◌, ◌^◌, ◌++◌, codes, IfOk, OnOk};
 ghost use Rattle.std.specs.Fmt.{decimal};
 ghost use Rattle.generated_script.specs.Script.{edit_count};

@@ -1,4 +1,5 @@
-// The events of the generated script.
+//! The events of the generated script.
+
 ghost use Rattle.std.specs.Prelude.{◌≡◌, ◌<◌, ◌≤◌, ◌^◌, ◌++◌, OnOk};
 ghost use Rattle.std.specs.List.{flat_map, range_with_len};
 ghost use Rattle.edit_script.specs.Script.{commit, event_text, put};

@@ -1,4 +1,5 @@
-// Laws of the definitions: functions that do nothing and are called for what they ensure.
+//! Laws of the definitions: functions that do nothing and are called for what they ensure.
+
 ghost use Rattle.std.specs.Prelude.{◌≡◌, ◌≤◌, ℕ};
 ghost use Rattle.edit_script.specs.Files.{commit_count};
 ghost use Rattle.edit_script.specs.Script.{IsScript};

@@ -1,4 +1,5 @@
-// Generating a script.
+//! Generating a script.
+
 ghost use Rattle.std.specs.Prelude.{◌≡◌, ◌≤◌, IfOk};
 ghost use Rattle.generated_script.specs.Script.{script_of};
 

@@ -1,6 +1,6 @@
 //! Cycles of groups that need each other, as rings of their graph.
 
-ghost use Rattle.std.specs.Prelude.{◌≡◌, ◌<◌, ◌+◌, ℕ, [], Some, IfOk, IfErr, OnOk, All};
+ghost use Rattle.std.specs.Prelude.{◌≡◌, ◌<◌, ◌+◌, [], Some, IfOk, IfErr, OnOk, All};
 ghost use Rattle.std.specs.Prelude.{length, map, slice_index_or};
 ghost use Rattle.ring.specs.Graph.{needs_in, IsGraph};
 ghost use Rattle.ring.specs.Order.{IsOrder};

@@ -1,6 +1,6 @@
 //! JSON values in one buffer.
 
-ghost use Rattle.std.specs.Prelude.{◌≡◌, true, List, ℕ, [], ◌∷◌, ◌++◌, codes, map, OnOk};
+ghost use Rattle.std.specs.Prelude.{◌≡◌, true, [], ◌++◌, codes, map, OnOk};
 ghost use Rattle.std.specs.List.{flat_map};
 ghost use Rattle.json_span.specs.Plain.{plain_boolean, plain_number, plain_string};
 ghost use Rattle.json_span.specs.Spelling.{are_plain, string_text};

@@ -1,6 +1,6 @@
 //! The fragment of a token.
 
-ghost use Rattle.std.specs.Prelude.{◌≡◌, [], ◌∷◌, ◌++◌, option_map, codes, OnOk};
+ghost use Rattle.std.specs.Prelude.{◌≡◌, ◌∷◌, ◌++◌, option_map, codes, OnOk};
 ghost use Rattle.std.specs.List.{flat_map};
 ghost use Rattle.tk_io.specs.Characters.{full_stop};
 ghost use Rattle.json_span.specs.Spelling.{inside_text, string_text};

@@ -1,13 +1,12 @@
 //! Building the tree of a value, down to a depth. After a flaw the syntax alone is read on.
 
-ghost use Rattle.std.specs.Prelude.{◌≡◌, ◌+◌, ◌≤◌, ◌<◌, ◌^◌, true, false, length, drop};
+ghost use Rattle.std.specs.Prelude.{◌≡◌, ◌+◌, ◌≤◌, ◌<◌, ◌^◌, true, length, drop};
 ghost use Rattle.std.specs.Prelude.{IfOk, IfErr, OnOk};
 ghost use Rattle.grammar.specs.Grammar.{named};
 ghost use Rattle.grammar.specs.Predict.{begins, first};
 ghost use Rattle.json_span.specs.Grammar.{value};
 ghost use Rattle.json_span.specs.Steered.{ahead, list_of, square, curly};
 ghost use Rattle.json_span.specs.inner.Alternatives.{bracket_of};
-ghost use Rattle.json_span.specs.inner.Scan.{ReadsTo};
 ghost use Rattle.json_span.specs.inner.Skipping.{StopsAt};
 ghost use Rattle.json_span.specs.inner.Building.{IsNext, IsBuilt, Opens, HaltsBehind};
 ghost use Rattle.json_span.specs.inner.Building.{IsSmall, IsClosed, end_of_built};

@@ -1,6 +1,6 @@
 //! Classes of bytes of the grammar, and what stands at a place of a text.
 
-ghost use Rattle.std.specs.Prelude.{◌≡◌, ◌<◌, ◌≤◌, length, drop, true};
+ghost use Rattle.std.specs.Prelude.{◌≡◌, ◌<◌, ◌≤◌, length, drop};
 ghost use Rattle.std.specs.Bool.{OnTrue};
 ghost use Rattle.grammar.specs.Predict.{first, begins};
 ghost use Rattle.json_span.specs.Steered.{ahead};

@@ -1,13 +1,12 @@
 //! What the escapes of a string stand for (RFC 8259 section 7).
 
-ghost use Rattle.std.specs.Prelude.{◌≡◌, ◌+◌, ◌-◌, ◌^◌, ◌<◌, ◌≤◌, ℕ, List, Some, true, false};
+ghost use Rattle.std.specs.Prelude.{◌≡◌, ◌+◌, ◌-◌, ◌^◌, ◌<◌, ◌≤◌, ℕ, Some, true};
 ghost use Rattle.std.specs.Prelude.{length, get_or};
 ghost use Rattle.std.specs.Char.{digit_value, IsScalar};
 ghost use Rattle.grammar.specs.Predict.{first};
 ghost use Rattle.json_span.specs.Grammar.{hex};
 ghost use Rattle.json_span.specs.Steered.{ahead};
 ghost use Rattle.json_span.specs.Characters.{short_of, code_unit_of, is_high, is_low, joined_pair};
-ghost use Rattle.json_span.specs.Characters.{CharactersAt};
 ghost use Rattle.json_span.specs.inner.Escapes.{BeginsEscape, StandsFor};
 
 /// A character, and how many bytes its escape takes.

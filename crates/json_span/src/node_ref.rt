@@ -1,7 +1,7 @@
 //! Values of JSON texts, borrowed.
 
 ghost use Rattle.std.specs.Prelude.{◌≡◌, ℕ, ◌+◌, Some, IfOk, option_map, slice_get};
-ghost use Rattle.json_span.specs.Tree.{Placed, tree_of, start_of, end_of, is_null, boolean_in};
+ghost use Rattle.json_span.specs.Tree.{Placed, start_of, end_of, is_null, boolean_in};
 ghost use Rattle.json_span.specs.Tree.{number_in, string_in, array_in, object_in};
 ghost use Rattle.json_span.specs.Table.{ValueIn, LiesIn, size, span};
 ghost use Rattle.json_span.specs.inner.Once.{value_once};

@@ -1,6 +1,6 @@
 //! The ends of blanks, numbers and words.
 
-ghost use Rattle.std.specs.Prelude.{◌≡◌, ◌≤◌, length};
+ghost use Rattle.std.specs.Prelude.{◌≤◌, length};
 ghost use Rattle.std.specs.Str.{IsCharBoundary};
 ghost use Rattle.grammar.specs.Grammar.{many, named};
 ghost use Rattle.json_span.specs.Grammar.{ws, digit, digits, int, frac, exp, optional, one};

@@ -1,6 +1,6 @@
 //! The ends of strings (RFC 8259 section 7), with an exact stop inside an escape.
 
-ghost use Rattle.std.specs.Prelude.{◌≡◌, ◌≤◌, length};
+ghost use Rattle.std.specs.Prelude.{◌≤◌, length};
 ghost use Rattle.grammar.specs.Grammar.{many, named, seq};
 ghost use Rattle.json_span.specs.Grammar.{behind_d, unicode, escape, char, one, string};
 ghost use Rattle.json_span.specs.inner.Scan.{Scans};

@@ -1,4 +1,5 @@
-// How a string is written.
+//! How a string is written.
+
 ghost use Rattle.std.specs.Prelude.{◌≡◌, ◌∷◌, List, ℕ, true, ◌++◌, ◌<◌, OnOk, OnErr};
 ghost use Rattle.lane_scan.specs.Bytes.{is_special};
 ghost use Rattle.tk_io.specs.Characters.{quote};

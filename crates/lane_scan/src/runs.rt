@@ -1,6 +1,6 @@
 //! The ends of runs: of the plain bytes of a string, and of blanks.
 
-ghost use Rattle.std.specs.Prelude.{◌≡◌, ◌+◌, ◌≤◌, ◌<◌, ℕ, false, length, drop, not, slice_range};
+ghost use Rattle.std.specs.Prelude.{◌≡◌, ◌+◌, ◌≤◌, ◌<◌, false, length, drop, slice_range};
 ghost use Rattle.std.specs.Prelude.{slice_index, All, IsTrue};
 ghost use Rattle.std.specs.List.{position_or_len, prefix_len, AllPass};
 ghost use Rattle.lane_scan.specs.Bytes.{is_special, is_blank};

@@ -1,4 +1,5 @@
-// Escapes in the steps of a pointer (RFC 6901 section 3).
+//! Escapes in the steps of a pointer (RFC 6901 section 3).
+
 ghost use Rattle.std.specs.Prelude.{◌≡◌, ◌≢◌, ◌↔◌, ◌++◌, ◌∷◌, ℕ, List, All, IsTrue, OnOk, OnErr};
 ghost use Rattle.std.specs.Prelude.{IfOk, IfSome, IfNone, IsErrOf, [], length, ◌<◌};
 ghost use Rattle.std.specs.String.{string_bytes};

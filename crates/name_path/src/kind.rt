@@ -1,4 +1,5 @@
-// The kinds of tokens.
+//! The kinds of tokens.
+
 ghost use Rattle.std.specs.Prelude.{◌≡◌, ◌≢◌, MatchOption};
 ghost use Rattle.name_path.specs.declared.kind.Kind.{Kind};
 ghost use Rattle.name_path.specs.Kinds.{kind_name, is_simple_kind};

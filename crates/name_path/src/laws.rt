@@ -1,4 +1,5 @@
-// Laws of the spellings: each text spells at most one path or place.
+//! Laws of the spellings: each text spells at most one path or place.
+
 ghost use Rattle.std.specs.Prelude.{◌≡◌, ℕ, List};
 ghost use Rattle.name_path.specs.Names.{IsTokenPath};
 ghost use Rattle.name_path.specs.Reference.{place_text, SpellsPath, SpellsPlace, SpellsGroup};

@@ -1,4 +1,5 @@
-// References that stand in a value and name a whole token.
+//! References that stand in a value and name a whole token.
+
 use crate::{Kind, Path, Trail};
 use tk_io::Sequence;
 

@@ -1,5 +1,6 @@
-// Names of groups and tokens.
-ghost use Rattle.std.specs.Prelude.{◌≡◌, ◌≢◌, ◌↔◌, ◌<◌, length, All, IsTrue, slice_index};
+//! Names of groups and tokens.
+
+ghost use Rattle.std.specs.Prelude.{◌≢◌, ◌↔◌, All, IsTrue};
 ghost use Rattle.name_path.specs.Names.{IsName};
 
 fn holds_no_mark(text: &[u8]) -> bool

@@ -1,6 +1,7 @@
-// Paths of names.
-ghost use Rattle.std.specs.Prelude.{◌≡◌, ◌==◌, ◌++◌, ◌∷◌, ◌↔◌, [], length, Some, None, IfOk, OnOk};
-ghost use Rattle.std.specs.Prelude.{OnErr, IsTrue, slice_get, option_map, refl, map};
+//! Paths of names.
+
+ghost use Rattle.std.specs.Prelude.{◌≡◌, ◌==◌, ◌++◌, ◌∷◌, ◌↔◌, [], length, Some, IfOk, OnOk};
+ghost use Rattle.std.specs.Prelude.{OnErr, IsTrue, slice_get, option_map, refl};
 ghost use Rattle.std.specs.Cmp as Cmp;
 ghost use Rattle.std.specs.Cmp.Lexicographic.{pointwise, nat_list_eq_equiv, nat_list_cmp_total};
 ghost use Rattle.std.specs.Cmp.Lexicographic.{texts_ties, lists_equiv, lists_total, lists_ties};

@@ -1,4 +1,5 @@
-// A finite map under paths.
+//! A finite map under paths.
+
 ghost use Rattle.std.specs.Prelude.{◌≡◌, ◌==◌, List, ℕ, T, OnOk, OnErr};
 ghost use Rattle.std.specs.FinMap as map;
 ghost use Rattle.std.specs.FinMap.{is_sorted};

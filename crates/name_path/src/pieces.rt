@@ -1,4 +1,5 @@
-// Texts by what stands around ASCII characters.
+//! Texts by what stands around ASCII characters.
+
 ghost use Rattle.std.specs.Prelude.{◌≡◌, ◌≢◌, ◌<◌, ◌++◌, ◌∷◌, All, MatchOption};
 
 /// What stands before the first such character and what stands after it.

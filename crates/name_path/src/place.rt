@@ -1,4 +1,5 @@
-// Places in the values of tokens.
+//! Places in the values of tokens.
+
 ghost use Rattle.std.specs.Prelude.{◌≡◌, IfOk};
 
 use crate::{Path, Trail};

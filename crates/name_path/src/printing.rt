@@ -1,4 +1,5 @@
-// The texts of paths and places.
+//! The texts of paths and places.
+
 ghost use Rattle.std.specs.Prelude.{◌≡◌, ◌++◌, ◌∷◌, OnOk, OnErr};
 ghost use Rattle.std.specs.List.{flat_map};
 ghost use Rattle.tk_io.specs.Writing.{Extends};

@@ -1,6 +1,7 @@
-// Readers of references.
-ghost use Rattle.std.specs.Prelude.{◌≡◌, ◌≢◌, ◌++◌, ◌∷◌, [], ℕ, ◌==◌, ◌<◌, List, All, IfOk, IfSome};
-ghost use Rattle.std.specs.Prelude.{IfNone, IsErrOf, MatchOption, map};
+//! Readers of references.
+
+ghost use Rattle.std.specs.Prelude.{◌≡◌, ◌≢◌, [], ℕ, ◌==◌, ◌<◌, List, All, IfOk, IfSome};
+ghost use Rattle.std.specs.Prelude.{IfNone, IsErrOf, map};
 ghost use Rattle.name_path.specs.Names.{AreNames};
 ghost use Rattle.name_path.specs.Reference.{escaped_step, pointer_text, curly_text, SpellsPath};
 ghost use Rattle.name_path.specs.Reference.{SpellsPlace, SpellsGroup};

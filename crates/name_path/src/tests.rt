@@ -1,4 +1,5 @@
-// Spellings of paths, places and groups, and the order of paths.
+//! Spellings of paths, places and groups, and the order of paths.
+
 use crate::{
     Kind, Path, PathMap, Place, RefStop, is_name, print_group, print_path, print_place, read_curly,
     read_group, read_pointer,

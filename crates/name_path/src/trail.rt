@@ -1,4 +1,5 @@
-// Trails of steps.
+//! Trails of steps.
+
 ghost use Rattle.std.specs.Prelude.{◌≡◌, ◌==◌, ◌++◌, ◌∷◌, [], length, Some, IfOk, OnOk, OnErr};
 ghost use Rattle.std.specs.Prelude.{slice_get, option_map, refl};
 ghost use Rattle.std.specs.Cmp as Cmp;

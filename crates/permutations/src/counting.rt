@@ -1,13 +1,13 @@
-// How many permutations there are, and how many sources the one with the most has. Numbers end at a million.
+//! How many permutations there are, and how many sources the one with the most has. Numbers end at a million.
 
 ghost use Rattle.std.specs.Prelude.{◌≡◌, ◌<◌, All, length, map};
 ghost use Rattle.permutations.specs.Answer.{told_number};
-ghost use Rattle.resolver_doc.specs.View.{source_view, sources_view, sets_view, item_view};
+ghost use Rattle.resolver_doc.specs.View.{sources_view, sets_view, item_view};
 ghost use Rattle.resolver_doc.specs.View.{order_view};
 ghost use Rattle.permutations.specs.Permutation.{choices, picks, greatest};
 ghost use Rattle.permutations.specs.inner.Counting.{source_count, item_most, order_most};
 ghost use Rattle.permutations.specs.inner.Expanding.{Tells};
-ghost use Rattle.permutations.specs.inner.Parts.{HasRow, HaveRows, ItemHasRows};
+ghost use Rattle.permutations.specs.inner.Parts.{HaveRows, ItemHasRows};
 
 use crate::fault::LAST_NUMBER;
 use crate::part::counts_of;

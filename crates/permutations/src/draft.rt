@@ -1,4 +1,4 @@
-// Permutations that are put together item by item.
+//! Permutations that are put together item by item.
 
 ghost use Rattle.std.specs.Prelude.{◌≡◌, ◌++◌, ◌∷◌, [], IfOk, OnOk, map};
 ghost use Rattle.std.specs.String.{string_bytes};

@@ -1,4 +1,4 @@
-// The sources that parts come to. What is still to come stands on a stack, the next on top.
+//! The sources that parts come to. What is still to come stands on a stack, the next on top.
 
 ghost use Rattle.std.specs.Prelude.{◌≡◌, ◌<◌, ◌++◌, OnOk, length, reverse};
 ghost use Rattle.resolver_doc.specs.View.{sources_view as written_list, sets_view};

@@ -1,4 +1,4 @@
-// Laws of the definitions alone, for the layers above.
+//! Laws of the definitions alone, for the layers above.
 
 ghost use Rattle.permutations.specs.Laws.{EachListAnswers, InlinesArePart, NamesAreApart};
 ghost use Rattle.permutations.specs.Laws.{SetsComeToTheirSources};

@@ -1,16 +1,16 @@
-// What the items of an order add to permutations.
+//! What the items of an order add to permutations.
 
-ghost use Rattle.std.specs.Prelude.{◌≡◌, ◌++◌, ◌∷◌, [], IfOk, OnOk, All, codes, length, map};
+ghost use Rattle.std.specs.Prelude.{◌≡◌, ◌∷◌, [], IfOk, All, length, map};
 ghost use Rattle.std.specs.String.{string_bytes};
 ghost use Rattle.resolver_doc.specs.View.{sets_view, set_view, item_view, order_view};
 ghost use Rattle.resolver_doc.specs.View.{sources_view as written_list};
 ghost use Rattle.permutations.specs.Name.{label};
-ghost use Rattle.permutations.specs.Permutation.{context_pick, sources_from, choices};
+ghost use Rattle.permutations.specs.Permutation.{context_pick, sources_from};
 ghost use Rattle.permutations.specs.View.{token_sources_view};
 ghost use Rattle.permutations.specs.inner.Drafts.{draft_view, drafts_view, pick_draft, options};
 ghost use Rattle.permutations.specs.inner.Drafts.{drafts_of};
 ghost use Rattle.permutations.specs.inner.Expanding.{Tells};
-ghost use Rattle.permutations.specs.inner.Parts.{HasRow, HaveRows, ItemHasRows};
+ghost use Rattle.permutations.specs.inner.Parts.{HaveRows, ItemHasRows};
 
 use crate::draft::{Draft, extended, push_empty};
 use crate::expanding::append_sources;

@@ -1,4 +1,4 @@
-// What sets come to, without references that lead to nothing or to one source alone.
+//! What sets come to, without references that lead to nothing or to one source alone.
 
 ghost use Rattle.std.specs.Prelude.{◌≡◌, ◌<◌, IfOk, length, option_map, option_to_list};
 ghost use Rattle.resolver_doc.specs.View.{source_view, sources_view};

@@ -1,4 +1,4 @@
-// What each set comes to, in one table.
+//! What each set comes to, in one table.
 
 ghost use Rattle.std.specs.Prelude.{◌≡◌, ◌+◌, IfOk, OnOk, All, fold, length};
 ghost use Rattle.resolver_doc.specs.View.{sets_view};

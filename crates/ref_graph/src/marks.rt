@@ -1,6 +1,7 @@
-// Nodes that are marked once each, and those that wait for their turn.
-ghost use Rattle.std.specs.Prelude.{◌≡◌, ℕ, ◌<◌, ◌++◌, [], ◌∷◌, length, slice_set, slice_index_or};
-ghost use Rattle.std.specs.Prelude.{All, IfOk, OnOk, if◌then◌else◌, false, true};
+//! Nodes that are marked once each, and those that wait for their turn.
+
+ghost use Rattle.std.specs.Prelude.{◌≡◌, ℕ, ◌<◌, [], ◌∷◌, length};
+ghost use Rattle.std.specs.Prelude.{All, IfOk, OnOk, true};
 ghost use Rattle.std.specs.List.Sorted.{IsStrictlyIncreasing};
 ghost use Rattle.ref_graph.specs.Edges.{is_in};
 ghost use Rattle.ref_graph.specs.inner.Marking.{is_marked, Marking};

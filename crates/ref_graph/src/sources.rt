@@ -1,6 +1,7 @@
-// The nodes with an edge to each node, as sets.
-ghost use Rattle.std.specs.Prelude.{◌≡◌, ℕ, ◌<◌, false, ◌&&◌, ◌||◌, not, [], ◌∷◌, length};
-ghost use Rattle.std.specs.Prelude.{replicate, take, All, IfOk, OnOk, OnErr, nat_eq};
+//! The nodes with an edge to each node, as sets.
+
+ghost use Rattle.std.specs.Prelude.{◌≡◌, ℕ, ◌<◌, false, [], ◌∷◌, length};
+ghost use Rattle.std.specs.Prelude.{replicate, take, All, IfOk, OnOk, OnErr};
 ghost use Rattle.std.specs.Ordering.{nat_cmp};
 ghost use Rattle.std.specs.BTreeSet.{contains};
 ghost use Rattle.ref_graph.specs.Edges.{rows_of, is_in, has_source, IsAdded, IsRemoved, IsReplaced};

@@ -1,4 +1,5 @@
-// What is reached in small graphs, in a long chain, and after edges were replaced.
+//! What is reached in small graphs, in a long chain, and after edges were replaced.
+
 ghost use Rattle.std.specs.Prelude.{◌↔◌, ◌<◌, All, IsTrue};
 
 use crate::{Graph, Marks};

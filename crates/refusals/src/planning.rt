@@ -1,4 +1,4 @@
-// What is printed of a plan that breaks a rule.
+//! What is printed of a plan that breaks a rule.
 
 ghost use Rattle.std.specs.Prelude.{◌≡◌, ◌∷◌, [], Some, IfOk, option_map};
 ghost use Rattle.file_plan.specs.InUse.{resolver_path};

@@ -1,4 +1,5 @@
-// What is printed of a refusal.
+//! What is printed of a refusal.
+
 ghost use Rattle.std.specs.Prelude.{◌≡◌, ◌+◌, ◌++◌, ◌∷◌, [], IfOk, OnOk, codes, take, flat_map};
 ghost use Rattle.std.specs.Fmt.{decimal};
 ghost use Rattle.name_path.specs.Reference.{path_text, place_text, pointer_text};

@@ -1,4 +1,5 @@
-// The rules, and their names in refusals.
+//! The rules, and their names in refusals.
+
 ghost use Rattle.std.specs.Prelude.{◌≡◌};
 ghost use Rattle.refusals.specs.Refusal.{shape_rule_name, ref_rule_name, cell_rule_name, plan_rule_name, rule_name};
 

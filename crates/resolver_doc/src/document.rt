@@ -1,11 +1,10 @@
-// The form of the document itself: its version, its sets and modifiers, and the items of its order.
+//! The form of the document itself: its version, its sets and modifiers, and the items of its order.
 
 ghost use Rattle.std.specs.Prelude.{◌≡◌, IfOk, OnOk, codes};
-ghost use Rattle.std.specs.List.{flat_map};
 ghost use Rattle.json_span.specs.Tree.{value_of_name};
 ghost use Rattle.json_span.specs.View.{ref_view, fields_view};
 ghost use Rattle.resolver_doc.specs.Break.{with_breaks, first_of};
-ghost use Rattle.resolver_doc.specs.Form.{unreserved, optional_member, needed_member, each_value};
+ghost use Rattle.resolver_doc.specs.Form.{optional_member, needed_member, each_value};
 ghost use Rattle.resolver_doc.specs.Form.{set_form, modifier_form, list_with, typed_form};
 ghost use Rattle.resolver_doc.specs.Form.{item_type, item_members, item_form, version_form};
 ghost use Rattle.resolver_doc.specs.Form.{document_members, form_breaks};

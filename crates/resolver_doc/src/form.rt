@@ -1,4 +1,4 @@
-// The form of a resolver document, value by value: each call takes in the breaks of its value.
+//! The form of a resolver document, value by value: each call takes in the breaks of its value.
 
 ghost use Rattle.std.specs.Prelude.{◌≡◌, not, is_some, codes, IfOk, OnOk};
 ghost use Rattle.std.specs.List.{flat_map};

@@ -1,4 +1,4 @@
-// The sets of a document as a graph: what each names.
+//! The sets of a document as a graph: what each names.
 
 ghost use Rattle.std.specs.Prelude.{◌≡◌, ◌+◌, IfOk, IsTrue, length, map};
 ghost use Rattle.std.specs.List.{range_with_len};

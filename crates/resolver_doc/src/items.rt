@@ -1,4 +1,4 @@
-// Sets, modifiers and the items of the order, and the references among them that name nothing.
+//! Sets, modifiers and the items of the order, and the references among them that name nothing.
 
 ghost use Rattle.std.specs.Prelude.{◌≡◌, IfOk, OnOk, Option, map};
 ghost use Rattle.std.specs.List.{flat_map};

@@ -1,4 +1,4 @@
-// The sets and modifiers that a document has, with their numbers by the pointers that name them.
+//! The sets and modifiers that a document has, with their numbers by the pointers that name them.
 
 ghost use Rattle.std.specs.Prelude.{◌≡◌, ℕ, List, map as map_list};
 ghost use Rattle.std.specs.FinMap as map;

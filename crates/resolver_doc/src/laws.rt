@@ -1,4 +1,4 @@
-// Laws of the definitions alone, for the layers above.
+//! Laws of the definitions alone, for the layers above.
 
 ghost use Rattle.resolver_doc.specs.Break.{FirstIsTold, NoneIsTold};
 ghost use Rattle.resolver_doc.specs.Laws.{OneFault, UnbrokenIsNotRefused, EachDocumentAnswers};

@@ -1,4 +1,4 @@
-// Members of values, by their names and their numbers.
+//! Members of values, by their names and their numbers.
 
 ghost use Rattle.std.specs.Prelude.{◌≡◌, [], ℕ, List, IfOk, OnOk, option_map, unwrap_or};
 ghost use Rattle.std.specs.Prelude.{map as map_list};

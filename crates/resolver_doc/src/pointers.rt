@@ -1,4 +1,4 @@
-// Numbers under texts: what pointers name.
+//! Numbers under texts: what pointers name.
 
 ghost use Rattle.std.specs.Prelude.{◌≡◌, IfOk, OnOk, ◌∷◌, []};
 ghost use Rattle.std.specs.FinMap as map;

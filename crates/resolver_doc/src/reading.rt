@@ -1,13 +1,12 @@
-// Resolver documents as a whole: what one says, or the first rule that it breaks.
+//! Resolver documents as a whole: what one says, or the first rule that it breaks.
 
 ghost use Rattle.std.specs.Prelude.{◌≡◌, [], IfOk, IfErr, OnOk};
 ghost use Rattle.json_span.specs.View.{node_view, ref_view};
 ghost use Rattle.resolver_doc.specs.Answer.{IsUnbroken, IsPlanFault};
 ghost use Rattle.resolver_doc.specs.Break.{first_of};
-ghost use Rattle.resolver_doc.specs.Document.{ResolverData, resolver_of, set_entries};
+ghost use Rattle.resolver_doc.specs.Document.{resolver_of, set_entries};
 ghost use Rattle.resolver_doc.specs.Naming.{naming_breaks};
 ghost use Rattle.resolver_doc.specs.ResolverView.{resolver_view};
-ghost use Rattle.resolver_doc.specs.Rings.{HasNoRingOfSets};
 ghost use Rattle.resolver_doc.specs.View.{sets_view, order_view};
 ghost use Rattle.resolver_doc.specs.inner.Faults.{break_fault};
 ghost use Rattle.resolver_doc.specs.inner.Known.{known_sets};

@@ -1,6 +1,6 @@
-// Items that have the name of an earlier one.
+//! Items that have the name of an earlier one.
 
-ghost use Rattle.std.specs.Prelude.{◌≡◌, [], ◌∷◌, IfOk, OnOk, Option, List, ℕ, option_map};
+ghost use Rattle.std.specs.Prelude.{◌≡◌, [], IfOk, OnOk, Option, List, ℕ, option_map};
 ghost use Rattle.json_span.specs.View.{ref_view, items_view};
 ghost use Rattle.resolver_doc.specs.Break.{with_breaks};
 ghost use Rattle.resolver_doc.specs.Document.{order_items};

@@ -1,4 +1,4 @@
-// Rings of sets that name each other.
+//! Rings of sets that name each other.
 
 ghost use Rattle.std.specs.Prelude.{◌≡◌, Some, IfOk, IfErr, OnOk, IsTrue, codes, map, option_map};
 ghost use Rattle.json_span.specs.Tree.{Placed, value_of_name};
@@ -6,7 +6,7 @@ ghost use Rattle.json_span.specs.View.{ref_view};
 ghost use Rattle.resolver_doc.specs.Document.{name_in, member_entries, set_of, elements_at};
 ghost use Rattle.resolver_doc.specs.Rings.{HasNoRingOfSets, are_sets_right, is_set, ring_string};
 ghost use Rattle.resolver_doc.specs.Rings.{naming_string};
-ghost use Rattle.resolver_doc.specs.View.{set_view, sets_view, source_view};
+ghost use Rattle.resolver_doc.specs.View.{sets_view, source_view};
 ghost use Rattle.resolver_doc.specs.inner.Faults.{IsSetRingFault, IsSetRingAt};
 ghost use Rattle.resolver_doc.specs.inner.Known.{known_sets};
 

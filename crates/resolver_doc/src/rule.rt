@@ -1,4 +1,4 @@
-// The rules of resolver documents, and the first of several that are broken.
+//! The rules of resolver documents, and the first of several that are broken.
 
 ghost use Rattle.std.specs.Prelude.{◌≡◌};
 ghost use Rattle.json_span.specs.View.{ref_view, field_view};

@@ -1,4 +1,4 @@
-// Sources as they are written, and the references among them that name nothing.
+//! Sources as they are written, and the references among them that name nothing.
 
 ghost use Rattle.std.specs.Prelude.{◌≡◌, ◌≢◌, ◌∷◌, ℕ, List, IfOk, OnOk, MatchOption};
 ghost use Rattle.tk_io.specs.Characters.{full_stop, solidus};

@@ -1,4 +1,5 @@
-// Laws of the definitions: what they name is there, it is one, and it stays when the nodes are renamed.
+//! Laws of the definitions: what they name is there, it is one, and it stays when the nodes are renamed.
+
 ghost use Rattle.std.specs.Prelude.{◌≢◌, ◌↔◌, List, Contains, AllPairs};
 ghost use Rattle.ring.specs.Existence.{EachGraphAnswers, EachIsGrounded, GroundedHaveValues};
 ghost use Rattle.ring.specs.Laws.{OneRing, OneValue, OneTotal, ReachedAreRows};

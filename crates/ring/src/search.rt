@@ -1,5 +1,6 @@
-// The search for the first closed route, with a stack of its own.
-ghost use Rattle.std.specs.Prelude.{◌≡◌, ◌<◌, ◌↔◌, length, All, IfOk, IsTrue};
+//! The search for the first closed route, with a stack of its own.
+
+ghost use Rattle.std.specs.Prelude.{◌<◌, ◌↔◌, length, All, IfOk, IsTrue};
 ghost use Rattle.ring.specs.Lists.{In};
 ghost use Rattle.ring.specs.Routes.{IsRing, HasNoRing};
 ghost use Rattle.ring.specs.Order.{IsOrder};

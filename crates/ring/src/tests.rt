@@ -1,4 +1,5 @@
-// Small graphs whose rings, orders and totals are known, and a long chain.
+//! Small graphs whose rings, orders and totals are known, and a long chain.
+
 use crate::{Found, capped_totals, is_graph, ring_or_order};
 use std::alloc::{AllocError, Global};
 use std::test::Fail;

@@ -1,5 +1,6 @@
-// Totals of nodes, each of its own and of what it needs.
-ghost use Rattle.std.specs.Prelude.{◌≡◌, ℕ, ◌+◌, ◌<◌, List, length, [], All, IfOk, min};
+//! Totals of nodes, each of its own and of what it needs.
+
+ghost use Rattle.std.specs.Prelude.{◌≡◌, ◌+◌, ◌<◌, length, [], All, IfOk, min};
 ghost use Rattle.std.specs.Prelude.{slice_index};
 ghost use Rattle.std.specs.List.{sum_by};
 ghost use Rattle.ring.specs.Order.{Follows};

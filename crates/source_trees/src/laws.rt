@@ -1,4 +1,4 @@
-// Laws of the definitions, for the layers above.
+//! Laws of the definitions, for the layers above.
 
 ghost use Rattle.source_trees.specs.Laws.{EachFound, MergedIsOrdered, ShapesKnown};
 ghost use Rattle.source_trees.specs.Laws.{OneFound, OneMerge, OneFlatOf};

@@ -1,4 +1,4 @@
-// The sources of a permutation, laid over one another.
+//! The sources of a permutation, laid over one another.
 
 ghost use Rattle.std.specs.Prelude.{◌≡◌, IfOk};
 ghost use Rattle.token_tree.specs.View.{group_view};

@@ -1,4 +1,4 @@
-// What merged trees come to.
+//! What merged trees come to.
 
 ghost use Rattle.std.specs.Prelude.{◌≡◌, ◌+◌, IfOk};
 ghost use Rattle.token_tree.specs.View.{group_view};

@@ -1,4 +1,4 @@
-// Files that are read, each once.
+//! Files that are read, each once.
 
 ghost use Rattle.std.specs.Prelude.{◌≡◌, [], ◌∷◌, None, OnOk};
 ghost use Rattle.std.specs.FinMap as map;

@@ -1,4 +1,4 @@
-// The shapes of files: groups and tokens.
+//! The shapes of files: groups and tokens.
 
 ghost use Rattle.std.specs.Prelude.{◌≡◌, IfOk};
 ghost use Rattle.json_span.specs.View.{node_view};

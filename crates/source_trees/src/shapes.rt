@@ -1,4 +1,4 @@
-// The shapes of all files that are read.
+//! The shapes of all files that are read.
 
 ghost use Rattle.std.specs.Prelude.{◌≡◌, ℕ, List, Some, IfOk, OnOk};
 ghost use Rattle.std.specs.FinMap as map;

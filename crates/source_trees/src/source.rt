@@ -1,4 +1,4 @@
-// Where sources are named, and the rules that they break.
+//! Where sources are named, and the rules that they break.
 
 /// The file that names the sources, and its text.
 #[derive(Clone, Copy, Debug)]

@@ -1,4 +1,5 @@
-// Bytes that are held in several places.
+//! Bytes that are held in several places.
+
 ghost use Rattle.std.specs.Prelude.{◌≡◌, IfOk};
 
 use crate::{Bytes, NoMemory};

@@ -1,4 +1,5 @@
-// Bytes that grow at their end.
+//! Bytes that grow at their end.
+
 ghost use Rattle.std.specs.Prelude.{◌≡◌, ◌==◌, [], ◌++◌, IfOk, OnOk, OnErr, length, take};
 
 use crate::NoMemory;

@@ -1,4 +1,5 @@
-// A source and a sink that never fail.
+//! A source and a sink that never fail.
+
 ghost use Rattle.std.specs.Prelude.{◌≡◌, ◌≤◌, ◌<◌, Some, None, min, length, IsOkAnd, IfOk};
 ghost use Rattle.std.specs.Io.KnownBytes.{ReadConsumes, WriteAppends};
 ghost use Rattle.tk_io.specs.Causes.{HasCause};

@@ -1,4 +1,5 @@
-// A source and a sink in memory whose calls fail where they are told to.
+//! A source and a sink in memory whose calls fail where they are told to.
+
 ghost use Rattle.std.specs.Prelude.{◌≡◌, [], ◌-◌, ◌≤◌, ◌<◌, ◌↔◌, Some, Contains, min, length};
 ghost use Rattle.std.specs.Prelude.{IsErr, IfOk, OnErr};
 ghost use Rattle.std.specs.Io.KnownBytes.{ReadConsumes, WriteAppends};

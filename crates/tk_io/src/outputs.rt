@@ -1,4 +1,5 @@
-// The outputs of a build.
+//! The outputs of a build.
+
 ghost use Rattle.std.specs.Prelude.{◌≡◌, ◌==◌, OnOk, OnErr};
 ghost use Rattle.std.specs.FinMap as map;
 ghost use Rattle.std.specs.List.{slice_get};

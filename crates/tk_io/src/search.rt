@@ -1,4 +1,5 @@
-// Looking through a list in order by halves.
+//! Looking through a list in order by halves.
+
 ghost use Rattle.std.specs.Prelude.{◌≡◌};
 ghost use Rattle.std.specs.List.{list_any};
 ghost use Rattle.std.specs.List.Sorted.{IsSorted};

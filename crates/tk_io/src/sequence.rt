@@ -1,4 +1,5 @@
-// A list of items, the pattern of every list type whose items contracts see whole.
+//! A list of items, the pattern of every list type whose items contracts see whole.
+
 ghost use Rattle.std.specs.Prelude.{◌≡◌, ◌==◌, [], ◌∷◌, ◌++◌, OnOk, OnErr, length};
 ghost use Rattle.std.specs.List.{slice_get};
 ghost use Rattle.std.specs.Option.{option_copied};

@@ -1,4 +1,5 @@
-// Where bytes go, and writing a piece whole.
+//! Where bytes go, and writing a piece whole.
+
 ghost use Rattle.std.specs.Prelude.{◌≡◌, [], List, ℕ, ◌<◌, ◌≤◌, Option, length, Ok, IfOk, OnOk};
 ghost use Rattle.std.specs.Prelude.{OnErr};
 ghost use Rattle.std.specs.Io.KnownBytes.{Appends, WriteAppends};

@@ -1,6 +1,7 @@
-// Where bytes come from, and reading a source to its end.
-ghost use Rattle.std.specs.Prelude.{◌≡◌, List, ℕ, ◌+◌, ◌<◌, ◌≤◌, ◌^◌, Option, length, IfOk, OnOk};
-ghost use Rattle.std.specs.Prelude.{IsErrOf, IfSome};
+//! Where bytes come from, and reading a source to its end.
+
+ghost use Rattle.std.specs.Prelude.{◌≡◌, List, ℕ, ◌+◌, ◌<◌, ◌≤◌, ◌^◌, Option, length, IfOk};
+ghost use Rattle.std.specs.Prelude.{IsErrOf};
 ghost use Rattle.std.specs.Io.KnownBytes.{Consumes, IsAtEnd, ReadConsumes};
 ghost use Rattle.tk_io.specs.Causes.{HasCause, Rose};
 ghost use Rattle.tk_io.specs.Reading.{TakesAtMost, TakesExactly};

@@ -1,4 +1,5 @@
-// Counted steps, at no cost when the program runs.
+//! Counted steps, at no cost when the program runs.
+
 ghost use Rattle.std.specs.Prelude.{◌≡◌, ℕ, ◌+◌, ◌<◌};
 
 use std::marker::Model;

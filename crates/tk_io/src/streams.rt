@@ -1,5 +1,6 @@
-// Readers and writers of std as a source and a sink. They tell the bytes that the reader or writer tells; a standard
-// stream of the system tells none.
+//! Readers and writers of std as a source and a sink. They tell the bytes that the reader or writer tells; a standard
+//! stream of the system tells none.
+
 ghost use Rattle.std.specs.Prelude.{◌≡◌, ◌≤◌, ◌<◌, length, IfOk, OnErr};
 ghost use Rattle.std.specs.Io.KnownBytes.{ReadConsumes, WriteAppends};
 ghost use Rattle.tk_io.specs.Causes.{HasCause, following};

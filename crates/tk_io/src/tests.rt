@@ -1,4 +1,5 @@
-// Each call once on its happy path, and reading and writing where calls fail or take little.
+//! Each call once on its happy path, and reading and writing where calls fail or take little.
+
 use crate::{
     Bytes, CleanSource, MemSink, MemSource, NoMemory, NullSink, Outputs, ReadStop, Sequence,
     Source, StdSink, StdSource, Text, TextMap, behind, is_in, read_all, write_all,

@@ -1,10 +1,11 @@
-// A text that is a slice of a source, or shared.
+//! A text that is a slice of a source, or shared.
+
 ghost use Rattle.std.specs.Prelude.{◌≡◌, ◌≢◌, ◌<◌, ◌==◌, ◌++◌, ◌∷◌, [], ℕ, List, Some, IfOk};
 ghost use Rattle.std.specs.Prelude.{IfSome, IfNone, MatchOption, refl};
 ghost use Rattle.std.specs.Cmp as Cmp;
 ghost use Rattle.std.specs.Cmp.Lexicographic.{nat_list_eq_equiv, nat_list_cmp_total, texts_po};
 ghost use Rattle.std.specs.Cmp.Lexicographic.{texts_ties};
-ghost use Rattle.std.specs.Cmp.Rules.{comparing, hashing};
+ghost use Rattle.std.specs.Cmp.Rules.{hashing};
 ghost use Rattle.std.specs.Hash as fed;
 ghost use Rattle.std.specs.List.{slice_split};
 ghost use Rattle.std.specs.Str.{bytes_eq};

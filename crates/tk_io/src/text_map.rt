@@ -1,5 +1,6 @@
-// A finite map under owned texts, the pattern of every map whose values contracts see whole.
-ghost use Rattle.std.specs.Prelude.{◌≡◌, ◌==◌, List, ℕ, T, OnOk, OnErr, length};
+//! A finite map under owned texts, the pattern of every map whose values contracts see whole.
+
+ghost use Rattle.std.specs.Prelude.{◌≡◌, ◌==◌, List, ℕ, T, OnOk, OnErr};
 ghost use Rattle.std.specs.FinMap as map;
 ghost use Rattle.std.specs.FinMap.{is_sorted};
 ghost use Rattle.std.specs.List.{slice_get};

@@ -1,4 +1,5 @@
-// What all tokens of a flat tree come to.
+//! What all tokens of a flat tree come to.
+
 ghost use Rattle.std.specs.Prelude.{◌≡◌, ◌+◌, ◌≤◌, List, Some, IfOk, IfSome, OnOk, length};
 ghost use Rattle.std.specs.FinMap as map;
 ghost use Rattle.token_cells.specs.Cell.{AreCells, IsCell};

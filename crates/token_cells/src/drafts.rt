@@ -1,4 +1,4 @@
-// Buffers in which a token's names and lines are made.
+//! Buffers in which a token's names and lines are made.
 
 use std::alloc::Global;
 use tk_io::Bytes;

@@ -1,4 +1,5 @@
-// Laws over the definitions alone.
+//! Laws over the definitions alone.
+
 ghost use Rattle.token_cells.specs.Denotes.{CellsDenote};
 ghost use Rattle.token_cells.specs.Existence.{EachCell, EachCells};
 ghost use Rattle.token_cells.specs.OtherSheets.{AndroidCellsDenote, JsonCellsDenote, SwiftCellsDenote};

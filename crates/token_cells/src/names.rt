@@ -1,4 +1,4 @@
-// The names that cells have on a platform.
+//! The names that cells have on a platform.
 
 ghost use Rattle.std.specs.Prelude.{◌≡◌, ◌++◌, true, List, ℕ, IfOk, OnOk, flat_map, map};
 ghost use Rattle.ring.specs.Lists.{AreApart};

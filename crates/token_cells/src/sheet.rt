@@ -1,4 +1,5 @@
-// The sheets of platforms from what their tokens come to.
+//! The sheets of platforms from what their tokens come to.
+
 ghost use Rattle.std.specs.Prelude.{◌≡◌, IfOk};
 ghost use Rattle.token_cells.specs.Sheets.{sheet_for};
 

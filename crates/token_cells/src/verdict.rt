@@ -1,4 +1,5 @@
-// The first break of tokens, and of their names.
+//! The first break of tokens, and of their names.
+
 ghost use Rattle.std.specs.Prelude.{◌≡◌, [], IfOk, flat_map};
 ghost use Rattle.std.specs.FinMap as map;
 ghost use Rattle.std.specs.List.{zip};

@@ -1,4 +1,5 @@
-// Building the files of a commit.
+//! Building the files of a commit.
+
 ghost use Rattle.std.specs.Prelude.{◌≡◌, ◌<◌, IfOk};
 ghost use Rattle.build_plain.specs.Out.{Builds};
 

@@ -1,4 +1,5 @@
-// A run over a source and sinks that never fail.
+//! A run over a source and sinks that never fail.
+
 ghost use Rattle.std.specs.Prelude.{◌≡◌, ◌≢◌, ◌<◌, ◌≤◌, ◌⊎◌, List, ℕ, None, Some, true, length};
 ghost use Rattle.edit_script.specs.Script.{EventData, IsScript};
 ghost use Rattle.command_words.specs.declared.command.Command.{Command as CommandData};

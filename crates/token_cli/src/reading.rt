@@ -1,4 +1,5 @@
-// Reading the bytes of a script.
+//! Reading the bytes of a script.
+
 ghost use Rattle.std.specs.Prelude.{◌≡◌, ℕ, Err, IfOk};
 ghost use Rattle.edit_script.specs.Script.{IsScript, IsScriptStop};
 

@@ -1,4 +1,5 @@
-// Whether outputs hold a refusal.
+//! Whether outputs hold a refusal.
+
 ghost use Rattle.std.specs.Prelude.{◌≡◌};
 ghost use Rattle.token_cli.specs.Headline.{is_refusal, is_refused};
 

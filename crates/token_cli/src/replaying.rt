@@ -1,4 +1,5 @@
-// Writing what a command tells of a script's events.
+//! Writing what a command tells of a script's events.
+
 ghost use Rattle.std.specs.Prelude.{◌≡◌, ◌≤◌, [], ◌∷◌, ◌++◌, IfOk, OnOk};
 ghost use Rattle.edit_script.specs.Files.{as_one_commit, without_commits};
 ghost use Rattle.edit_script.specs.View.{event_view};

@@ -1,4 +1,5 @@
-// Running the arguments of the command line.
+//! Running the arguments of the command line.
+
 ghost use Rattle.std.specs.Prelude.{Some, None, Err, List, ◌⊎◌, ◌≡◌, ◌≢◌, ◌≤◌, ◌<◌, ℕ, Bool, true};
 ghost use Rattle.std.specs.Prelude.{length};
 ghost use Rattle.tk_io.specs.Causes.{Rose};

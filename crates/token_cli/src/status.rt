@@ -1,4 +1,5 @@
-// How a run ends.
+//! How a run ends.
+
 ghost use Rattle.std.specs.Prelude.{◌≡◌};
 ghost use Rattle.token_cli.specs.inner.Ending.{status_of};
 ghost use Rattle.token_cli.specs.Report.{status_number};

@@ -1,4 +1,5 @@
-// Why a run ends before all is written.
+//! Why a run ends before all is written.
+
 ghost use Rattle.std.specs.Prelude.{◌≡◌};
 ghost use Rattle.token_cli.specs.declared.stop.Stop.TheVariants.{NoMemory as OutOfMemory};
 ghost use Rattle.token_cli.specs.declared.stop.Stop.TheVariants.{WriteFault as Faulted};

@@ -1,4 +1,4 @@
-// How commits are told.
+//! How commits are told.
 
 /// How the commits of a script are told.
 #[derive(Clone, Copy, Debug, PartialEq, Eq)]

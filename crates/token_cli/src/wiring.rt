@@ -1,4 +1,5 @@
-// The program: the arguments of its command line, its streams, and the number that it ends with.
+//! The program: the arguments of its command line, its streams, and the number that it ends with.
+
 ghost use Rattle.std.specs.Prelude.{◌≡◌};
 ghost use Rattle.std.specs.Process.{exit_status};
 ghost use Rattle.token_cli.specs.Report.{status_number};

@@ -1,4 +1,5 @@
-// What stands while a script is replayed, and what its events make of it.
+//! What stands while a script is replayed, and what its events make of it.
+
 ghost use Rattle.std.specs.Prelude.{◌≡◌, ◌<◌, ◌≤◌, ◌^◌, ◌-◌, ℕ, Some, OnOk, OnErr, IfErr};
 ghost use Rattle.std.specs.FinMap as map;
 ghost use Rattle.std.specs.List.{slice_get};

@@ -33,8 +33,6 @@ pub struct TokenDef<'s> {
 }
 
 impl<'s> Model for TokenDef<'s> {
-    ghost use Rattle.std.specs.Prelude.{option_map};
-    ghost use Rattle.json_span.specs.View.{node_view};
     ghost use Rattle.token_tree.specs.Tree.{Definition};
     ghost use Rattle.token_tree.specs.Codes.{coded_definition};
     ghost use Rattle.token_tree.specs.Promise.{IsDefinition};

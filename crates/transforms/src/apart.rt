@@ -1,4 +1,4 @@
-// Whether names are apart.
+//! Whether names are apart.
 
 ghost use Rattle.std.specs.Prelude.{◌≡◌, Decides, IfOk, map};
 ghost use Rattle.ring.specs.Lists.{AreApart};

@@ -1,4 +1,4 @@
-// Names that more than one token has.
+//! Names that more than one token has.
 
 ghost use Rattle.std.specs.Prelude.{◌≡◌, IfOk, OnOk, OnErr, map};
 ghost use Rattle.std.specs.FinMap as finite;

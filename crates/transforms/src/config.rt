@@ -1,4 +1,4 @@
-// The configuration.
+//! The configuration.
 
 ghost use Rattle.std.specs.Prelude.{◌≡◌, ◌≢◌, true, false, Ok, Err, Some, None, IfOk, IfErr, IfSome};
 ghost use Rattle.std.specs.Prelude.{option_map};

@@ -1,4 +1,4 @@
-// Where texts stand in a buffer.
+//! Where texts stand in a buffer.
 
 ghost use Rattle.std.specs.Prelude.{◌≡◌, ◌+◌, IfSome};
 ghost use Rattle.transforms.specs.Extent.{text_in};

@@ -1,4 +1,4 @@
-// The names that tokens declare.
+//! The names that tokens declare.
 
 ghost use Rattle.std.specs.Prelude.{◌≡◌, [], ◌∷◌, ◌++◌, Decides, OnOk, OnErr};
 ghost use Rattle.transforms.specs.Frag.{AddsSome};

@@ -1,6 +1,6 @@
-// Numbers in hexadecimal digits.
+//! Numbers in hexadecimal digits.
 
-ghost use Rattle.std.specs.Prelude.{◌≡◌, ◌++◌, ◌∷◌, [], ◌<◌, ◌/◌, ◌%◌, ◌^◌, OnOk, OnErr};
+ghost use Rattle.std.specs.Prelude.{◌≡◌, ◌++◌, ◌∷◌, [], ◌<◌, ◌/◌, ◌%◌, OnOk, OnErr};
 ghost use Rattle.std.specs.Char.{digit_char, to_ascii_uppercase};
 ghost use Rattle.transforms.specs.Hexadecimal.{hex_number, hex_color};
 

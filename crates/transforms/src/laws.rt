@@ -1,4 +1,4 @@
-// Laws of the definitions alone, for the layers above.
+//! Laws of the definitions alone, for the layers above.
 
 ghost use Rattle.transforms.specs.Clash.{AllNamesApart, TokenNamesApart, NamesAreThere};
 ghost use Rattle.transforms.specs.Clash.{NamesComeFromTokens};

@@ -1,6 +1,6 @@
-// The names of tokens on platforms.
+//! The names of tokens on platforms.
 
-ghost use Rattle.std.specs.Prelude.{◌≡◌, ◌++◌, ◌∷◌, [], ◌<◌, true, length, codes, IfOk, OnOk};
+ghost use Rattle.std.specs.Prelude.{◌≡◌, ◌++◌, ◌∷◌, ◌<◌, true, length, codes, IfOk, OnOk};
 ghost use Rattle.std.specs.List.{flat_map, list_all};
 ghost use Rattle.std.specs.Str.{bytes_eq};
 ghost use Rattle.name_path.specs.Names.{IsTokenPath, root_name};

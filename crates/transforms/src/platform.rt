@@ -1,4 +1,4 @@
-// The platforms whose code names tokens.
+//! The platforms whose code names tokens.
 
 ghost use Rattle.std.specs.Prelude.{◌≡◌};
 ghost use Rattle.transforms.specs.PlatformName.{joint, is_kept};

@@ -1,4 +1,4 @@
-// Texts between quotes.
+//! Texts between quotes.
 
 ghost use Rattle.std.specs.Prelude.{◌≡◌, ◌++◌, OnOk};
 ghost use Rattle.std.specs.List.{flat_map};

@@ -1,4 +1,4 @@
-// Lengths in pixels.
+//! Lengths in pixels.
 
 ghost use Rattle.std.specs.Prelude.{◌≡◌, ◌*ℤ◌, pos, true, false};
 ghost use Rattle.dec_fix.specs.Decimal.{IsExact, IsSameNumber};

@@ -1,4 +1,4 @@
-// Sheets of fragments.
+//! Sheets of fragments.
 
 ghost use Rattle.std.specs.Prelude.{◌≡◌, [], IfOk, OnOk, OnErr};
 ghost use Rattle.tk_io.specs.Writing.{Extends};

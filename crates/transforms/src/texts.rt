@@ -1,4 +1,4 @@
-// Texts end to end in one buffer.
+//! Texts end to end in one buffer.
 
 ghost use Rattle.std.specs.Prelude.{◌≡◌, ◌+◌, ◌≤◌, [], ◌∷◌, ◌++◌, IfOk, OnOk, OnErr, IfSome, length};
 ghost use Rattle.std.specs.Prelude.{option_map, slice_range};

@@ -2,10 +2,9 @@
 
 ghost use Rattle.std.specs.Prelude.{◌≡◌, Ok, IfOk, IfErr};
 ghost use Rattle.std.specs.Fmt.{decimal};
-ghost use Rattle.json_span.specs.PlainView.{plain_view, plain_items_view};
+ghost use Rattle.json_span.specs.PlainView.{plain_view};
 ghost use Rattle.type_rules.specs.Answer.{IsBreak};
 ghost use Rattle.type_rules.specs.Checked.{under};
-ghost use Rattle.type_rules.specs.Forms.{item};
 ghost use Rattle.type_rules.specs.Value.{component_of_word, component_of_number, component_in};
 ghost use Rattle.type_rules.specs.Value.{three_components, ranged_component, ranged_components};
 ghost use Rattle.type_rules.specs.Value.{components_in};

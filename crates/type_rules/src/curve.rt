@@ -1,9 +1,8 @@
 //! Cubic Bézier curves.
 
 ghost use Rattle.std.specs.Prelude.{◌≡◌, Ok, IfOk, IfErr};
-ghost use Rattle.json_span.specs.PlainView.{plain_view, plain_items_view};
+ghost use Rattle.json_span.specs.PlainView.{plain_view};
 ghost use Rattle.type_rules.specs.Answer.{IsFound, IsBreak};
-ghost use Rattle.type_rules.specs.Forms.{item, number_in};
 ghost use Rattle.type_rules.specs.Value.{four_numbers, share_at, ranged_curve, curve_in};
 
 use crate::fault::{ValueFault, ValueRule, at_item};

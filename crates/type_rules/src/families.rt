@@ -1,6 +1,5 @@
 //! Font families.
 
-ghost use Rattle.std.specs.Prelude.{◌≡◌, [], ◌∷◌, IfOk, List, ℕ};
 ghost use Rattle.type_rules.specs.Value.{families_in};
 
 use crate::fault::ValueFault;

@@ -1,6 +1,6 @@
 //! Numbers with units.
 
-ghost use Rattle.std.specs.Prelude.{◌≡◌, Ok, IfOk, IfErr};
+ghost use Rattle.std.specs.Prelude.{Ok, IfOk, IfErr};
 ghost use Rattle.type_rules.specs.Answer.{IsFound, IsBreak, seen};
 ghost use Rattle.type_rules.specs.Value.{measure_by};
 

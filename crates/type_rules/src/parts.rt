@@ -2,7 +2,7 @@
 //! the rule on shapes at its object or list; what a part breaks has the name or the index as its
 //! first step.
 
-ghost use Rattle.std.specs.Prelude.{◌≡◌, ℕ, [], ◌∷◌, Ok, IfOk, IfErr};
+ghost use Rattle.std.specs.Prelude.{◌≡◌, [], ◌∷◌, Ok, IfOk, IfErr};
 ghost use Rattle.std.specs.Fmt.{decimal};
 ghost use Rattle.json_span.specs.PlainView.{Value, plain_view, plain_items_view};
 ghost use Rattle.type_rules.specs.Answer.{IsFound, IsBreak, seen, member_of, item_of};

@@ -1,6 +1,6 @@
 //! Tables of words.
 
-ghost use Rattle.std.specs.Prelude.{◌≡◌, Ok, IfOk, IfErr};
+ghost use Rattle.std.specs.Prelude.{◌≡◌, IfOk, IfErr};
 ghost use Rattle.type_rules.specs.Answer.{IsFound, IsBreak, seen};
 ghost use Rattle.type_rules.specs.Words.{meaning, rows_of, word_by, word_at};
 
