@@ -281,8 +281,7 @@ TEXTS = [
     *(Case(name, "build", rule, [tokens(text)]) for rule, name, text in LARGE),
 ]
 
-# Where the values of every sixth text stand: a chain of references that is too long by one is refused at the value where it ends. (Each is
-# a walk of 256 places, so that all of them would take long.)
+# Where each value stands: a chain of references that is too long by one is refused at the value where it ends.
 
 CHAIN = "abcdef"
 LISTS = 50
@@ -350,7 +349,7 @@ def names_twice(text):
 ALL_SPANNED = [*SPANNED, MEMBERS]
 ALL_NAMES = [it for text in ALL_SPANNED for it in names_twice(text)]
 SPANS = [
-    *(of_parts(f"the places of values, share {i}", texts) for i, texts in enumerate(in_shares(ALL_SPANNED[::6]))),
+    *(of_parts(f"the places of values, share {i}", texts) for i, texts in enumerate(in_shares(ALL_SPANNED))),
     *(in_turn(f"the places of names, from name {i}", "json-duplicate", ALL_NAMES[i:i + COMMITS]) for i in range(0, len(ALL_NAMES), COMMITS)),
 ]
 
