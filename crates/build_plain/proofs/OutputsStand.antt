@@ -45,9 +45,6 @@ not_behind xs a b none e = true_false (has_slash a) (ap has_slash e ∙ has_one 
 tail_same : (x y : ℕ) (xs ys : List ℕ) → x ∷ xs ≡ y ∷ ys → xs ≡ ys
 tail_same x y xs ys e = cc
 
-both_same : (x y : ℕ) (xs ys : List ℕ) → x ∷ xs ≡ y ∷ ys → xs ≡ ys → x ∷ xs ≡ y ∷ ys
-both_same x y xs ys e same = e
-
 head_same : (x y : ℕ) (xs ys zs : List ℕ) (ws : List ℕ) → x ∷ zs ≡ y ∷ ws → xs ≡ ys → x ∷ xs ≡ y ∷ ys
 head_same x y xs ys zs ws e same = cc
 

@@ -16,18 +16,12 @@ scaled_none n k e = rw (e, pow-zero 10) (omega arith)
 pub scaled_up : (n k : ℕ) → n ≤ n * 10 ^ k
 scaled_up n k = le-mul_of_pos_right n (one-le-pow k 10 (omega arith))
 
-pub min_scaled : (n k limit : ℕ) → limit ≤ n → min (n * 10 ^ k) limit ≡ limit
-min_scaled n k limit h = omega (arith, scaled_up n k)
-
 -- cutting off at the limit early changes nothing
 pub min_early : (size k d limit : ℕ) → min (min (min size limit * 10 ^ k) limit + d) limit ≡ min (size * 10 ^ k + d) limit
 min_early size k d limit = elim (cases_lt size limit) [
   | inl h ↦ rw (min-eq_left {n = size} {m = limit} (omega arith)) (omega arith)
   | inr h ↦ rw (min-eq_right {n = limit} {m = size} h) (omega (arith, scaled_up size k, scaled_up limit k))
 ]
-
-pub last_digit : (n d : ℕ) → d < 10 → (n * 10 + d) % 10 ≡ d
-last_digit n d h = omega arith
 
 pub holds_zero : (m zeros n : ℕ) → IsSignificand m zeros n → IsSignificand m (zeros + 1) (n * 10 + 0)
 holds_zero m zeros n h = record {

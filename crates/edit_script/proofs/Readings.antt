@@ -48,11 +48,6 @@ text_push (x ∷ es) e after =
     append_assoc (event_text x) (events_text es) (event_text e ++ after)
     ∙ (ap (λ l. event_text x ++ l) (text_push es e after) ∙ sym (append_assoc (event_text x) (events_text (es ++ e ∷ [])) after))
 
--- one more event
-pub read_more : (text rest after : List ℕ) (es : List EventData) (e : EventData) → IsReadTo text es rest → rest ≡ event_text e ++ after → EventFits e → IsReadTo text (es ++ e ∷ []) after
-read_more text rest after es e h is fits =
-    (h.0 ∙ ap (λ l. header ++ l) (ap (λ l. events_text es ++ l) is ∙ text_push es e after), fits_push es e h.1 fits)
-
 pub read_all : (text rest : List ℕ) (es : List EventData) → IsReadTo text es rest → rest ≡ [] → IsScript text es
 read_all text rest es h none = (h.0 ∙ ap (λ l. header ++ l) (ap (λ l. events_text es ++ l) none ∙ append-nil (events_text es)), h.1)
 

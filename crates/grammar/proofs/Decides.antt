@@ -30,10 +30,6 @@ and_false : (a b : Bool) → (a && b) ≡ false → a ≡ true → b ≡ false
 and_false true b e f = e
 and_false false b e f = cc
 
-and_false_left : (a b : Bool) → (a && b) ≡ false → b ≡ true → a ≡ false
-and_false_left true b e f = cc
-and_false_left false b e f = refl
-
 two_ways : (b : Bool) → (b ≡ true) ⊎ (b ≡ false)
 two_ways true = inl refl
 two_ways false = inr refl

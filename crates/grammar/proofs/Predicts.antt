@@ -1,11 +1,8 @@
 -- A reading that is steered by the next byte is the only one.
-use Rattle.std.proofs.Common.{◌≡◌, ℕ, List, [], ◌∷◌, ◌++◌, Bool, true, false, ◌||◌, ◌&&◌, IsTrue, refl, sym, ap, ◌∙◌, subst, inl, inr, append_assoc}
+use Rattle.std.proofs.Common.{◌≡◌, ℕ, List, [], ◌∷◌, ◌++◌, Bool, true, false, ◌||◌, ◌&&◌, refl, sym, ap, ◌∙◌, subst, inl, inr, append_assoc}
 use Rattle.std.specs.Prelude.{◌⊎◌}
 use Rattle.grammar.specs.Grammar.{within, Rule, seq, alt, many, named, Reads, no_byte, one_byte, both, left, right, no_more, more, by_name, IsFront, nothing, whole, in_first, in_second, in_left, in_right, in_next, in_named}
 use Rattle.grammar.specs.Predict.{begins, Ahead, nullable, first, more_in, Apart, IsSteered, IsHonest, Alike, Steers, on_empty, on_byte, on_both, on_left, on_right, on_end, on_more, on_name, Stuck, at_byte, at_first, at_second, at_left, at_right, only_left, only_right, at_neither, at_round, at_later, at_named}
-
-true_of : (b : Bool) → IsTrue b → b ≡ true
-true_of b h = h
 
 both_ways : (b : Bool) → b ≡ true → b ≡ false → ⊥
 both_ways b e f = cc

@@ -1,7 +1,7 @@
 -- Counts and heights.
 use Rattle.std.proofs.Common.{◌≡◌, ℕ, zero, suc, ◌+◌, ◌-◌, ◌^◌, ◌<◌, ◌≤◌, min, max, List, [], ◌∷◌, ◌++◌, inl, inr, refl, sym, ap, ◌∙◌, subst, map, length, get_or, set, take, drop, sum, arith, length-append, append_assoc, add-one, All, get_or-set_same, get_or-set_other}
 use Rattle.std.proofs.lemmas.Bool.{cases_eq, cases_lt}
-use Rattle.std.proofs.lemmas.List.{take_more, drop_all}
+use Rattle.std.proofs.lemmas.List.{take_more}
 use Rattle.std.proofs.lemmas.List.Elements.{All-head, All-tail}
 use Rattle.std.proofs.lemmas.List.Sums.{sum_by-cons}
 use Rattle.std.specs.FinMap as map_of
@@ -95,10 +95,6 @@ step (n ∷ ns) (suc i) h x r xs k a = step ns i h x r xs (omega (arith, k)) a
 pub raise_step : (names : List (List ℕ)) (i h x r : ℕ) (xs : List ℕ) → i < length names → r ≡ min (x + 1) (2 ^ 64 - 1) →
     min (max (max h r) (greatest_raised (drop (i + 1) names) xs)) most_told ≡ min (max h (greatest_raised (drop i names) (x ∷ xs))) most_told
 raise_step names i h x r xs k a = ap (λ (j : ℕ). min (max (max h r) (greatest_raised (drop j names) xs)) most_told) (add-one i) ∙ step names i h x r xs k a
-
--- after the names nothing is raised
-pub raise_end : (names : List (List ℕ)) (i h : ℕ) (xs : List ℕ) → length names ≤ i → min (max h (greatest_raised (drop i names) xs)) most_told ≡ min (max h (greatest xs)) most_told
-raise_end names i h xs k = ap (λ (ns : List (List ℕ)). min (max h (greatest_raised ns xs)) most_told) (drop_all i names k)
 
 capped : (a s h r q : ℕ) → s ≡ min h most_told → min (max (max a h) r) most_told ≡ min (max (max a h) q) most_told → min (max a (max s r)) most_told ≡ min (max a (max h q)) most_told
 capped a s h r q e ih = omega (arith, ih, e)

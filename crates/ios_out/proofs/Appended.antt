@@ -1,9 +1,6 @@
 -- Runs of texts, one after the other.
 use Rattle.std.proofs.Common.{◌≡◌, ℕ, List, ◌++◌, append_assoc}
 
-pub three_texts : (t u v w a b c : List ℕ) → u ≡ t ++ a → v ≡ u ++ b → w ≡ v ++ c → w ≡ t ++ (a ++ (b ++ c))
-three_texts t u v w a b c h i j = rw (j, i, h) (simp append_assoc)
-
 pub four_texts : (t u v w x a b c d : List ℕ) → u ≡ t ++ a → v ≡ u ++ b → w ≡ v ++ c → x ≡ w ++ d → x ≡ t ++ (a ++ (b ++ (c ++ d)))
 four_texts t u v w x a b c d h i j k = rw (k, j, i, h) (simp append_assoc)
 

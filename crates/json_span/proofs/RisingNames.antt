@@ -54,10 +54,6 @@ pub record RiseTo (es : List Entry) (i : ℕ) : Type 0 where
   pub falls : Falls (reversed_names (take i es) [])
   pub apart : names_flaw [] es ≡ names_flaw (reversed_names (take i es) []) (drop i es)
 
-pub one_rises : (es : List Entry) → RiseTo es 1
-one_rises [] = record { falls = tt; apart = refl }
-one_rises (e ∷ es) = record { falls = tt; apart = refl }
-
 pub next_rises : (es : List Entry) (i : ℕ) (e f : Entry) → 0 < i → slice_get es (i - 1) ≡ Some e → slice_get es i ≡ Some f → rises e.name f.name ≡ true → RiseTo es i → RiseTo es (i + 1)
 next_rises es i e f within before here r so_far =
     let back : (i - 1) + 1 ≡ i = omega (arith, within) in

@@ -1,7 +1,6 @@
 -- What extends what: for the proofs of printers, those of other crates too.
-use Rattle.std.proofs.Common.{◌≡◌, ℕ, List, [], ◌++◌, Result, Ok, Err, OnErr, sym, ap, ◌∙◌, append_assoc, length, take}
+use Rattle.std.proofs.Common.{◌≡◌, ℕ, List, [], ◌++◌, Result, Ok, Err, OnErr, sym, ap, ◌∙◌, append_assoc}
 use Rattle.std.proofs.lemmas.List.{append-nil}
-use Rattle.std.proofs.Math.Seq.{take-append_seam}
 use Rattle.tk_io.specs.Writing.{Extends}
 
 pub extends_self : (xs : List ℕ) → Extends xs xs
@@ -9,10 +8,6 @@ extends_self xs = ([], sym (append-nil xs))
 
 pub extends_more : (old mid new : List ℕ) → Extends old mid → Extends mid new → Extends old new
 extends_more old mid new p q = (p.0 ++ q.0, q.1 ∙ (ap (λ (z : List ℕ). z ++ q.0) p.1 ∙ append_assoc old p.0 q.0))
-
--- the bytes that there were come first
-pub front_kept : (old new : List ℕ) → Extends old new → take (length old) new ≡ old
-front_kept old new p = ap (take (length old)) p.1 ∙ take-append_seam old p.0
 
 -- whatever the answer is
 pub extends_on_err : {T E : Type 0} (result : Result T E) (old new more : List ℕ) → new ≡ old ++ more → OnErr result (Extends old new)

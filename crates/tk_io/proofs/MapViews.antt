@@ -1,7 +1,5 @@
 -- A `BTreeMap` whose keys and values are shown as data, seen as a finite map. The calls of every map type rest on these.
-use Rattle.std.proofs.Common.{◌≡◌, ℕ, suc, Bool, true, false, ◌&&◌, cond, T, List, [], ◌∷◌, length, Option, Some, None, option_map, refl, sym, ap, subst, ◌∙◌, Ordering, Less, Equal, Greater, Bor}
-use Rattle.std.specs.Option.{option_copied}
-use Rattle.std.specs.Map.Iter.{deref_pair}
+use Rattle.std.proofs.Common.{◌≡◌, ℕ, suc, Bool, true, false, ◌&&◌, cond, T, List, [], ◌∷◌, length, Option, Some, None, option_map, refl, sym, ap, subst, ◌∙◌, Ordering, Less, Equal, Greater}
 use Rattle.std.specs.Prelude.{slice_get}
 use Rattle.std.proofs.lemmas.Option.{slice_get-map}
 use Rattle.std.specs.FinMap as map
@@ -107,15 +105,6 @@ module _ {L Y : Type 0} {R : L → L → Ordering} (o : IsTotalOrder R) where
   pub at_remove : (m : map.FinMap R Y) (k : L) (q : L) → map.get (map.remove m k) q ≡ cond (is_at (R k) q) None (map.get m q)
   at_remove m k q = map.get-remove o m k q ∙ ap (λ b. cond b None (map.get m q)) ((eq_by_cmp_equiv o).symm q k)
 
--- what a look-up by reference shows
-pub copied_shown : {X Y : Type 0} (f : X → Y) (r : Option (Bor X)) → option_map (λ b. f b.now) r ≡ option_map f (option_copied r)
-copied_shown f None = refl
-copied_shown f (Some b) = refl
-
 -- an item at an index, and what is shown there
 pub item_shown : {K L X Y : Type 0} (g : K → L) (f : X → Y) (es : List (K × X)) (i : ℕ) → option_map {U = L × Y} (λ e. (g e.0, f e.1)) (slice_get es i) ≡ slice_get (entries_view g f es) i
 item_shown g f es i = sym (slice_get-map _ es i)
-
-pub pair_shown : {K L X Y : Type 0} (g : K → L) (f : X → Y) (r : Option (Bor K × Bor X)) → option_map {U = L × Y} (λ e. (g e.0.now, f e.1.now)) r ≡ option_map {U = L × Y} (λ (e : K × X). (g e.0, f e.1)) (option_map deref_pair r)
-pair_shown g f None = refl
-pair_shown g f (Some b) = refl

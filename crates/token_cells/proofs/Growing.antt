@@ -1,7 +1,7 @@
 -- Files that grow by one token after another.
 use Rattle.std.proofs.Common.{◌≡◌, ℕ, List, [], ◌∷◌, ◌++◌, length, ◌+◌, ◌-◌, take, drop, arith, refl, sym, ap, ap₂, subst, ◌∙◌, flat_map}
 use Rattle.std.proofs.lemmas.Grind.{flat_map-append}
-use Rattle.std.proofs.lemmas.List.{append-nil, append_assoc, drop_at, take_at, length-append, map-append}
+use Rattle.std.proofs.lemmas.List.{append-nil, append_assoc, drop_at, take_at, map-append}
 use Rattle.std.specs.List.{slice_range}
 use Rattle.tk_io.specs.Writing.{Extends}
 use Rattle.tk_io.proofs.Extending.{extends_self, extends_more}
@@ -22,7 +22,7 @@ use Rattle.name_path.specs.declared.place.Place.{Place}
 use Rattle.token_cells.specs.Sheets.{bodies_for, frame_for, sheet_for}
 use Rattle.token_cells.specs.TokenCell.{TokenCell, Refused, Made}
 use Rattle.token_cells.specs.inner.Growing.{AddsBody, AddsFrag, AddsNames, AddsRow, AreNamesAt, AreSheets, AreShown, ExtendsNames, Grows, HoldsCells}
-use Rattle.token_cells.specs.inner.Kept.{PageTexts, fragment_in, names_in, open_texts, page_for, row_view, rows_view}
+use Rattle.token_cells.specs.inner.Kept.{PageTexts, fragment_in, open_texts, page_for, row_view, rows_view}
 
 -- Names.
 
@@ -38,16 +38,6 @@ middle : (before names behind : List (List ℕ)) (start end : ℕ) → start ≡
 middle before names behind start end s e =
     ap (λ texts. take (end - start) (drop start texts)) (append_assoc before names behind)
     ∙ (ap (take (end - start)) (drop_at before (names ++ behind) start (sym s)) ∙ take_at names behind (end - start) (omega (arith, s, e)))
-
--- names that were added stand at the end
-pub names_last : (before after names : List (List ℕ)) (run : Run) → after ≡ before ++ names → run.start ≡ length before → run.end ≡ length after
-    → AddsNames before after run names
-names_last before after names run added s e = record {
-  grows = (names, added);
-  there = λ later grown.
-      ap (λ all. names_in all run) (grown.1 ∙ ap (λ all. all ++ grown.0) added)
-      ∙ middle before names grown.0 run.start run.end s (e ∙ (ap length added ∙ length-append before names));
-}
 
 -- nothing was added
 pub names_there : (all names : List (List ℕ)) (run : Run) → AreNamesAt all run names → AddsNames all all run names

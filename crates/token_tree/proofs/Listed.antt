@@ -1,5 +1,5 @@
 -- What is kept for each listed name, member by member, and what it shows.
-use Rattle.std.proofs.Common.{◌≡◌, ℕ, Bool, true, false, ◌||◌, cond, List, [], ◌∷◌, Option, Some, None, is_some, codes, option_map, refl, sym, ap, ap₂, ◌∙◌}
+use Rattle.std.proofs.Common.{◌≡◌, ℕ, Bool, true, false, cond, List, [], ◌∷◌, Option, Some, None, is_some, codes, option_map, refl, sym, ap, ◌∙◌}
 use Rattle.std.specs.Prelude.{option_and_then}
 use Rattle.std.specs.Option.{option_or}
 use Rattle.std.specs.Str.{bytes_eq}
@@ -7,7 +7,7 @@ use Rattle.json_span.specs.Tree.{Placed, Entry, tree_of, start_of, end_of, strin
 use Rattle.json_span.specs.View.{ref_view}
 use Rattle.token_tree.specs.Answer.{IsObjectOf}
 use Rattle.token_tree.specs.Promise.{StandsIn}
-use Rattle.token_tree.specs.Shape.{are_token, def_of, extension_at, kind_in, mark_in, properties_of, slice_of, token_breaks}
+use Rattle.token_tree.specs.Shape.{def_of, extension_at, kind_in, mark_in, properties_of, slice_of, token_breaks}
 use Rattle.token_tree.specs.Texts.{is_reserved}
 use Rattle.token_tree.specs.Tree.{Definition, Properties}
 use Rattle.token_tree.specs.declared.listed_members.ListedMembers.{ListedMembers}
@@ -70,19 +70,9 @@ other name wanted n w =
       | false ↦ λ t. refl
     ] refl
 
--- a member without '$' is passed over
-pub passed_over : (l : ListedMembers) (name : List ℕ) (n : Placed) → is_reserved name ≡ false → IsNoted name n l l
-passed_over l name n plain =
-    pure (λ kept wanted reserved. sym (ap (λ b. option_or (kept l) (cond b (Some n) None)) (other name wanted plain reserved) ∙ alone (kept l)))
-
 -- a value of another name is not kept
 pub unnamed : (name wanted : List ℕ) (n : Placed) (kept : Option Placed) → bytes_eq name wanted ≡ false → kept ≡ option_or kept (if_named wanted name n)
 unnamed name wanted n kept e = sym (ap (λ b. option_or kept (cond b (Some n) None)) e ∙ alone kept)
-
--- a name and a value are those of the member
-pub noted_as : (old new : ListedMembers) (name other : List ℕ) (n m : Placed) → name ≡ other → n ≡ m → IsNoted name n old new → IsNoted other m old new
-noted_as old new name other n m named holds noted =
-    each (λ kept wanted _ k _. k ∙ ap₂ (λ s v. option_or (kept old) (if_named wanted s v)) named holds) noted noted
 
 still_some : {A B : Type 0} (f : A → B) (o : Option A) → is_some o ≡ is_some (option_map f o)
 still_some f None = refl
@@ -91,9 +81,6 @@ still_some f (Some x) = refl
 -- whether it is there under a listed name
 pub has_listed : {A B : Type 0} (f : A → B) (o : Option A) (under : Option B) (b : Bool) → b ≡ is_some o → option_map f o ≡ under → b ≡ is_some under
 has_listed f o under b e h = e ∙ (still_some f o ∙ ap is_some h)
-
-pub token_listed : (l : ListedMembers) (es : List Entry) (value reference : Bool) → AreListed l es → value ≡ is_some l.value → reference ≡ is_some l.reference → (value || reference) ≡ are_token es
-token_listed l es value reference a v r = ap₂ (λ x y. x || y) (has_listed ref_view l.value _ value v a.value) (has_listed ref_view l.reference _ reference r a.reference)
 
 -- the object under `$extensions`
 pub extensions_stand : (text : List ℕ) (n : Placed) (es : List Entry) (l : ListedMembers) → IsObjectOf n es → StandsIn text n → AreListed l es → token_breaks es ≡ [] → IsObjectIn text (option_map ref_view l.extensions)

@@ -27,9 +27,6 @@ first_of xs ys e h k = subst (λ z. TellsFirst z e) h k
 pub next_breaks : (f : Entry → List Break) (es : List Entry) (i : ℕ) (e : Entry) → slice_get es i ≡ Some e → flat_map f (drop i es) ≡ f e ++ flat_map f (drop (i + 1) es)
 next_breaks f es i e g = ap (flat_map f) (next es i e g)
 
-pub none_here : (f : Entry → List Break) (es : List Entry) (i : ℕ) (e : Entry) → slice_get es i ≡ Some e → f e ≡ [] → flat_map f (drop (i + 1) es) ≡ flat_map f (drop i es)
-none_here f es i e g h = sym (next_breaks f es i e g ∙ ap (λ z. z ++ flat_map f (drop (i + 1) es)) h)
-
 front_none : {A : Type 0} (xs ys : List A) → xs ++ ys ≡ [] → xs ≡ []
 front_none [] ys e = refl
 front_none (x ∷ xs) ys e = absurd (cc)

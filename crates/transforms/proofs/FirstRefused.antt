@@ -11,7 +11,7 @@ use Rattle.std.specs.String.{string_bytes, string_cmp}
 use Rattle.std.specs.declared.alloc.Global.{Global}
 use Rattle.tk_io.specs.Order.{text_cmp}
 use Rattle.tk_io.proofs.TextMaps.{text_cmp-IsAntisymmetric}
-use Rattle.toml.specs.Data.{Data, Members, member, get_member}
+use Rattle.toml.specs.Data.{Data, member, get_member}
 use Rattle.toml.specs.View.{view, members_view}
 use Rattle.toml.specs.declared.value.Value.{Value}
 use Rattle.transforms.specs.Config.{is_setting, first_refused, IsFirstRefused}
@@ -84,6 +84,3 @@ is_first_refused (e ∷ es) sorted key is = here (is_first_refused es sorted.1 k
       refused = setting;
       first = λ other its found refused. before other its (text_cmp other name) refl found;
     })
-
-pub refused_here : (name : List ℕ) (value : Data) (rest : Members) → is_setting name value ≡ false → first_refused (member name value rest) ≡ Some name
-refused_here name value rest refused = rw refused refl

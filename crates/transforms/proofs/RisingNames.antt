@@ -1,12 +1,8 @@
 -- Names that rise are apart.
-use Rattle.std.proofs.Common.{◌≡◌, ℕ, Bool, true, false, List, [], ◌∷◌, ◌+◌, map, length, cond, refl, sym, ap, subst, ◌∙◌, inl, inr, arith, nat_lt, ◌==◌, Ordering, Less, Equal, Greater}
+use Rattle.std.proofs.Common.{◌≡◌, ℕ, Bool, true, false, List, [], ◌∷◌, ◌+◌, map, length, cond, refl, sym, ap, ◌∙◌, inl, inr, arith, nat_lt, Ordering, Less, Equal, Greater}
 use Rattle.std.specs.List.{AllAdjacentBelow}
-use Rattle.std.specs.Cmp.{nat_cmp_total}
-use Rattle.std.specs.Ordering.{is_lt, nat_cmp, ordering_then}
-use Rattle.std.specs.FinMap.{nat_cmp-IsAntisymmetric}
-use Rattle.std.proofs.lemmas.Cmp.{tied_itself}
+use Rattle.std.specs.Ordering.{is_lt, ordering_then}
 use Rattle.ring.specs.Lists.{In, AreApart}
-use Rattle.tk_io.specs.Order.{text_cmp}
 use Rattle.transforms.specs.Rising.{rank, rises}
 use Rattle.transforms.proofs.SortedNames as sorted
 
@@ -29,15 +25,6 @@ by_first : (less equal : Bool) (behind : Ordering) → (cond less Less (cond equ
 by_first true equal behind other = refl
 by_first false true behind other = absurd (other refl)
 by_first false false behind other = refl
-
-pub at_other_ranks : (byte other : ℕ) (rest others : List ℕ) → (rank byte ≡ rank other → ⊥) → nat_lt (rank byte) (rank other) ≡ rises (byte ∷ rest) (other ∷ others)
-at_other_ranks byte other rest others differ =
-    by_first (nat_lt (rank byte) (rank other)) (rank byte == rank other) (text_cmp (map rank rest) (map rank others)) (λ e. differ (nat_cmp-IsAntisymmetric (rank byte) (rank other) e))
-
-pub at_one_rank : (byte other : ℕ) (rest others : List ℕ) → rank byte ≡ rank other → rises (byte ∷ rest) (other ∷ others) ≡ rises rest others
-at_one_rank byte other rest others e =
-    let behind = text_cmp (map rank rest) (map rank others) in
-    subst (λ r. is_lt (ordering_then (nat_cmp (rank byte) r) behind) ≡ is_lt behind) e (ap (λ o. is_lt (ordering_then o behind)) (tied_itself nat_cmp_total (rank byte)))
 
 -- where one ends, the longer one stands behind
 pub at_first_end : (others : List ℕ) → rises [] others ≡ nat_lt 0 (length others)

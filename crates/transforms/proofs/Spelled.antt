@@ -11,7 +11,7 @@ use Rattle.std.specs.Str.{bytes_eq, chars, IsUtf8}
 use Rattle.name_path.specs.Names.{IsName, AreNames, IsTokenPath, root_name}
 use Rattle.transforms.specs.Config.{is_prefix}
 use Rattle.transforms.specs.Hexadecimal.{last_hex_digits, hex_number}
-use Rattle.transforms.specs.PlatformName.{joint, is_kept, spelled_char, spelled, or_root, behind_prefix, pieces, without_root, joined, begins_with_digit, is_property, is_identifier}
+use Rattle.transforms.specs.PlatformName.{joint, is_kept, spelled_char, spelled, or_root, pieces, without_root, joined, begins_with_digit, is_property, is_identifier}
 use Rattle.transforms.specs.inner.Joined.{joined_names, HasFirst}
 use Rattle.transforms.specs.declared.platform.Platform.{Platform}
 use Rattle.transforms.specs.declared.platform.Platform.TheVariants.{Css, Android, Swift}
@@ -132,12 +132,6 @@ token_has_first path token = subst (λ names. HasFirst (without_root names)) (sy
     begins [] last names ends = alone last ends (bytes_eq last root_name) refl
     begins (name ∷ []) last names ends = kept name last [] (All-head IsName name [] names)
     begins (name ∷ next ∷ rest) last names ends = kept name next (rest ++ last ∷ []) (All-head IsName name (next ∷ rest) names)
-
--- a prefix joined to names
-pub behind_prefix_joins : (p : Platform) (c : ℕ) (cs : List ℕ) (names : List (List ℕ))
-    → (c ∷ cs) ++ (joint p ∷ joined_names p names) ≡ join_with_byte (joint p) (behind_prefix (c ∷ cs) (map (spelled p) (or_root names)))
-behind_prefix_joins p c cs [] = refl
-behind_prefix_joins p c cs (name ∷ names) = refl
 
 kept_is_ascii : (p : Platform) (c : ℕ) → is_kept p c ≡ true → c < 128
 kept_is_ascii Css c h = grind (arith, nat_tests)

@@ -1,4 +1,4 @@
-use Rattle.std.proofs.Common.{ℕ, ◌<◌, List, ap, sym, refl, ◌∙◌, arith, length, get_or, length-set}
+use Rattle.std.proofs.Common.{ℕ, List, ap, sym, refl, ◌∙◌, arith, length, get_or, length-set}
 use Rattle.std.proofs.lemmas.List.{length-map}
 use Rattle.token_tree.specs.Tree.{Group}
 use Rattle.token_tree.specs.View.{group_view}
