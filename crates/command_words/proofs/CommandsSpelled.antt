@@ -3,10 +3,9 @@ use Rattle.std.proofs.Common.{◌≡◌, ◌∙◌, ◌⊎◌, inl, inr, ℕ, Bo
 use Rattle.std.proofs.lemmas.Bool.{false≢true}
 use Rattle.std.proofs.lemmas.Slice.Eq.{bytes_eq-Decides}
 use Rattle.std.specs.Str.{bytes_eq}
-use Rattle.command_words.specs.Words.{IsCommand, command_named, command_of, gen_of, seed_of, token_count_of}
+use Rattle.command_words.specs.Words.{IsCommand, command_named, command_of, gen_of, seed_of, token_count_of, greatest_seed, most_tokens}
 use Rattle.command_words.specs.declared.command.Command.{Command}
 use Rattle.command_words.specs.declared.command.Command.TheVariants.{Build, Replay, Stats, Gen}
-use Rattle.command_words.specs.declared.command.TheConstants.{GREATEST_SEED, MOST_TOKENS}
 use Rattle.command_words.specs.inner.ClapWords.{is_known, is_positional, is_ready}
 use Rattle.command_words.proofs.NumbersSpelled.{gives, not_positional, spelled}
 
@@ -54,8 +53,8 @@ unready (w ∷ a ∷ b ∷ []) h =
     elim (lacking (is_known w) (bytes_eq w (codes "gen")) (is_positional a) (is_positional b) known h) [
       | inl g ↦ ap (λ t. cond t (gen_of (seed_of a) (token_count_of b)) None) g
       | inr pq ↦ either_none (bytes_eq w (codes "gen")) (gen_of (seed_of a) (token_count_of b)) (elim pq [
-        | inl p ↦ ap (λ s. gen_of s (token_count_of b)) (not_positional 0 GREATEST_SEED a (omega arith) p)
-        | inr q ↦ ap (λ s. gen_of (seed_of a) s) (not_positional 1 MOST_TOKENS b (omega arith) q) ∙ no_size (seed_of a)
+        | inl p ↦ ap (λ s. gen_of s (token_count_of b)) (not_positional 0 greatest_seed a (omega arith) p)
+        | inr q ↦ ap (λ s. gen_of (seed_of a) s) (not_positional 1 most_tokens b (omega arith) q) ∙ no_size (seed_of a)
       ])
     ]
 unready (w ∷ a ∷ b ∷ c ∷ ws) h = refl
@@ -67,9 +66,9 @@ all words Replay is = ap command_of is.spelled
 all words Stats is = ap command_of is.spelled
 all words (Gen seed size) is =
     let seed_is : seed_of (decimal seed) ≡ Some seed =
-    spelled 0 GREATEST_SEED seed (decimal seed) (omega (arith, is.bounds.0)) refl (omega arith) is.bounds.0 in
+    spelled 0 greatest_seed seed (decimal seed) (omega (arith, is.bounds.0)) refl (omega arith) is.bounds.0 in
     let size_is : token_count_of (decimal size) ≡ Some size =
-    spelled 1 MOST_TOKENS size (decimal size) (omega (arith, is.bounds.2)) refl is.bounds.1 is.bounds.2 in
+    spelled 1 most_tokens size (decimal size) (omega (arith, is.bounds.2)) refl is.bounds.1 is.bounds.2 in
     ap command_of is.spelled ∙ λ i. gen_of (seed_is i) (size_is i)
 
 -- which of the names it was
@@ -123,8 +122,8 @@ gen_words w a b c e =
     let found = numbers (bytes_eq w (codes "gen")) (seed_of a) (token_count_of b) c e in
     let name : w ≡ codes "gen" = (bytes_eq-Decides w (codes "gen")).0 found.0 in
     let f = found.1 in
-    let seed = gives 0 GREATEST_SEED f.m a f.first in
-    let size = gives 1 MOST_TOKENS f.n b f.second in
+    let seed = gives 0 greatest_seed f.m a f.first in
+    let size = gives 1 most_tokens f.n b f.second in
     subst (λ d. IsCommand (w ∷ a ∷ b ∷ []) d) f.same (record {
       spelled = λ i. name i ∷ seed.0 i ∷ size.0 i ∷ [];
       bounds = (seed.2, size.1, size.2);

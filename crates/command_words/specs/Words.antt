@@ -5,7 +5,6 @@ use Rattle.std.specs.Str.{bytes_eq}
 use Rattle.std.specs.Str.Parse.{digits_value}
 use Rattle.command_words.specs.declared.command.Command.{Command}
 use Rattle.command_words.specs.declared.command.Command.TheVariants.{Build, Replay, Stats, Gen}
-use Rattle.command_words.specs.declared.command.TheConstants.{GREATEST_SEED, MOST_TOKENS}
 
 -- the arguments that spell a command: its name, and after `gen` its two numbers in decimal digits
 abbrev pub arguments_of : Command → List (List ℕ)
@@ -14,12 +13,20 @@ arguments_of Replay = codes "replay" ∷ []
 arguments_of Stats = codes "stats" ∷ []
 arguments_of (Gen seed size) = codes "gen" ∷ decimal seed ∷ decimal size ∷ []
 
+-- the greatest seed: the last number of 32 bits
+abbrev pub greatest_seed : ℕ
+greatest_seed = 4294967295
+
+-- the greatest size, in tokens
+abbrev pub most_tokens : ℕ
+most_tokens = 4000
+
 -- a seed and a size are within the limits, and a size is at least 1
 abbrev pub IsInBounds : Command → Type 0
 IsInBounds Build = Unit {0}
 IsInBounds Replay = Unit {0}
 IsInBounds Stats = Unit {0}
-IsInBounds (Gen seed size) = (seed ≤ GREATEST_SEED) × (1 ≤ size) × (size ≤ MOST_TOKENS)
+IsInBounds (Gen seed size) = (seed ≤ greatest_seed) × (1 ≤ size) × (size ≤ most_tokens)
 
 -- the arguments are this command
 pub record IsCommand (words : List (List ℕ)) (c : Command) : Type 0 where
@@ -35,10 +42,10 @@ unfoldable pub decimal_within : ℕ → ℕ → List ℕ → Option ℕ
 decimal_within low high text = if_spelled low high text (digits_value 10 text)
 
 abbrev pub seed_of : List ℕ → Option ℕ
-seed_of text = decimal_within 0 GREATEST_SEED text
+seed_of text = decimal_within 0 greatest_seed text
 
 abbrev pub token_count_of : List ℕ → Option ℕ
-token_count_of text = decimal_within 1 MOST_TOKENS text
+token_count_of text = decimal_within 1 most_tokens text
 
 abbrev pub gen_of : Option ℕ → Option ℕ → Option Command
 gen_of None size = None

@@ -8,8 +8,6 @@ mod laws;
 mod number;
 mod positional;
 mod reading;
-#[cfg(test)]
-mod tests;
 
 pub use command::{Command, GREATEST_SEED, MOST_TOKENS, WordStop};
 pub use laws::words_of_commands;

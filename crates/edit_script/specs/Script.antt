@@ -6,7 +6,6 @@ use Rattle.std.specs.Fmt.{decimal}
 use Rattle.std.specs.List.{AllByRecursion, flat_map, list_all, slice_split}
 use Rattle.std.specs.Str.{IsUtf8, IsValidUpTo, bytes_eq}
 use Rattle.tk_io.specs.Characters.{full_stop, hyphen, low_line, solidus}
-use Rattle.edit_script.specs.declared.path.TheConstants.{LONGEST_PATH}
 
 -- an event: a path is given a text, a path is given up, or what stands is committed
 pub data EventData : Type 0 where
@@ -30,9 +29,13 @@ is_dots s = bytes_eq s (codes ".") || bytes_eq s (codes "..")
 abbrev pub is_segment : List ℕ → Bool
 is_segment s = not (is_dots s) && (not (length s == 0) && list_all is_path_byte s)
 
--- at most so many bytes: segments joined by `/`
+-- how many bytes a path may have
+abbrev pub longest_path : ℕ
+longest_path = 200
+
+-- not too long, and segments joined by `/`
 abbrev pub is_path : List ℕ → Bool
-is_path path = nat_le (length path) LONGEST_PATH && list_all is_segment (slice_split (λ b. b == solidus) path)
+is_path path = nat_le (length path) longest_path && list_all is_segment (slice_split (λ b. b == solidus) path)
 
 -- a path is one, and a put's text is text whose length has at most eight digits
 abbrev pub EventFits : EventData → Type 0

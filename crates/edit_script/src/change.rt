@@ -6,17 +6,24 @@ ghost use Rattle.std.specs.Option.{option_map};
 ghost use Rattle.edit_script.specs.View.{change_view};
 
 use std::alloc::Global;
+use std::fmt;
 use std::marker::Model;
 use tk_io::{Bytes, NoMemory};
 
 /// The change of one output, with its record's first line, the line end included. Paths and bytes are borrowed from
 /// the outputs.
-#[derive(Debug, Drop)]
+#[derive(Drop)]
 pub enum Change<'a> {
     /// The output at this path is held no more. The line is `gone PATH`.
     Gone(&'a str, Bytes),
     /// The output at this path is new or has other bytes, and these are they. The line is `file PATH LEN`.
     Written(&'a str, &'a [u8], Bytes),
+}
+
+impl<'a> fmt::Debug for Change<'a> {
+    fn fmt<W: fmt::Write>(&self, f: &mut fmt::Formatter<W>) -> fmt::Result {
+        f.write_str("Change")
+    }
 }
 
 /// A list of changes, each seen with the line that it carries.

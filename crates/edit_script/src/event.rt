@@ -6,11 +6,12 @@ ghost use Rattle.std.specs.Option.{option_map};
 ghost use Rattle.edit_script.specs.View.{event_view};
 
 use std::alloc::Global;
+use std::fmt;
 use std::marker::Model;
 use tk_io::NoMemory;
 
 /// One event of a script. Paths and texts are slices of the script.
-#[derive(Clone, Copy, Debug, PartialEq, Eq)]
+#[derive(Clone, Copy, PartialEq, Eq)]
 pub enum Event<'s> {
     /// The file at this path gets this text.
     Put(&'s str, &'s str),
@@ -18,6 +19,12 @@ pub enum Event<'s> {
     Del(&'s str),
     /// What stands is committed.
     Commit,
+}
+
+impl<'s> fmt::Debug for Event<'s> {
+    fn fmt<W: fmt::Write>(&self, f: &mut fmt::Formatter<W>) -> fmt::Result {
+        f.write_str("Event")
+    }
 }
 
 /// The events of a script, in order.

@@ -12,8 +12,6 @@ mod path;
 mod record_line;
 mod script;
 mod short;
-#[cfg(test)]
-mod tests;
 
 pub use change::{Change, Changes};
 pub use event::{Event, Events};

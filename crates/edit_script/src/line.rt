@@ -8,10 +8,11 @@ ghost use Rattle.tk_io.specs.Writing.{AppendsPart};
 ghost use Rattle.edit_script.specs.Stream.{line_text};
 
 use itoa::Buffer;
+use std::fmt;
 use tk_io::{Failed, Sink, write_all};
 
 /// A line of the stream or of the statistics that is no part of a record.
-#[derive(Clone, Copy, Debug, PartialEq, Eq)]
+#[derive(Clone, Copy, PartialEq, Eq)]
 pub enum Line {
     /// The header of the stream, `tokc-stream 1`.
     StreamHead,
@@ -28,6 +29,12 @@ pub enum Line {
     },
     /// The last line, with the number of commits: `done N`.
     Done(u64),
+}
+
+impl fmt::Debug for Line {
+    fn fmt<W: fmt::Write>(&self, f: &mut fmt::Formatter<W>) -> fmt::Result {
+        f.write_str("Line")
+    }
 }
 
 /// Writes the line with its line end, as one piece.

@@ -6,8 +6,6 @@ mod core_file;
 mod events;
 mod laws;
 mod script;
-#[cfg(test)]
-mod tests;
 
 pub use laws::generated_events;
 pub use script::{MOST_TOKENS, gen_script};

@@ -11,6 +11,3 @@ mod runs;
 
 pub use newlines::{count_newlines, last_newline};
 pub use runs::{first_special, skip_blank};
-
-#[cfg(test)]
-mod tests;

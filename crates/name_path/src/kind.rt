@@ -4,8 +4,10 @@ ghost use Rattle.std.specs.Prelude.{◌≡◌, ◌≢◌, MatchOption};
 ghost use Rattle.name_path.specs.declared.kind.Kind.{Kind};
 ghost use Rattle.name_path.specs.Kinds.{kind_name, is_simple_kind};
 
+use std::fmt;
+
 /// The kind of a token, by which its value is read (Format Module, sections on types).
-#[derive(Clone, Copy, Debug, PartialEq, Eq)]
+#[derive(Clone, Copy, PartialEq, Eq)]
 pub enum Kind {
     Color,
     Dimension,
@@ -20,6 +22,12 @@ pub enum Kind {
     Shadow,
     Gradient,
     Typography,
+}
+
+impl fmt::Debug for Kind {
+    fn fmt<W: fmt::Write>(&self, f: &mut fmt::Formatter<W>) -> fmt::Result {
+        f.write_str(self.name())
+    }
 }
 
 impl Kind {

@@ -17,8 +17,6 @@ mod pieces;
 mod place;
 mod printing;
 mod reading;
-#[cfg(test)]
-mod tests;
 mod trail;
 
 pub use kind::Kind;

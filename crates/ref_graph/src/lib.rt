@@ -7,7 +7,5 @@
 mod graph;
 mod marks;
 mod sources;
-#[cfg(test)]
-mod tests;
 
 pub use graph::{Graph, Marks};

@@ -1,4 +1,5 @@
-use Rattle.std.proofs.Common.{◌≡◌, ℕ, zero, suc, ◌+◌, ◌<◌, ◌≤◌, List, [], ◌∷◌, ◌++◌, refl, sym, ap, ◌∙◌, subst, length, length-set, get_or, set, arith, All}
+use Rattle.std.specs.Option.{IsSomeAnd}
+use Rattle.std.proofs.Common.{Option, Some, None, ◌≡◌, ℕ, zero, suc, ◌+◌, ◌<◌, ◌≤◌, List, [], ◌∷◌, ◌++◌, refl, sym, ap, ◌∙◌, subst, length, length-set, get_or, set, arith, All}
 use Rattle.std.proofs.lemmas.List.Elements.{All-get_or}
 use Rattle.std.specs.declared.vec.Vec.{Vec}
 use Rattle.std.specs.declared.alloc.Global.{Global}
@@ -6,10 +7,8 @@ use Rattle.ring.specs.Graph.{needs_in, IsGraph}
 use Rattle.ring.specs.declared.search.Frame.{Frame}
 use Rattle.ring.specs.declared.search.Mark.{Mark}
 use Rattle.ring.specs.declared.search.Mark.TheVariants.{New, Open, Done}
-use Rattle.std.proofs.lemmas.List.{get_or_read}
-use Rattle.ring.specs.Lists.{In}
 use Rattle.ring.specs.Routes.{IsRing}
-use Rattle.ring.specs.inner.Stack.{nodes, IsEndFrom}
+use Rattle.ring.specs.inner.Stack.{nodes, IsEndFrom, LooksAt}
 use Rattle.ring.proofs.Searches.{At, at_get_or, Searching, advance, enter, leave, found, ring_within, top_open, top_within}
 use Rattle.ring.proofs.Work.{weight, new_work, left_work, left_append, work_set}
 
@@ -55,8 +54,17 @@ module _ (graph : List (Vec ℕ Global)) (ms : List Mark) (rest : List Frame) (t
       subst (λ (m : Mark). new_work graph (set ms top.node Done) + weight m (length (needs_in graph top.node)) ≡ new_work graph ms + 0) n (work_set graph ms top.node Done e h) in
       omega arith
 
-push_on : {fs back stack : List Frame} (f : Frame) → back ≡ fs → stack ≡ back ++ f ∷ [] → stack ≡ fs ++ f ∷ []
-push_on f put made = made ∙ ap (λ (gs : List Frame). gs ++ f ∷ []) put
+untold : {R : Type 0} (P : Vec ℕ Global → Type 0) (told : Option (Vec ℕ Global)) → ((ring : Vec ℕ Global) → told ≡ Some ring → ⊥) → IsSomeAnd told P → R
+untold P None none k = absurd k
+untold P (Some ring) none k = absurd (none ring refl)
+
+-- a ring is told of an open need alone
+ring_from : (marks : List Mark) (rest : List Frame) (top : Frame) (w : ℕ) (told : Option (Vec ℕ Global)) (marks' : List Mark) (stack' : List Frame) (ring : Vec ℕ Global) (m : Mark)
+    → LooksAt m marks rest top w told marks' stack' → told ≡ Some ring → (m ≡ Open) × IsEndFrom w (nodes (rest ++ top ∷ [])) ring.items
+ring_from marks rest top w told marks' stack' ring Done k some = let none = k.0 in absurd (cc)
+ring_from marks rest top w told marks' stack' ring New k some = let none = k.0 in absurd (cc)
+ring_from marks rest top w told marks' stack' ring Open k some =
+    (refl, subst (λ (t : Option (Vec ℕ Global)). IsSomeAnd t (λ r. IsEndFrom w (nodes (rest ++ top ∷ [])) r.items)) some k)
 
 -- what holds before each turn
 abbrev pub Turn : List (Vec ℕ Global) → ℕ → List Mark → List Frame → List ℕ → Type 0
@@ -123,66 +131,53 @@ module _ {graph : List (Vec ℕ Global)} {root : ℕ} {marks : List Mark} {stack
       let h = need_within graph top.node top.next w row l.needs (top_in l.before) l.read l.within l.need in
       omega (arith, (l.before).size)
 
-  marked : {m : Mark} → Looked graph root marks stack rest top order row w → (n : Mark) → m ≡ get_or marks w m → m ≡ n → get_or marks w New ≡ n
-  marked {m = m} l n e f = sym (get_or_read marks w m (in_marks l) e New) ∙ f
-
   next_in : Looked graph root marks stack rest top order row w → top.next < length (needs_in graph top.node)
   next_in l =
       subst (λ (xs : List ℕ). top.next < length xs) (sym (row_read graph top.node row (top_in l.before) l.read)) l.within
 
-  -- a need that is done is passed over
-  pub advanced : {stack' : List Frame} {m : Mark} → Looked graph root marks stack rest top order row w
-      → m ≡ get_or marks w m → m ≡ Done → stack' ≡ rest ++ (record { node = top.node; next = top.next + 1 }) ∷ []
-      → Turn graph root marks stack' order
-  advanced l e d made =
-      let next = advance (needs_in graph) root marks rest top order w (searching l.before) (at l) (marked l Done e d) in
-      record {
+  -- what a need that closes no ring leaves
+  pub turned : (told : Option (Vec ℕ Global)) (marks' : List Mark) (stack' : List Frame) → Looked graph root marks stack rest top order row w → (m : Mark) → get_or marks w New ≡ m
+      → LooksAt m marks rest top w told marks' stack' → ((ring : Vec ℕ Global) → told ≡ Some ring → ⊥)
+      → Turn graph root marks' stack' order
+  turned told marks' stack' l Done e k none =
+      let next = advance (needs_in graph) root marks rest top order w (searching l.before) (at l) e in
+      subst (λ (ms : List Mark). Turn graph root ms stack' order) (sym k.1) (record {
         marks = (l.before).size;
-        search = subst (λ (fs : List Frame). Searching (needs_in graph) root marks fs order) (sym made) next;
-      }
-
-  pub advanced_less : {stack' : List Frame} → Looked graph root marks stack rest top order row w
-      → stack' ≡ rest ++ (record { node = top.node; next = top.next + 1 }) ∷ []
-      → new_work graph marks + left_work graph stack' < new_work graph marks + left_work graph stack
-  advanced_less l made =
-      let a = ap (left_work graph) made in let b = ap (left_work graph) (l.before).popped in
-      let h = advance_less graph marks rest top (next_in l) in omega arith
-
-  -- a new need is entered, above the frame that is put back
-  pub entered : {back stack' : List Frame} {m : Mark} → Looked graph root marks stack rest top order row w
-      → m ≡ get_or marks w m → m ≡ New → back ≡ rest ++ top ∷ [] → stack' ≡ back ++ (record { node = w; next = 0 }) ∷ []
-      → Turn graph root (set marks w Open) stack' order
-  entered l e d put made =
-      let on = push_on (record { node = w; next = 0 }) put made in
-      let in_it = enter (needs_in graph) root marks rest top order w (searching l.before) (at l) (marked l New e d) (in_marks l) in
-      record {
+        search = subst (λ (fs : List Frame). Searching (needs_in graph) root marks fs order) (sym k.2) next;
+      })
+  turned told marks' stack' l New e k none =
+      let in_it = enter (needs_in graph) root marks rest top order w (searching l.before) (at l) e (in_marks l) in
+      subst (λ (ms : List Mark). Turn graph root ms stack' order) (sym k.1) (record {
         marks = length-set marks w Open ∙ (l.before).size;
-        search = subst (λ (fs : List Frame). Searching (needs_in graph) root (set marks w Open) fs order) (sym on) in_it;
-      }
+        search = subst (λ (fs : List Frame). Searching (needs_in graph) root (set marks w Open) fs order) (sym k.2) in_it;
+      })
+  turned told marks' stack' l Open e k none =
+      untold (λ (r : Vec ℕ Global). IsEndFrom w (nodes (rest ++ top ∷ [])) r.items) told none k
 
-  pub entered_less : {back stack' : List Frame} {m : Mark} → Looked graph root marks stack rest top order row w
-      → m ≡ get_or marks w m → m ≡ New → back ≡ rest ++ top ∷ [] → stack' ≡ back ++ (record { node = w; next = 0 }) ∷ []
-      → new_work graph (set marks w Open) + left_work graph stack' < new_work graph marks + left_work graph stack
-  entered_less l e d put made =
-      let a = ap (left_work graph) (push_on (record { node = w; next = 0 }) put made) in let b = ap (left_work graph) (l.before).popped in
-      let h = enter_less graph marks rest top w (l.before).size (in_marks l) (marked l New e d) in omega arith
+  pub turned_less : (told : Option (Vec ℕ Global)) (marks' : List Mark) (stack' : List Frame) → Looked graph root marks stack rest top order row w → (m : Mark) → get_or marks w New ≡ m
+      → LooksAt m marks rest top w told marks' stack' → ((ring : Vec ℕ Global) → told ≡ Some ring → ⊥)
+      → new_work graph marks' + left_work graph stack' < new_work graph marks + left_work graph stack
+  turned_less told marks' stack' l Done e k none =
+      let a = ap (left_work graph) k.2 in let m = ap (new_work graph) k.1 in let b = ap (left_work graph) (l.before).popped in
+      let h = advance_less graph marks rest top (next_in l) in omega arith
+  turned_less told marks' stack' l New e k none =
+      let a = ap (left_work graph) k.2 in let m = ap (new_work graph) k.1 in let b = ap (left_work graph) (l.before).popped in
+      let h = enter_less graph marks rest top w (l.before).size (in_marks l) e in omega arith
+  turned_less told marks' stack' l Open e k none =
+      untold (λ (r : Vec ℕ Global). IsEndFrom w (nodes (rest ++ top ∷ [])) r.items) told none k
 
-  -- a need that is open stands on the stack, which is seen with the frame put back, and closes a ring
-  pub on_stack : {seen : List Frame} {m : Mark} → Looked graph root marks stack rest top order row w
-      → m ≡ get_or marks w m → m ≡ Open → seen ≡ rest ++ top ∷ [] → In w (nodes seen)
-  on_stack l e d put = subst (λ (fs : List Frame). In w (nodes fs)) (sym put) ((searching l.before).stands w (marked l Open e d))
+  -- a need that is open closes a ring
+  pub is_ring : (told : Option (Vec ℕ Global)) (marks' : List Mark) (stack' : List Frame) (ring : Vec ℕ Global) → Looked graph root marks stack rest top order row w
+      → LooksAt (get_or marks w New) marks rest top w told marks' stack' → told ≡ Some ring → IsRing (needs_in graph) root ring.items
+  is_ring told marks' stack' ring l k some =
+      let from = ring_from marks rest top w told marks' stack' ring (get_or marks w New) k some in
+      found (needs_in graph) root marks rest top order w ring.items (searching l.before) (at l) from.0 from.1
 
-  pub is_ring : {seen : List Frame} {ring : List ℕ} {m : Mark} → Looked graph root marks stack rest top order row w
-      → m ≡ get_or marks w m → m ≡ Open → seen ≡ rest ++ top ∷ [] → IsEndFrom w (nodes seen) ring → IsRing (needs_in graph) root ring
-  is_ring {ring = ring} l e d put from =
-      let on_it = subst (λ (fs : List Frame). IsEndFrom w (nodes fs) ring) put from in
-      found (needs_in graph) root marks rest top order w ring (searching l.before) (at l) (marked l Open e d) on_it
-
-  pub ring_in : {seen : List Frame} {ring : List ℕ} → Looked graph root marks stack rest top order row w
-      → seen ≡ rest ++ top ∷ [] → IsEndFrom w (nodes seen) ring → All (λ v. v < length graph) ring
-  ring_in {ring = ring} l put from =
-      let on_it = subst (λ (fs : List Frame). IsEndFrom w (nodes fs) ring) put from in
-      ring_within (needs_in graph) root marks (length graph) (rest ++ top ∷ []) order w ring (l.before).size (searching l.before) on_it
+  pub ring_in : (told : Option (Vec ℕ Global)) (marks' : List Mark) (stack' : List Frame) (ring : Vec ℕ Global) → Looked graph root marks stack rest top order row w
+      → LooksAt (get_or marks w New) marks rest top w told marks' stack' → told ≡ Some ring → All (λ v. v < length graph) ring.items
+  ring_in told marks' stack' ring l k some =
+      let from = ring_from marks rest top w told marks' stack' ring (get_or marks w New) k some in
+      ring_within (needs_in graph) root marks (length graph) (rest ++ top ∷ []) order w ring.items (l.before).size (searching l.before) from.1
 
 no_frames : (fs : List Frame) → length fs ≡ 0 → fs ≡ []
 no_frames [] e = refl

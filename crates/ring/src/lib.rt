@@ -9,8 +9,6 @@
 
 mod laws;
 mod search;
-#[cfg(test)]
-mod tests;
 mod totals;
 
 pub use laws::{

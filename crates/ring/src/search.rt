@@ -1,11 +1,13 @@
 //! The search for the first closed route, with a stack of its own.
 
-ghost use Rattle.std.specs.Prelude.{◌<◌, ◌↔◌, length, All, IfOk, IsTrue};
+ghost use Rattle.std.specs.Prelude.{◌≡◌, ◌<◌, ◌↔◌, ◌^◌, ◌++◌, ◌∷◌, [], length, get_or, All, IfOk};
+ghost use Rattle.std.specs.Prelude.{IsTrue};
 ghost use Rattle.ring.specs.Lists.{In};
 ghost use Rattle.ring.specs.Routes.{IsRing, HasNoRing};
 ghost use Rattle.ring.specs.Order.{IsOrder};
 ghost use Rattle.ring.specs.Graph.{needs_in, IsGraph};
-ghost use Rattle.ring.specs.inner.Stack.{nodes, IsEndFrom};
+ghost use Rattle.ring.specs.inner.Stack.{nodes, IsEndFrom, LooksAt};
+ghost use Rattle.ring.specs.declared.search.Mark.TheVariants.{New, Open};
 ghost use Rattle.ring.specs.Answer.{IfRing, IfOrder};
 
 use std::alloc::{AllocError, Global};
@@ -68,6 +70,47 @@ pub fn is_graph(graph: &[Vec<usize>]) -> bool
     true
 }
 
+// Looks at a need of the frame that was taken off the stack: one that is done is passed over, a new one is entered, and
+// an open one closes the ring that is answered.
+fn look_at(
+    alloc: Global,
+    marks: &mut Vec<Mark>,
+    stack: &mut Vec<Frame>,
+    top: Frame,
+    need: usize,
+) -> Result<Option<Vec<usize>>, AllocError>
+    requires within { need < length marks.old.items }
+    requires next { top.next < 2 ^ 63 }
+    requires open { get_or marks.old.items need New ≡ Open
+        → In need (nodes (stack.old.items ++ top ∷ [])) }
+    ensures { IfOk result (λ told. LooksAt (get_or marks.old.items need New) marks.old.items
+        stack.old.items top need told marks.new.items stack.new.items) }
+{
+    match marks[need] {
+        Mark::Done => {
+            stack.push(Frame {
+                node: top.node,
+                next: top.next + 1,
+            })?;
+            Ok(None)
+        }
+        Mark::New => {
+            stack.push(top)?;
+            marks[need] = Mark::Open;
+            stack.push(Frame {
+                node: need,
+                next: 0,
+            })?;
+            Ok(None)
+        }
+        Mark::Open => {
+            stack.push(top)?;
+            let ring = nodes_from(alloc, stack.as_slice(), need)?;
+            Ok(Some(ring))
+        }
+    }
+}
+
 /// The ring of the first closed route from `root`, or, exactly where there is no closed route, an order of all nodes
 /// that routes from the root come to. `graph[v]` lists what node v needs. The only error is out of memory.
 pub fn ring_or_order(alloc: Global, graph: &[Vec<usize>], root: usize) -> Result<Found, AllocError>
@@ -91,23 +134,8 @@ pub fn ring_or_order(alloc: Global, graph: &[Vec<usize>], root: usize) -> Result
         let row = &graph[top.node];
         if top.next < row.len() {
             let need = row[top.next];
-            match marks[need] {
-                Mark::Done => stack.push(Frame {
-                    node: top.node,
-                    next: top.next + 1,
-                })?,
-                Mark::New => {
-                    stack.push(top)?;
-                    marks[need] = Mark::Open;
-                    stack.push(Frame {
-                        node: need,
-                        next: 0,
-                    })?;
-                }
-                Mark::Open => {
-                    stack.push(top)?;
-                    return Ok(Found::Ring(nodes_from(alloc, stack.as_slice(), need)?));
-                }
+            if let Some(ring) = look_at(alloc, &mut marks, &mut stack, top, need)? {
+                return Ok(Found::Ring(ring));
             }
         } else {
             order.push(top.node)?;

@@ -14,8 +14,6 @@ mod sink;
 mod source;
 mod steps;
 mod streams;
-#[cfg(test)]
-mod tests;
 mod text;
 mod text_map;
 

@@ -7,10 +7,11 @@ ghost use Rattle.tk_io.specs.Causes.{HasCause, following};
 ghost use Rattle.tk_io.specs.Memory.{MustFail};
 
 use crate::{Failed, Sink, Source};
+use std::fmt;
 use std::marker::Model;
 
 /// A source over a slice. Its calls are numbered from 1, and those whose number is listed fail.
-#[derive(Debug, Drop)]
+#[derive(Drop)]
 pub struct MemSource<'a> {
     bytes: &'a [u8],
     fails: &'a [u64],
@@ -46,6 +47,12 @@ impl<'a> MemSource<'a> {
     }
 }
 
+impl<'a> fmt::Debug for MemSource<'a> {
+    fn fmt<W: fmt::Write>(&self, f: &mut fmt::Formatter<W>) -> fmt::Result {
+        f.write_str("MemSource")
+    }
+}
+
 impl<'a> Source for MemSource<'a> {
     ghost left = { λ s. Some s.left };
 
@@ -77,7 +84,7 @@ impl<'a> Source for MemSource<'a> {
 
 /// A sink over a room. Its calls are numbered from 1; those whose number is listed fail, and so do those of a piece that
 /// is not empty where the room is full. Each other call takes at most `most` bytes.
-#[derive(Debug, Drop)]
+#[derive(Drop)]
 pub struct MemSink<'a> {
     fails: &'a [u64],
     most: usize,
@@ -133,6 +140,12 @@ impl<'a> MemSink<'a> {
         ensures { result.now ≡ self.now.written }
     {
         &self.room[..self.len]
+    }
+}
+
+impl<'a> fmt::Debug for MemSink<'a> {
+    fn fmt<W: fmt::Write>(&self, f: &mut fmt::Formatter<W>) -> fmt::Result {
+        f.write_str("MemSink")
     }
 }
 

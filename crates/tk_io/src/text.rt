@@ -16,18 +16,19 @@ ghost use Rattle.tk_io.specs.Order.{text_cmp};
 use crate::NoMemory;
 use std::alloc::Global;
 use std::cmp::Ordering;
+use std::fmt;
 use std::hash::{Hash, Hasher};
 use std::marker::Model;
 use std::rc::RcStr;
 
 /// A text, seen as the bytes of its UTF-8. It borrows from a source, or shares an owned text where the source spells
 /// it by escapes.
-#[derive(Debug, Drop)]
+#[derive(Drop)]
 pub struct Text<'s> {
     kept: Kept<'s>,
 }
 
-#[derive(Debug, Drop)]
+#[derive(Drop)]
 enum Kept<'s> {
     Slice(&'s str),
     Shared(RcStr),
@@ -191,6 +192,12 @@ impl<'s> Text<'s> {
                 shared(alloc, pieces.as_slice())
             }
         }
+    }
+}
+
+impl<'s> fmt::Debug for Text<'s> {
+    fn fmt<W: fmt::Write>(&self, f: &mut fmt::Formatter<W>) -> fmt::Result {
+        fmt::Debug::fmt(self.as_str(), f)
     }
 }
 
