@@ -9,7 +9,9 @@ pub mod Numeral
 pub mod Again
 pub mod Pointed
 pub mod Grammar
+pub mod NumberTexts
 mod Exactness
 mod Exact
 mod Range
 pub mod ReadingBack
+pub mod BytesAreParts

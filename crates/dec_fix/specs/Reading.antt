@@ -1,5 +1,5 @@
 -- The number that a text spells, as a function of the text.
-use Rattle.std.specs.Prelude.{ℕ, ◌+◌, ◌*◌, ◌^◌, ◌==◌, ◌&&◌, ◌||◌, Bool, true, false, List, [], ◌∷◌, ◌++◌, length, nat_lt, nat_le, Option, Some, None, if◌then◌else◌, option_map, option_and_then, unsigned_abs}
+use Rattle.std.specs.Prelude.{ℕ, ◌+◌, ◌*◌, ◌^◌, ◌==◌, ◌&&◌, ◌||◌, Bool, true, false, List, [], ◌∷◌, ◌++◌, length, nat_lt, nat_le, Option, Some, None, is_some, if◌then◌else◌, option_map, option_and_then, unsigned_abs}
 use Rattle.std.specs.Char.{is_ascii_digit}
 use Rattle.tk_io.specs.Characters.{plus_sign, hyphen, full_stop, digit_zero, capital_e, small_e}
 use Rattle.dec_fix.specs.Decimal.{Decimal, signed, decimal_of, size_limit, most_places}
@@ -73,6 +73,10 @@ split_unsigned negative t = if is_whole (digits_front t) then split_tail negativ
 -- a JSON number, split, or none where the text is no JSON number
 abbrev pub split_of : List ℕ → Option Split
 split_of t = split_unsigned (sign_at t).0 (sign_at t).1
+
+-- whether the text is a JSON number, whatever its size
+abbrev pub is_number_text : List ℕ → Bool
+is_number_text t = is_some (split_of t)
 
 -- the size of the number, as a whole number over a power of ten
 abbrev pub size_of : Split → ℕ

@@ -61,6 +61,12 @@ pub record IsNumber (p : NumberParts) : Type 0 where
   pub fraction : IsTrue (all_ascii_digits p.fraction)
   pub exponent : IsExponent p.exponent
 
+-- the text is a JSON number, whatever its size
+pub record IsNumberText (text : List ℕ) : Type 0 where
+  pub parts : NumberParts
+  pub is_number : IsNumber parts
+  pub spelled : text ≡ text_of parts
+
 -- the whole number that digits write after those of n
 abbrev pub digits_number_after : ℕ → List ℕ → ℕ
 digits_number_after n [] = n

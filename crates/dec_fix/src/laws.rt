@@ -1,6 +1,7 @@
 //! Laws of the definitions, for the crates above: functions that do nothing and are called for what they ensure.
 
-ghost use Rattle.std.specs.Prelude.{◌≡◌, ◌++◌, ℕ, List, true, Some, unsigned_abs};
+ghost use Rattle.std.specs.Prelude.{◌≡◌, ◌++◌, ◌<◌, ℕ, List, true, Some, unsigned_abs};
+ghost use Rattle.dec_fix.specs.Arithmetic.{IsFromZeroToOne, byte_of, byte_decimal};
 ghost use Rattle.dec_fix.specs.Decimal.{Decimal, IsDec, IsExact, IsSameNumber, IsShort};
 ghost use Rattle.dec_fix.specs.Following.{ends_number, number_at};
 ghost use Rattle.dec_fix.specs.Reading.{number_of};
@@ -34,4 +35,11 @@ pub fn written_is_read()
     ensures reads { (d : Decimal) → IsExact d → number_of (spelling d) ≡ Some d }
     ensures front { (d : Decimal) (rest : List ℕ) → IsDec d → ends_number rest ≡ true
         → number_at (spelling d ++ rest) ≡ (d, rest) }
+{}
+
+/// Each byte, as a part of 255, is a number that is read, from 0 to 1; its nearest byte is that byte again.
+pub fn bytes_are_parts()
+    ensures exact { (b : ℕ) → b < 256 → IsExact (byte_decimal b) }
+    ensures part { (b : ℕ) → b < 256 → IsFromZeroToOne (byte_decimal b) }
+    ensures again { (b : ℕ) → b < 256 → byte_of (byte_decimal b) ≡ b }
 {}

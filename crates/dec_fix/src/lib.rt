@@ -16,7 +16,5 @@ mod significand;
 mod writing;
 
 pub use decimal::{Dec, NotDec};
-pub use laws::{one_number, one_value, read_is_spelled, written_is_read};
-
-#[cfg(test)]
-mod tests;
+pub use laws::{bytes_are_parts, one_number, one_value, read_is_spelled, written_is_read};
+pub use reading::is_number;

@@ -1,14 +1,14 @@
 //! Reading a JSON number exactly.
 
-ghost use Rattle.std.specs.Prelude.{◌≡◌, ◌*◌, ◌^◌, ◌<◌, ◌≤◌, ℕ, true, min, option_map};
+ghost use Rattle.std.specs.Prelude.{◌≡◌, ◌*◌, ◌^◌, ◌<◌, ◌≤◌, ℕ, true, false, min, option_map};
 ghost use Rattle.std.specs.Prelude.{IsTrue, IfOk, IfSome, OnErr};
 ghost use Rattle.std.specs.Result.{result_ok};
 ghost use Rattle.std.specs.Str.{all_ascii_digits};
 ghost use Rattle.dec_fix.specs.Decimal.{Decimal, IsExact, shortest, size_limit};
-ghost use Rattle.dec_fix.specs.Spelling.{Spells};
+ghost use Rattle.dec_fix.specs.Spelling.{IsNumberText, Spells};
 ghost use Rattle.dec_fix.specs.Reading.{digits_front, digits_rest, sign_at, is_whole, fraction_at};
 ghost use Rattle.dec_fix.specs.Reading.{exponent_sign_at, exponent_at, split_of, within_bounds};
-ghost use Rattle.dec_fix.specs.Reading.{size_of, places_of, number_of};
+ghost use Rattle.dec_fix.specs.Reading.{is_number_text, size_of, places_of, number_of};
 ghost use Rattle.dec_fix.specs.inner.Significand.{IsLast};
 ghost use Rattle.dec_fix.specs.inner.View.{split_view};
 
@@ -31,6 +31,15 @@ impl Dec {
             None => Err(NotDec),
         }
     }
+}
+
+/// Whether the text is a JSON number (RFC 8259 section 6) with nothing around it, of any length and with any exponent.
+pub fn is_number(text: &str) -> bool
+    ensures is { result ≡ is_number_text text.now }
+    ensures number { result ≡ true → IsNumberText text.now }
+    ensures other { result ≡ false → ¬ IsNumberText text.now }
+{
+    read_parts(text.as_bytes()).is_some()
 }
 
 /// The number of these parts, where it is within the bounds.
