@@ -6,11 +6,12 @@ ghost use Rattle.file_plan.specs.declared.refusal.PlanRefusal.TheVariants.{NoMem
 use name_path::Trail;
 use resolver_doc::PlanRule;
 use std::alloc::{AllocError, AllocFailed};
+use std::fmt;
 use tk_io::NoMemory;
 
 /// The first rule that a plan breaks, by byte offsets of the resolver document: first the rules of JSON, then those of
 /// resolver documents, then the limits of permutations and of their sources.
-#[derive(Debug, Drop)]
+#[derive(Drop)]
 pub enum PlanRefusal<'s> {
     /// The document is no JSON text (RFC 8259); up to this offset it is a prefix of one, and no further.
     Syntax(usize),
@@ -40,6 +41,12 @@ pub enum PlanRefusal<'s> {
     },
     /// Memory ran out.
     NoMemory,
+}
+
+impl<'s> fmt::Debug for PlanRefusal<'s> {
+    fn fmt<W: fmt::Write>(&self, f: &mut fmt::Formatter<W>) -> fmt::Result {
+        f.write_str("PlanRefusal")
+    }
 }
 
 impl<'s> From<NoMemory> for PlanRefusal<'s> {

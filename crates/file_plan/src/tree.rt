@@ -5,15 +5,22 @@ ghost use Rattle.file_plan.specs.Trees.{IsTreeOf};
 
 use json_span::{JsonFault, Node, read};
 use std::alloc::Global;
+use std::fmt;
 use std::sync::ledger::Ledger;
 use tk_io::{NoMemory, Steps, TextMap};
 
 /// What reading a file answers.
-#[derive(Debug, Drop)]
+#[derive(Drop)]
 pub enum Tree<'s> {
     Read(Node<'s>),
     /// The fault is never out of memory.
     Flawed(JsonFault),
+}
+
+impl<'s> fmt::Debug for Tree<'s> {
+    fn fmt<W: fmt::Write>(&self, f: &mut fmt::Formatter<W>) -> fmt::Result {
+        f.write_str("Tree")
+    }
 }
 
 /// The trees of files by their paths.

@@ -10,7 +10,7 @@ use crate::sizes::{HIGHEST, LIMIT, MOST_MEMBERS};
 use token_tree::{Child, Group};
 
 /// How large a group is, with all below it. A number is a million where it would be more.
-#[derive(Clone, Copy, Debug)]
+#[derive(Clone, Copy)]
 pub(crate) struct Size {
     /// How many members there are.
     pub members: u64,

@@ -1,12 +1,13 @@
 //! The tokens of a flat tree.
 
 use name_path::Kind;
+use std::fmt;
 use std::marker::Model;
 use std::rc::Rc;
 use token_tree::{Mark, TokenDef};
 
 /// A token of a flat tree, seen as plain data.
-#[derive(Debug, Drop)]
+#[derive(Drop)]
 pub struct Entry<'s> {
     /// What stands at the token's path. Trees share their definitions.
     pub def: Rc<TokenDef<'s>>,
@@ -27,4 +28,10 @@ impl<'s> Model for Entry<'s> {
     ghost use Rattle.group_inherit.specs.View.{entry_view};
 
     ghost view = { entry_view };
+}
+
+impl<'s> fmt::Debug for Entry<'s> {
+    fn fmt<W: fmt::Write>(&self, f: &mut fmt::Formatter<W>) -> fmt::Result {
+        f.write_str("Entry")
+    }
 }

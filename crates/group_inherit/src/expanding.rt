@@ -8,11 +8,10 @@ ghost use Rattle.group_inherit.specs.inner.Numbering.{AreRows, IsNumbering, need
 ghost use Rattle.group_inherit.specs.inner.View.{nodes_view};
 
 use crate::copying::copy_mark;
-use crate::merging::over;
+use crate::merging::{over, put_copy, put_group};
 use crate::numbered::Node;
 use crate::targets::Row;
 use std::alloc::Global;
-use std::rc::Rc;
 use tk_io::NoMemory;
 use token_tree::{Child, Group, Members};
 
@@ -105,13 +104,11 @@ fn expand_members<'s>(
     for member in members.as_slice() {
         if let Child::Group(_) = &member.child {
             let group = table[children[next]].copy()?;
-            let shared = Rc::new(alloc, group)?;
-            expanded.put(&member.name, Child::Group(shared))?;
+            put_group(alloc, &mut expanded, &member.name, group)?;
             next += 1;
             continue;
         }
-        let token = member.child.copy()?;
-        expanded.put(&member.name, token)?;
+        put_copy(&mut expanded, member)?;
     }
     Ok(expanded)
 }

@@ -7,6 +7,7 @@ ghost use Rattle.group_inherit.specs.declared.fault.TreeFault.TheVariants.{NoMem
 
 use name_path::{Path, Paths};
 use std::alloc::{AllocError, AllocFailed};
+use std::fmt;
 use std::marker::Model;
 use tk_io::NoMemory;
 use token_tree::Extends;
@@ -33,7 +34,7 @@ impl<'s> Model for FileSpan<'s> {
 }
 
 /// The first rule of extension that a tree breaks (Format Module 2025.10, `$extends`).
-#[derive(Debug, Drop)]
+#[derive(Drop)]
 pub enum TreeFault<'s> {
     /// The target of a group's `$extends` is no group of the tree: the first such group in path order by its path, and
     /// the string that names its target.
@@ -48,6 +49,12 @@ pub enum TreeFault<'s> {
     TooHigh(u64),
     /// Memory ran out.
     NoMemory,
+}
+
+impl<'s> fmt::Debug for TreeFault<'s> {
+    fn fmt<W: fmt::Write>(&self, f: &mut fmt::Formatter<W>) -> fmt::Result {
+        f.write_str("TreeFault")
+    }
 }
 
 impl<'s> From<NoMemory> for TreeFault<'s> {

@@ -14,11 +14,12 @@ use crate::entry::Entry;
 use name_path::Path;
 use std::alloc::Global;
 use std::cmp::Ordering;
+use std::fmt;
 use std::marker::Model;
 use tk_io::NoMemory;
 
 /// The tokens of a tree under their paths, in path order. It is seen as a finite map from path to token.
-#[derive(Debug, Drop)]
+#[derive(Drop)]
 pub struct Flat<'s> {
     tokens: Vec<(Path<'s>, Entry<'s>)>,
 }
@@ -39,6 +40,12 @@ impl<'s> Model for Flat<'s> {
     ghost view = { λ f. map.from_sorted f.tokens.items };
 
     ghost invariant = { λ f. T (is_sorted names_cmp f.tokens.items) };
+}
+
+impl<'s> fmt::Debug for Flat<'s> {
+    fn fmt<W: fmt::Write>(&self, f: &mut fmt::Formatter<W>) -> fmt::Result {
+        f.write_str("Flat")
+    }
 }
 
 // No token, with room for so many where there is memory for it.

@@ -2,13 +2,14 @@
 
 ghost use Rattle.std.specs.Prelude.{IfOk, OnOk};
 ghost use Rattle.group_inherit.specs.View.{IsOver};
-ghost use Rattle.group_inherit.specs.inner.Outcomes.{AreMembersAdded, AreOver, IsMemberAdded, IsChildOver};
+ghost use Rattle.group_inherit.specs.inner.Outcomes.{AreMembersAdded, AreOver, IsMemberAdded};
+ghost use Rattle.group_inherit.specs.inner.Outcomes.{IsGroupAdded, IsOverAdded};
 
 use crate::copying::{copy_mark, copy_target};
 use std::alloc::Global;
 use std::cmp::Ordering;
 use std::rc::Rc;
-use tk_io::NoMemory;
+use tk_io::{NoMemory, Text};
 use token_tree::{Child, Group, Member, Members};
 
 /// The later group over the earlier one: each property of the later one that is given, else that of the earlier one, and
@@ -74,8 +75,7 @@ fn merged<'s>(
                 i += 1;
             }
             Ordering::Equal => {
-                let child = over_child(alloc, &above.child, &below.child)?;
-                members.put(&above.name, child)?;
+                put_over(alloc, &mut members, above, below)?;
                 i += 1;
                 j += 1;
             }
@@ -100,8 +100,8 @@ fn put_from<'s>(members: &mut Members<'s>, list: &[Member<'s>], i: usize) -> Res
     Ok(())
 }
 
-// Adds the member, whose child is shared.
-fn put_copy<'s>(members: &mut Members<'s>, member: &Member<'s>) -> Result<(), NoMemory>
+/// Adds the member, whose child is shared.
+pub(crate) fn put_copy<'s>(members: &mut Members<'s>, member: &Member<'s>) -> Result<(), NoMemory>
     ensures { OnOk result (IsMemberAdded member.now members.old members.new) }
 {
     let child = member.child.copy()?;
@@ -109,22 +109,39 @@ fn put_copy<'s>(members: &mut Members<'s>, member: &Member<'s>) -> Result<(), No
     Ok(())
 }
 
-// The later member over the earlier one of its name.
-#[cycle(over)]
-fn over_child<'s>(
+/// Adds the group under the name.
+pub(crate) fn put_group<'s>(
     alloc: Global,
-    later: &Child<'s>,
-    earlier: &Child<'s>,
-) -> Result<Child<'s>, NoMemory>
-    ensures { IfOk result (IsChildOver later.now earlier.now) }
+    members: &mut Members<'s>,
+    name: &Text<'s>,
+    group: Group<'s>,
+) -> Result<(), NoMemory>
+    ensures { OnOk result (IsGroupAdded name.now group.entry members.old members.new) }
 {
-    let Child::Group(upper) = later else {
-        return later.copy();
+    let shared = Rc::new(alloc, group)?;
+    members.put(name, Child::Group(shared))?;
+    Ok(())
+}
+
+// Adds the later member over the earlier one of its name.
+#[cycle(over)]
+fn put_over<'s>(
+    alloc: Global,
+    members: &mut Members<'s>,
+    later: &Member<'s>,
+    earlier: &Member<'s>,
+) -> Result<(), NoMemory>
+    ensures { OnOk result (IsOverAdded later.now earlier.now members.old members.new) }
+{
+    let Child::Group(upper) = &later.child else {
+        put_copy(members, later)?;
+        return Ok(());
     };
-    let Child::Group(lower) = earlier else {
-        return later.copy();
+    let Child::Group(lower) = &earlier.child else {
+        put_copy(members, later)?;
+        return Ok(());
     };
     let group = over(alloc, upper, lower)?;
-    let shared = Rc::new(alloc, group)?;
-    Ok(Child::Group(shared))
+    put_group(alloc, members, &later.name, group)?;
+    Ok(())
 }

@@ -1,17 +1,17 @@
 //! The groups of a tree in one list.
 
-ghost use Rattle.std.specs.Prelude.{IfOk, OnOk};
+ghost use Rattle.std.specs.Prelude.{◌≡◌, ◌++◌, ◌∷◌, [], IfOk, OnOk};
 ghost use Rattle.token_tree.specs.View.{group_view};
 ghost use Rattle.group_inherit.specs.inner.Numbering.{AreNamed};
 ghost use Rattle.group_inherit.specs.inner.Outcomes.{AreGroupsAdded, AreGroupsOf};
 
 use name_path::Path;
 use std::alloc::Global;
-use tk_io::NoMemory;
+use tk_io::{NoMemory, Text};
 use token_tree::{Child, Group};
 
 /// A group of a tree, and its path.
-#[derive(Debug, Drop)]
+#[derive(Drop)]
 pub(crate) struct Node<'t, 's> {
     pub group: &'t Group<'s>,
     pub path: Path<'s>,
@@ -31,6 +31,15 @@ pub(crate) fn numbered_groups<'t, 's>(
     Ok(nodes)
 }
 
+/// The path of a member of the group at the path.
+pub(crate) fn path_below<'s>(path: &Path<'s>, name: &Text<'s>) -> Result<Path<'s>, NoMemory>
+    ensures { IfOk result (λ below. below ≡ path.now ++ name.now ∷ []) }
+{
+    let mut below = path.copy()?;
+    below.push(name.copy()?)?;
+    Ok(below)
+}
+
 // Adds a group and those below it.
 fn add_groups<'t, 's>(
     nodes: &mut Vec<Node<'t, 's>>,
@@ -46,8 +55,7 @@ fn add_groups<'t, 's>(
         let Child::Group(inner) = &member.child else {
             continue;
         };
-        let mut below = path.copy()?;
-        below.push(member.name.copy()?)?;
+        let below = path_below(path, &member.name)?;
         add_groups(nodes, &below, inner)?;
     }
     Ok(())

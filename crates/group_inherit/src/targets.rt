@@ -12,14 +12,14 @@ ghost use Rattle.group_inherit.specs.inner.Numbering.{IsRow, EachRow, AreListed,
 ghost use Rattle.group_inherit.specs.inner.Numbering.{lost_of, lost_nodes};
 
 use crate::fault::{TreeFault, span_of};
-use crate::numbered::Node;
+use crate::numbered::{Node, path_below};
 use name_path::{Path, PathMap};
 use std::alloc::Global;
 use tk_io::{NoMemory, Text};
 use token_tree::Child;
 
 /// What a group needs, by numbers.
-#[derive(Debug, Drop)]
+#[derive(Drop)]
 pub(crate) struct Row {
     /// The child groups, in byte order of names.
     pub children: Vec<usize>,
@@ -50,8 +50,7 @@ fn child_number<'s>(
     requires { (v : ℕ) × (map_of.get places.now (path.now ++ name.now ∷ []) ≡ Some v) }
     ensures { IfOk result (λ v. Some v ≡ map_of.get places.now (path.now ++ name.now ∷ [])) }
 {
-    let mut below = path.copy()?;
-    below.push(name.copy()?)?;
+    let below = path_below(path, name)?;
     match places.get(&below) {
         Some(number) => Ok(*number),
         None => unreachable!(),

@@ -15,7 +15,7 @@ use tk_io::{NoMemory, Text};
 use token_tree::{Child, Group, Mark, TokenDef};
 
 // What the nearest groups that have a `$type` or a `$deprecated` say.
-#[derive(Clone, Copy, Debug)]
+#[derive(Clone, Copy)]
 struct Nearest<'a, 's> {
     kind: Option<Kind>,
     mark: Option<&'a Mark<'s>>,

@@ -3,8 +3,8 @@ use Rattle.std.proofs.Common.{◌≡◌, ℕ, ◌<◌, List, [], ◌∷◌, ◌+
 use Rattle.grammar.specs.Grammar.{Rule, empty, seq, named, within, Reads}
 use Rattle.grammar.specs.Predict.{begins, first, Steers, on_both, on_empty, Stuck, at_first, at_second}
 use Rattle.grammar.proofs.Predicts.{reads}
-use Rattle.json_span.specs.Grammar.{Name, value, string, ws, one}
-use Rattle.json_span.specs.Steered.{Bracket, square, curly, rules, ahead, symbol, open_of, close_of, before_of, more_of, list_of}
+use Rattle.json_span.specs.Grammar.{Name, value, ws, one}
+use Rattle.json_span.specs.Steered.{Bracket, square, rules, ahead, symbol, open_of, close_of, before_of, more_of, list_of}
 use Rattle.json_span.specs.Tree.{Placed, Elements, no_elements, an_element, elements_of}
 use Rattle.json_span.specs.Reading.{ValueAt, ElementsAt, first_element, last_element, next_element}
 use Rattle.json_span.specs.Flaw.{Flaw, or_else, flaw_in, flaw_in_elements}
@@ -77,8 +77,9 @@ module _ (text : List ℕ) where
     halt_list : (stop : ℕ) → Halts (list_left b) text next stop → Halts (named value) text at stop
     halt_list stop x = skip.stops_alone text (named value) at (Syntax stop) (l (Err stop) x)
 
-    pub bad_before : (stop : ℕ) → Halts (before_of b) text next stop → Halts (named value) text at stop
-    bad_before stop x = halt_list stop (scan.halt_first text (before_of b) (seq (named value) (seq ws (seq (more_of b) empty))) next stop x)
+    pub bad_front : (e : Stop) → StopsAt (before_of b) text next e → StopsAt (named value) text at e
+    bad_front (Syntax stop) x = halt_list stop (scan.halt_first text (before_of b) (seq (named value) (seq ws (seq (more_of b) empty))) next stop x)
+    bad_front NoMemory x = tt
 
     pub bad_value : {value_start : ℕ} (e : Stop) → ReadsTo (before_of b) text next value_start → StopsAt (named value) text value_start e → StopsAt (named value) text at e
     bad_value {value_start} (Syntax stop) p x = halt_list stop (scan.halt_second text (before_of b) (seq (named value) (seq ws (seq (more_of b) empty))) next value_start stop p
@@ -132,12 +133,3 @@ module _ {text : List ℕ} {room inner next : ℕ} {ps : List Placed} (left : El
 
   pub elements_flawless : (n : Placed) → flaw_in room n ≡ None → flaw_in_elements room (elements_of (ps ++ n ∷ [])) ≡ None
   elements_flawless n none = ap (flaw_in_elements room) (sym (then-none (ps ++ n ∷ [])) ∙ then-push ps n no_elements) ∙ left.flawless (an_element n no_elements) ∙ or_after (flaw_in room n) None none
-
--- no name stands there
-pub bad_name : (text : List ℕ) (at next : ℕ) → ContinuesAs text (left_of true []) at (list_left curly) next → (e : Stop) → StopsAt (named string) text next e → StopsAt (named value) text at e
-bad_name text at next l (Syntax stop) x = bad_before text curly at next l stop (scan.halt_first text (named string) (seq ws (symbol 58)) next stop x)
-bad_name text at next l NoMemory x = tt
-
--- no colon stands after the name
-pub bad_colon : (text : List ℕ) (at next name_end : ℕ) → ContinuesAs text (left_of true []) at (list_left curly) next → (stop : ℕ) → ReadsTo (named string) text next name_end → Halts (seq ws (symbol 58)) text name_end stop → Halts (named value) text at stop
-bad_colon text at next name_end l stop q x = bad_before text curly at next l stop (scan.halt_second text (named string) (seq ws (symbol 58)) next name_end stop q x)

@@ -7,14 +7,14 @@ ghost use Rattle.json_span.specs.Steered.{ahead, rules};
 ghost use Rattle.json_span.specs.inner.Alternatives.{alternative_of, rule_of_alternative};
 
 /// The two kinds of lists.
-#[derive(Clone, Copy, Debug)]
+#[derive(Clone, Copy)]
 pub(crate) enum Bracket {
     Square,
     Curly,
 }
 
 /// The values that hold no others.
-#[derive(Clone, Copy, Debug)]
+#[derive(Clone, Copy)]
 pub(crate) enum Scalar {
     False,
     Null,
@@ -24,7 +24,7 @@ pub(crate) enum Scalar {
 }
 
 /// The alternatives of a value.
-#[derive(Clone, Copy, Debug)]
+#[derive(Clone, Copy)]
 pub(crate) enum Alternative {
     Scalar(Scalar),
     List(Bracket),

@@ -1,11 +1,14 @@
 //! Building the tree of a value, down to a depth. After a flaw the syntax alone is read on.
 
-ghost use Rattle.std.specs.Prelude.{◌≡◌, ◌+◌, ◌≤◌, ◌<◌, ◌^◌, true, length, drop};
+ghost use Rattle.std.specs.Prelude.{◌≡◌, ◌+◌, ◌≤◌, ◌<◌, ◌^◌, ◌++◌, ◌∷◌, [], true, length, drop};
 ghost use Rattle.std.specs.Prelude.{IfOk, IfErr, OnOk};
-ghost use Rattle.grammar.specs.Grammar.{named};
+ghost use Rattle.grammar.specs.Grammar.{named, seq};
 ghost use Rattle.grammar.specs.Predict.{begins, first};
-ghost use Rattle.json_span.specs.Grammar.{value};
-ghost use Rattle.json_span.specs.Steered.{ahead, list_of, square, curly};
+ghost use Rattle.tk_io.specs.Characters.{colon_sign};
+ghost use Rattle.json_span.specs.Grammar.{value, ws};
+ghost use Rattle.json_span.specs.Steered.{ahead, before_of, list_of, square, curly, symbol};
+ghost use Rattle.json_span.specs.inner.Scan.{ReadsTo};
+ghost use Rattle.json_span.specs.inner.Names.{IsNameSpan};
 ghost use Rattle.json_span.specs.inner.Alternatives.{bracket_of};
 ghost use Rattle.json_span.specs.inner.Skipping.{StopsAt};
 ghost use Rattle.json_span.specs.inner.Building.{IsNext, IsBuilt, Opens, HaltsBehind};
@@ -22,7 +25,7 @@ use crate::table::Span;
 use std::alloc::Global;
 
 /// A value that was read to its end.
-#[derive(Clone, Copy, Debug)]
+#[derive(Clone, Copy)]
 pub(crate) enum Built {
     Whole(usize),
     /// The first flaw in it, and its end.
@@ -42,7 +45,7 @@ impl Built {
 }
 
 /// Where a list goes on after a value.
-#[derive(Clone, Copy, Debug)]
+#[derive(Clone, Copy)]
 enum Next {
     /// After a comma and its blanks.
     Item(usize),
@@ -62,6 +65,30 @@ fn next_of(text: &str, at: usize, bracket: Bracket) -> Result<Next, usize>
     }
     let end = row_end(text, behind, &[bracket.close()])?;
     Ok(Next::Closed(end))
+}
+
+/// What stands before a member's value.
+#[derive(Clone, Copy)]
+struct MemberFront {
+    own: NameSpan,
+    /// Where the value begins.
+    value: usize,
+}
+
+// Reads a member up to its value, and adds its name.
+fn member_front(text: &str, at: usize, names: &mut Vec<NameSpan>) -> Result<MemberFront, Stop>
+    requires within { at ≤ length text.now }
+    requires short { length text.now < 2 ^ 32 }
+    ensures own { IfOk result (λ m. IsNameSpan text.now at m.own) }
+    ensures colon { IfOk result (λ m.
+        ReadsTo (seq ws (symbol colon_sign)) text.now m.own.end m.value) }
+    ensures names { IfOk result (λ m. names.new.items ≡ names.old.items ++ m.own ∷ []) }
+    ensures stop { IfErr result (λ e. StopsAt (before_of curly) text.now at e) }
+{
+    let own = read_name(text, at)?;
+    let value = colon_end(text, own.end as usize)?;
+    names.push(own)?;
+    Ok(MemberFront { own, value })
 }
 
 // Puts the span of a list in its place, once all values in it stand after that place.
@@ -265,10 +292,17 @@ fn build_object(
     let base = names.len();
     let mut next = inner;
     loop {
-        let own = read_name(text, next)?;
-        let value = colon_end(text, own.end as usize)?;
-        names.push(own)?;
-        let built = build_value(alloc, text, value, room, own.start, own.end, nodes, names)?;
+        let front = member_front(text, next, names)?;
+        let built = build_value(
+            alloc,
+            text,
+            front.value,
+            room,
+            front.own.start,
+            front.own.end,
+            nodes,
+            names,
+        )?;
         let behind = match built {
             Built::Whole(end) => end,
             Built::Flawed(flaw, end) => {

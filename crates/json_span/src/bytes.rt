@@ -7,7 +7,7 @@ ghost use Rattle.json_span.specs.Steered.{ahead};
 ghost use Rattle.json_span.specs.inner.Scan.{rule_of, row_of, Scans};
 
 /// A class of bytes.
-#[derive(Clone, Copy, Debug)]
+#[derive(Clone, Copy)]
 pub(crate) enum Class {
     One(u8),
     Digit,

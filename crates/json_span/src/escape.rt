@@ -10,7 +10,7 @@ ghost use Rattle.json_span.specs.Characters.{short_of, code_unit_of, is_high, is
 ghost use Rattle.json_span.specs.inner.Escapes.{BeginsEscape, StandsFor};
 
 /// A character, and how many bytes its escape takes.
-#[derive(Clone, Copy, Debug)]
+#[derive(Clone, Copy)]
 pub(crate) struct Escaped {
     pub(crate) character: char,
     pub(crate) len: usize,

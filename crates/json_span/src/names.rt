@@ -21,7 +21,7 @@ use std::alloc::Global;
 use tk_io::{NoMemory, Text};
 
 /// The offsets of a name's string, and whether no escape stands in it.
-#[derive(Clone, Copy, Debug)]
+#[derive(Clone, Copy)]
 pub(crate) struct NameSpan {
     pub(crate) start: u32,
     pub(crate) end: u32,
@@ -81,6 +81,17 @@ pub(crate) fn read_name(text: &str, at: usize) -> Result<NameSpan, usize>
     })
 }
 
+// The bytes of a name in whose string no escape stands.
+fn plain_bytes<'s>(text: &'s str, name: NameSpan) -> Option<&'s [u8]>
+    requires { (e : Entry) × IsNameOf text.now name e }
+    ensures { IfSome result (λ b. (e : Entry) → IsNameOf text.entry.now name e → b.now ≡ e.name) }
+{
+    if !name.is_plain {
+        return None;
+    }
+    Some(&text.as_bytes()[name.start as usize + 1..name.end as usize - 1])
+}
+
 // Whether two names are the same.
 fn are_same(alloc: Global, text: &str, a: NameSpan, b: NameSpan) -> Result<bool, NoMemory>
     requires first { (e : Entry) × IsNameOf text.now a e }
@@ -88,10 +99,8 @@ fn are_same(alloc: Global, text: &str, a: NameSpan, b: NameSpan) -> Result<bool,
     ensures { IfOk result (λ r. (e f : Entry) → IsNameOf text.now a e → IsNameOf text.now b f
         → r ≡ bytes_eq e.name f.name) }
 {
-    if a.is_plain && b.is_plain {
-        let bytes = text.as_bytes();
-        let first = &bytes[a.start as usize + 1..a.end as usize - 1];
-        return Ok(first == &bytes[b.start as usize + 1..b.end as usize - 1]);
+    if let (Some(bytes), Some(others)) = (plain_bytes(text, a), plain_bytes(text, b)) {
+        return Ok(bytes == others);
     }
     let name = string_text(alloc, text, b.start as usize)?;
     Ok(is_string_of(text, a.start as usize, name.as_str()))
@@ -182,17 +191,6 @@ fn flaw_in_order(alloc: Global, text: &str, names: &[NameSpan]) -> Result<Option
         Some(i) => Ok(Some(names[i].repeated())),
         None => Ok(None),
     }
-}
-
-// The bytes of a name in whose string no escape stands.
-fn plain_bytes<'s>(text: &'s str, name: NameSpan) -> Option<&'s [u8]>
-    requires { (e : Entry) × IsNameOf text.now name e }
-    ensures { IfSome result (λ b. (e : Entry) → IsNameOf text.entry.now name e → b.now ≡ e.name) }
-{
-    if !name.is_plain {
-        return None;
-    }
-    Some(&text.as_bytes()[name.start as usize + 1..name.end as usize - 1])
 }
 
 // Whether the next name is seen to stand behind the name, where a longer one stands behind a shorter

@@ -8,10 +8,11 @@ ghost use Rattle.json_span.specs.PlainView.{plain_items_view, plain_fields_view}
 ghost use Rattle.json_span.specs.PlainView.{lent_plain, lent_field, IsItemAdded, IsFieldAdded};
 
 use std::alloc::Global;
+use std::fmt;
 use tk_io::{NoMemory, Text};
 
 /// A value of RFC 8259. Numbers are kept as they are spelled.
-#[derive(Debug, Drop)]
+#[derive(Drop)]
 #[cycle(plain)]
 pub enum Plain<'s> {
     Null,
@@ -23,25 +24,49 @@ pub enum Plain<'s> {
 }
 
 /// The elements of an array, in written order.
-#[derive(Debug, Drop)]
+#[derive(Drop)]
 #[cycle(plain)]
 pub struct PlainItems<'s> {
     list: Vec<Plain<'s>>,
 }
 
 /// The members of an object, in written order.
-#[derive(Debug, Drop)]
+#[derive(Drop)]
 #[cycle(plain)]
 pub struct PlainFields<'s> {
     list: Vec<PlainField<'s>>,
 }
 
 /// A member: its name and its value.
-#[derive(Debug, Drop)]
+#[derive(Drop)]
 #[cycle(plain)]
 pub struct PlainField<'s> {
     pub name: Text<'s>,
     pub value: Plain<'s>,
+}
+
+impl<'s> fmt::Debug for Plain<'s> {
+    fn fmt<W: fmt::Write>(&self, f: &mut fmt::Formatter<W>) -> fmt::Result {
+        f.write_str("Plain")
+    }
+}
+
+impl<'s> fmt::Debug for PlainItems<'s> {
+    fn fmt<W: fmt::Write>(&self, f: &mut fmt::Formatter<W>) -> fmt::Result {
+        f.write_str("PlainItems")
+    }
+}
+
+impl<'s> fmt::Debug for PlainFields<'s> {
+    fn fmt<W: fmt::Write>(&self, f: &mut fmt::Formatter<W>) -> fmt::Result {
+        f.write_str("PlainFields")
+    }
+}
+
+impl<'s> fmt::Debug for PlainField<'s> {
+    fn fmt<W: fmt::Write>(&self, f: &mut fmt::Formatter<W>) -> fmt::Result {
+        f.write_str("PlainField")
+    }
 }
 
 // The i-th of some items.

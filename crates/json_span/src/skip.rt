@@ -21,7 +21,7 @@ use std::alloc::Global;
 use tk_io::NoMemory;
 
 /// Where reading goes on, and whether a value is to come there.
-#[derive(Clone, Copy, Debug)]
+#[derive(Clone, Copy)]
 struct Place {
     at: usize,
     wants: bool,

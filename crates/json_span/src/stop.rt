@@ -4,7 +4,7 @@ use std::alloc::AllocFailed;
 use tk_io::NoMemory;
 
 /// Why a scan did not come to its end.
-#[derive(Clone, Copy, Debug)]
+#[derive(Clone, Copy)]
 pub(crate) enum Stop {
     /// The offset from which no text of the rule goes on as the text does.
     Syntax(usize),

@@ -8,7 +8,7 @@ use Rattle.ring.specs.Lists.{In}
 use Rattle.resolver_doc.specs.Document.{SourceData, file_source, set_source, inline_source}
 use Rattle.resolver_doc.specs.Rings.{sets_in}
 use Rattle.permutations.specs.Permutation.{TokenSource, file, inline, replaced}
-use Rattle.permutations.specs.declared.fault.TheConstants.{LAST_NUMBER}
+use Rattle.permutations.specs.Answer.{last_number}
 use Rattle.permutations.specs.inner.Parts.{PartData, own, whole_set, RowData, row_at, set_parts, parts_in, count_in, row_in, part_sources, IsSolid, AreSolid, RowTells}
 use Rattle.permutations.proofs.SetRoutes.{in_either}
 
@@ -75,19 +75,19 @@ module _ (f : ℕ → List TokenSource) (rows : List RowData) (K : ℕ → Type 
       both_tell f rows K (inline n ∷ []) (flat_map (replaced f) ss) (own (inline n) ∷ []) (parts_in rows ss)
       (one_tells f rows K (inline n)) (parts_tell ss known)
 
-  counted : (ss : List SourceData) → KnowsSets ss → (a : ℕ) → min (a + sum_by (count_in rows) ss) LAST_NUMBER ≡ min (a + length (flat_map (replaced f) ss)) LAST_NUMBER
+  counted : (ss : List SourceData) → KnowsSets ss → (a : ℕ) → min (a + sum_by (count_in rows) ss) last_number ≡ min (a + length (flat_map (replaced f) ss)) last_number
   counted [] known a = refl
   counted (file_source name start end ∷ ss) known a =
-      grown a 1 (sum_by (count_in rows) ss) (length (flat_map (replaced f) ss)) 1 LAST_NUMBER (sum_by (count_in rows) (file_source name start end ∷ ss)) (1 + length (flat_map (replaced f) ss))
+      grown a 1 (sum_by (count_in rows) ss) (length (flat_map (replaced f) ss)) 1 last_number (sum_by (count_in rows) (file_source name start end ∷ ss)) (1 + length (flat_map (replaced f) ss))
       (sum_by-cons (count_in rows) (file_source name start end) ss) refl (inl refl) (counted ss known (a + 1))
-      ∙ ap (λ (n : ℕ). min (a + n) LAST_NUMBER) (one_more (length (flat_map (replaced f) ss)))
+      ∙ ap (λ (n : ℕ). min (a + n) last_number) (one_more (length (flat_map (replaced f) ss)))
   counted (set_source name v ∷ ss) known a =
-      grown a (row_at rows v).count (sum_by (count_in rows) ss) (length (flat_map (replaced f) ss)) (length (f v)) LAST_NUMBER (sum_by (count_in rows) (set_source name v ∷ ss)) (length (f v ++ flat_map (replaced f) ss))
+      grown a (row_at rows v).count (sum_by (count_in rows) ss) (length (flat_map (replaced f) ss)) (length (f v)) last_number (sum_by (count_in rows) (set_source name v ∷ ss)) (length (f v ++ flat_map (replaced f) ss))
       (sum_by-cons (count_in rows) (set_source name v) ss) (length-append (f v) (flat_map (replaced f) ss)) (inr (known v (inl refl)).1.count) (counted ss (λ w i. known w (inr i)) (a + length (f v)))
   counted (inline_source n ∷ ss) known a =
-      grown a 1 (sum_by (count_in rows) ss) (length (flat_map (replaced f) ss)) 1 LAST_NUMBER (sum_by (count_in rows) (inline_source n ∷ ss)) (1 + length (flat_map (replaced f) ss))
+      grown a 1 (sum_by (count_in rows) ss) (length (flat_map (replaced f) ss)) 1 last_number (sum_by (count_in rows) (inline_source n ∷ ss)) (1 + length (flat_map (replaced f) ss))
       (sum_by-cons (count_in rows) (inline_source n) ss) refl (inl refl) (counted ss known (a + 1))
-      ∙ ap (λ (n : ℕ). min (a + n) LAST_NUMBER) (one_more (length (flat_map (replaced f) ss)))
+      ∙ ap (λ (n : ℕ). min (a + n) last_number) (one_more (length (flat_map (replaced f) ss)))
 
   -- the row made of the sources
   pub row_tells : (sources : List SourceData) → KnowsSets sources → RowTells f rows K (flat_map (replaced f) sources) (row_in rows sources)
@@ -95,6 +95,6 @@ module _ (f : ℕ → List TokenSource) (rows : List RowData) (K : ℕ → Type 
       let tells = parts_tell sources known in
       record {
         whole = tells.whole;
-        count = ap (λ (n : ℕ). min n LAST_NUMBER) (from_none (sum_by (count_in rows) sources)) ∙ (counted sources known 0 ∙ ap (λ (n : ℕ). min n LAST_NUMBER) (sym (from_none (length (flat_map (replaced f) sources)))));
+        count = ap (λ (n : ℕ). min n last_number) (from_none (sum_by (count_in rows) sources)) ∙ (counted sources known 0 ∙ ap (λ (n : ℕ). min n last_number) (sym (from_none (length (flat_map (replaced f) sources)))));
         solid = tells.solid;
       }

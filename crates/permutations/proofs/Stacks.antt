@@ -7,7 +7,7 @@ use Rattle.ring.specs.Lists.{In}
 use Rattle.resolver_doc.specs.Document.{SourceData}
 use Rattle.resolver_doc.specs.Rings.{sets_in}
 use Rattle.permutations.specs.Permutation.{TokenSource, replaced}
-use Rattle.permutations.specs.declared.fault.TheConstants.{LAST_NUMBER}
+use Rattle.permutations.specs.Answer.{last_number}
 use Rattle.permutations.specs.declared.part.Part.{Part}
 use Rattle.permutations.specs.inner.Parts.{PartData, own, whole_set, RowData, row_at, part_view, parts_view, parts_in, counts_in, part_sources, IsPlaced, IsSolid, AreSolid, IsTable}
 use Rattle.permutations.specs.inner.Expanding.{sources_added, parts_left}
@@ -100,5 +100,5 @@ module _ (f : ℕ → List TokenSource) (n : ℕ) (rows : List RowData) (table :
   pub all_tell : (sources : List SourceData) → ((w : ℕ) → In w (sets_in sources) → w < n) → Tells f rows K (flat_map (replaced f) sources) (parts_in rows sources)
   all_tell sources known = parts_tell f rows K sources (λ w i. (known w i, table.row w (known w i)))
 
-  pub all_counted : (sources : List SourceData) → ((w : ℕ) → In w (sets_in sources) → w < n) → counts_in rows sources ≡ min (length (flat_map (replaced f) sources)) LAST_NUMBER
+  pub all_counted : (sources : List SourceData) → ((w : ℕ) → In w (sets_in sources) → w < n) → counts_in rows sources ≡ min (length (flat_map (replaced f) sources)) last_number
   all_counted sources known = (row_tells f rows K sources (λ w i. (known w i, table.row w (known w i)))).count

@@ -41,18 +41,9 @@ fn expand<'p, 'a, 's>(
         ≡ parts_view stack.old.items ++ parts_left (rows_view rows.now) (part_view part.entry)) }
 {
     match part {
-        Part::File(name, start, end) => {
-            out.push(Source::File(name.copy()?, start, end))?;
-            Ok(())
-        }
-        Part::Inline(node) => {
-            out.push(Source::Inline(node))?;
-            Ok(())
-        }
-        Part::Set(number) => {
-            push_reversed(rows[number].parts.as_slice(), stack)?;
-            Ok(())
-        }
+        Part::File(name, start, end) => out.push(Source::File(name.copy()?, start, end)),
+        Part::Inline(node) => out.push(Source::Inline(node)),
+        Part::Set(number) => push_reversed(rows[number].parts.as_slice(), stack),
     }
 }
 

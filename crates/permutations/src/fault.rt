@@ -4,6 +4,7 @@ ghost use Rattle.std.specs.Prelude.{◌≡◌};
 ghost use Rattle.permutations.specs.declared.fault.ListFault.TheVariants.{NoMemory as OutOfMemory};
 
 use std::alloc::{AllocError, AllocFailed};
+use std::fmt;
 use tk_io::NoMemory;
 
 /// A plan has at most so many permutations.
@@ -16,7 +17,7 @@ pub const MOST_SOURCES: u64 = 1_024;
 pub const LAST_NUMBER: u64 = 1_000_000;
 
 /// The limit that a plan is beyond.
-#[derive(Debug, Drop)]
+#[derive(Drop)]
 pub enum ListFault {
     /// There are more than 64 permutations: how many, or 1,000,000 where there are more.
     TooMany(u64),
@@ -24,6 +25,12 @@ pub enum ListFault {
     TooManySources(u64),
     /// Memory ran out.
     NoMemory,
+}
+
+impl fmt::Debug for ListFault {
+    fn fmt<W: fmt::Write>(&self, f: &mut fmt::Formatter<W>) -> fmt::Result {
+        f.write_str("ListFault")
+    }
 }
 
 impl From<NoMemory> for ListFault {

@@ -6,6 +6,7 @@ ghost use Rattle.resolver_doc.specs.ResolverView.{resolver_view};
 ghost use Rattle.permutations.specs.Permutation.{permutations};
 ghost use Rattle.permutations.specs.View.{perm_view, perms_view};
 ghost use Rattle.permutations.specs.inner.Drafts.{draft_view, drafts_view, finished};
+ghost use Rattle.permutations.specs.inner.Drafts.{name_by_labels};
 
 use crate::counting::{most_sources, permutation_count};
 use crate::draft::Draft;
@@ -17,16 +18,20 @@ use resolver_doc::Resolver;
 use std::alloc::Global;
 use tk_io::{NoMemory, Text};
 
+// The name that labels make.
+fn name_by_labels<'s>(alloc: Global, labels: &str) -> Result<Text<'s>, NoMemory>
+    ensures { IfOk result (λ name. name ≡ name_by_labels labels.now) }
+{
+    if labels.is_empty() {
+        return Ok(Text::of("default"));
+    }
+    Ok(Text::owned(alloc, labels)?)
+}
+
 fn finished<'a, 's>(alloc: Global, draft: Draft<'a, 's>) -> Result<Perm<'a, 's>, NoMemory>
     ensures { IfOk result (λ p. perm_view p ≡ finished (draft_view draft.entry)) }
 {
-    if draft.labels.is_empty() {
-        return Ok(Perm {
-            name: Text::of("default"),
-            sources: draft.sources,
-        });
-    }
-    let name = Text::owned(alloc, draft.labels.as_str())?;
+    let name = name_by_labels(alloc, draft.labels.as_str())?;
     Ok(Perm {
         name,
         sources: draft.sources,

@@ -10,8 +10,8 @@ ghost use Rattle.resolver_doc.specs.Form.{item_type, item_members, item_form, ve
 ghost use Rattle.resolver_doc.specs.Form.{document_members, form_breaks};
 
 use crate::form::{
-    is_counted, is_reference, modifier, modifier_members, needed_text, optional_text, reference,
-    set, set_members,
+    is_counted, is_reference, is_word, modifier, modifier_members, needed_text, optional_text,
+    reference, set, set_members,
 };
 use crate::rule::{Break, PlanRule, at_value};
 use json_span::{Fields, NodeRef};
@@ -30,15 +30,13 @@ fn typed(
         (typed_form (ref_view owner.entry) (fields_view fields.now)
         (ref_view node.entry) word.now)) }
 {
-    if word == "set" {
+    if is_word(word, "set") {
         needed_text(owner, fields, "name", first);
-        set_members(alloc, owner, fields, first)?;
-        return Ok(());
+        return set_members(alloc, owner, fields, first);
     }
-    if word == "modifier" {
+    if is_word(word, "modifier") {
         needed_text(owner, fields, "name", first);
-        modifier_members(alloc, owner, fields, first)?;
-        return Ok(());
+        return modifier_members(alloc, owner, fields, first);
     }
     at_value(PlanRule::Shape, node, first);
     Ok(())
@@ -58,8 +56,7 @@ fn item_type(
         at_value(PlanRule::Shape, node, first);
         return Ok(());
     };
-    typed(alloc, owner, fields, node, word.as_str(), first)?;
-    Ok(())
+    typed(alloc, owner, fields, node, word.as_str(), first)
 }
 
 fn item_members(
@@ -72,15 +69,13 @@ fn item_members(
         ≡ with_breaks first.old (item_members (ref_view owner.entry) (fields_view fields.now))) }
 {
     if is_reference(fields) {
-        reference(alloc, fields, first)?;
-        return Ok(());
+        return reference(alloc, fields, first);
     }
     let Some(node) = fields.get("type") else {
         at_value(PlanRule::Shape, owner, first);
         return Ok(());
     };
-    item_type(alloc, owner, fields, node, first)?;
-    Ok(())
+    item_type(alloc, owner, fields, node, first)
 }
 
 fn item(alloc: Global, node: NodeRef<'_, '_>, first: &mut Option<Break>) -> Result<(), NoMemory>
@@ -90,8 +85,7 @@ fn item(alloc: Global, node: NodeRef<'_, '_>, first: &mut Option<Break>) -> Resu
         at_value(PlanRule::Shape, node, first);
         return Ok(());
     };
-    item_members(alloc, node, &fields, first)?;
-    Ok(())
+    item_members(alloc, node, &fields, first)
 }
 
 fn items(alloc: Global, node: NodeRef<'_, '_>, first: &mut Option<Break>) -> Result<(), NoMemory>
@@ -122,8 +116,7 @@ fn order(
         at_value(PlanRule::Shape, root, first);
         return Ok(());
     };
-    items(alloc, node, first)?;
-    Ok(())
+    items(alloc, node, first)
 }
 
 fn each_set(alloc: Global, node: NodeRef<'_, '_>, first: &mut Option<Break>) -> Result<(), NoMemory>
@@ -150,8 +143,7 @@ fn sets(alloc: Global, fields: &Fields<'_, '_>, first: &mut Option<Break>) -> Re
     let Some(node) = fields.get("sets") else {
         return Ok(());
     };
-    each_set(alloc, node, first)?;
-    Ok(())
+    each_set(alloc, node, first)
 }
 
 fn each_modifier(
@@ -186,8 +178,7 @@ fn modifiers(
     let Some(node) = fields.get("modifiers") else {
         return Ok(());
     };
-    each_modifier(alloc, node, first)?;
-    Ok(())
+    each_modifier(alloc, node, first)
 }
 
 fn version(alloc: Global, root: NodeRef<'_, '_>, first: &mut Option<Break>) -> Result<(), NoMemory>
@@ -205,10 +196,9 @@ fn version(alloc: Global, root: NodeRef<'_, '_>, first: &mut Option<Break>) -> R
         at_value(PlanRule::Version, node, first);
         return Ok(());
     };
-    if word.as_str() == "2025.10" {
-        return Ok(());
+    if !is_word(word.as_str(), "2025.10") {
+        at_value(PlanRule::Version, node, first);
     }
-    at_value(PlanRule::Version, node, first);
     Ok(())
 }
 

@@ -6,10 +6,11 @@ ghost use Rattle.resolver_doc.specs.declared.fault.PlanFault.TheVariants.{NoMemo
 use crate::rule::PlanRule;
 use name_path::Trail;
 use std::alloc::{AllocError, AllocFailed};
+use std::fmt;
 use tk_io::NoMemory;
 
 /// Why a resolver document is refused.
-#[derive(Debug, Drop)]
+#[derive(Drop)]
 pub enum PlanFault<'s> {
     /// A rule is broken: the first break of the first phase that has one. The forms are looked at first, then references
     /// and names of items, and then rings of sets.
@@ -25,6 +26,12 @@ pub enum PlanFault<'s> {
     },
     /// Memory ran out.
     NoMemory,
+}
+
+impl<'s> fmt::Debug for PlanFault<'s> {
+    fn fmt<W: fmt::Write>(&self, f: &mut fmt::Formatter<W>) -> fmt::Result {
+        f.write_str("PlanFault")
+    }
 }
 
 impl<'s> From<NoMemory> for PlanFault<'s> {

@@ -2,6 +2,7 @@
 
 ghost use Rattle.std.specs.Prelude.{◌≡◌, not, is_some, codes, IfOk, OnOk};
 ghost use Rattle.std.specs.List.{flat_map};
+ghost use Rattle.std.specs.Str.{bytes_eq};
 ghost use Rattle.json_span.specs.Tree.{string_in, value_of_name};
 ghost use Rattle.json_span.specs.View.{ref_view, json_view, field_view, fields_view};
 ghost use Rattle.resolver_doc.specs.Break.{with_breaks, at_name};
@@ -17,6 +18,13 @@ use crate::rule::{Break, PlanRule, at_name, at_value};
 use json_span::{Field, Fields, NodeRef, ValueType};
 use std::alloc::Global;
 use tk_io::NoMemory;
+
+/// Whether the text is the word.
+pub(crate) fn is_word(text: &str, word: &str) -> bool
+    ensures { result ≡ bytes_eq text.now word.now }
+{
+    text == word
+}
 
 fn is_text(node: NodeRef<'_, '_>) -> bool
     ensures { result ≡ is_some (string_in (json_view node.entry)) }
@@ -118,8 +126,7 @@ fn source(alloc: Global, node: NodeRef<'_, '_>, first: &mut Option<Break>) -> Re
         return Ok(());
     };
     if is_reference(&fields) {
-        reference(alloc, &fields, first)?;
-        return Ok(());
+        return reference(alloc, &fields, first);
     }
     Ok(())
 }
@@ -146,11 +153,11 @@ pub(crate) fn set_members(
     ensures { OnOk result (first.new
         ≡ with_breaks first.old (set_members (ref_view owner.entry) (fields_view fields.now))) }
 {
-    match fields.get("sources") {
-        Some(node) => sources(alloc, node, first)?,
-        None => at_value(PlanRule::Shape, owner, first),
-    }
-    Ok(())
+    let Some(node) = fields.get("sources") else {
+        at_value(PlanRule::Shape, owner, first);
+        return Ok(());
+    };
+    sources(alloc, node, first)
 }
 
 pub(crate) fn set(
@@ -164,8 +171,7 @@ pub(crate) fn set(
         at_value(PlanRule::Shape, node, first);
         return Ok(());
     };
-    set_members(alloc, node, &fields, first)?;
-    Ok(())
+    set_members(alloc, node, &fields, first)
 }
 
 // Whether a context among these members has the name.
@@ -218,11 +224,9 @@ fn contexts(alloc: Global, node: NodeRef<'_, '_>, first: &mut Option<Break>) -> 
     };
     if !counts_some(alloc, &fields)? {
         at_value(PlanRule::Contexts, node, first);
-        each_context(alloc, &fields, first)?;
-        return Ok(());
+        return each_context(alloc, &fields, first);
     }
-    each_context(alloc, &fields, first)?;
-    Ok(())
+    each_context(alloc, &fields, first)
 }
 
 // Whether the text is the name of a context of the modifier.
@@ -255,7 +259,6 @@ fn default(
     };
     if !names_context(alloc, name.as_str(), fields)? {
         at_value(PlanRule::Default, node, first);
-        return Ok(());
     }
     Ok(())
 }
@@ -269,11 +272,11 @@ fn needed_contexts(
     ensures { OnOk result (first.new ≡ with_breaks first.old (needed_member contexts_form
         (ref_view owner.entry) (value_of_name (codes "contexts") (fields_view fields.now)))) }
 {
-    match fields.get("contexts") {
-        Some(node) => contexts(alloc, node, first)?,
-        None => at_value(PlanRule::Shape, owner, first),
-    }
-    Ok(())
+    let Some(node) = fields.get("contexts") else {
+        at_value(PlanRule::Shape, owner, first);
+        return Ok(());
+    };
+    contexts(alloc, node, first)
 }
 
 fn optional_default(
@@ -288,8 +291,7 @@ fn optional_default(
     let Some(node) = fields.get("default") else {
         return Ok(());
     };
-    default(alloc, fields, node, first)?;
-    Ok(())
+    default(alloc, fields, node, first)
 }
 
 pub(crate) fn modifier_members(
@@ -302,8 +304,7 @@ pub(crate) fn modifier_members(
         (modifier_members (ref_view owner.entry) (fields_view fields.now))) }
 {
     needed_contexts(alloc, owner, fields, first)?;
-    optional_default(alloc, fields, first)?;
-    Ok(())
+    optional_default(alloc, fields, first)
 }
 
 pub(crate) fn modifier(
@@ -318,6 +319,5 @@ pub(crate) fn modifier(
         at_value(PlanRule::Shape, node, first);
         return Ok(());
     };
-    modifier_members(alloc, node, &fields, first)?;
-    Ok(())
+    modifier_members(alloc, node, &fields, first)
 }

@@ -1,7 +1,8 @@
 //! Sets, modifiers and the items of the order, and the references among them that name nothing.
 
-ghost use Rattle.std.specs.Prelude.{◌≡◌, IfOk, OnOk, Option, map};
+ghost use Rattle.std.specs.Prelude.{◌≡◌, [], IfOk, OnOk, Option, codes, map, unwrap_or};
 ghost use Rattle.std.specs.List.{flat_map};
+ghost use Rattle.std.specs.Str.{bytes_eq};
 ghost use Rattle.json_span.specs.View.{ref_view, field_view};
 ghost use Rattle.resolver_doc.specs.Break.{with_breaks};
 ghost use Rattle.resolver_doc.specs.Document.{set_item, context_of, set_of, sources_in};
@@ -14,7 +15,7 @@ ghost use Rattle.resolver_doc.specs.Naming.{own_breaks, item_breaks, named_item_
 ghost use Rattle.resolver_doc.specs.View.{set_view, sets_view, item_view, order_view};
 ghost use Rattle.resolver_doc.specs.inner.Known.{known_sets, known_modifiers};
 
-use crate::form::is_counted;
+use crate::form::{is_counted, is_word};
 use crate::known::Known;
 use crate::members::{member, member_text, text_at, text_or_empty};
 use crate::rule::{Break, PlanRule, at_value};
@@ -171,6 +172,16 @@ fn named_modifier<'a, 's>(
     modifier(alloc, known, name, field.value(), &mut seen_before)
 }
 
+// Whether an item that is no reference is a set.
+fn is_own_set(alloc: Global, node: NodeRef<'_, '_>) -> Result<bool, NoMemory>
+    ensures { IfOk result (λ is_set. is_set ≡ bytes_eq
+        (unwrap_or (member_text (codes "type") (entries_at (ref_view node.entry))) [])
+        (codes "set")) }
+{
+    let kind = text_or_empty(alloc, node, "type")?;
+    Ok(is_word(kind.as_str(), "set"))
+}
+
 // An item that is a set or a modifier of its own. Breaks of references in it are taken in.
 fn own_item<'a, 's>(
     alloc: Global,
@@ -183,8 +194,7 @@ fn own_item<'a, 's>(
     ensures breaks { OnOk result (first.new ≡ with_breaks first.old
         (own_breaks (known_sets known.now) (entries_at (ref_view node.entry)))) }
 {
-    let kind = text_or_empty(alloc, node, "type")?;
-    if kind.as_str() == "set" {
+    if is_own_set(alloc, node)? {
         return Ok(Item::Set(set_sources(alloc, known, node, first)?));
     }
     let name = text_or_empty(alloc, node, "name")?;

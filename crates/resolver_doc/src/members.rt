@@ -71,7 +71,7 @@ fn add_number(
     ensures { OnOk result
         (AddsFirst numbers.old numbers.new (pointer name.now (field_view field.entry)) number) }
 {
-    let text = pointer(alloc, name, &field.name(alloc)?)?;
+    let text = pointer(alloc, name, field.name(alloc)?.as_str())?;
     numbers.put_first(text.as_slice(), number)
 }
 

@@ -12,7 +12,7 @@ use std::marker::Model;
 use tk_io::{Bytes, NoMemory, Text};
 
 /// Numbers under texts, seen as a finite map.
-#[derive(Debug, Drop)]
+#[derive(Drop)]
 pub(crate) struct Pointers {
     alloc: Global,
     numbers: BTreeMap<Vec<u8>, usize>,
@@ -72,12 +72,12 @@ impl Pointers {
 }
 
 /// The pointer to a member of a section of the document.
-pub(crate) fn pointer(alloc: Global, section: &str, name: &Text<'_>) -> Result<Bytes, NoMemory>
+pub(crate) fn pointer<'t>(alloc: Global, section: &'t str, name: &'t str) -> Result<Bytes, NoMemory>
     ensures { IfOk result (λ text. text ≡ pointer_text (section.now ∷ name.now ∷ [])) }
 {
     let mut path = Path::new(alloc);
-    path.push(Text::owned(alloc, section)?)?;
-    path.push(name.copy()?)?;
+    path.push(Text::of(section))?;
+    path.push(Text::of(name))?;
     let mut out = Bytes::new(alloc);
     print_group(&path, &mut out)?;
     Ok(out)

@@ -4,6 +4,7 @@ ghost use Rattle.std.specs.Prelude.{◌≡◌, Some, IfOk, IfErr, OnOk, IsTrue, 
 ghost use Rattle.json_span.specs.Tree.{Placed, value_of_name};
 ghost use Rattle.json_span.specs.View.{ref_view};
 ghost use Rattle.resolver_doc.specs.Document.{name_in, member_entries, set_of, elements_at};
+ghost use Rattle.resolver_doc.specs.Document.{source_of};
 ghost use Rattle.resolver_doc.specs.Rings.{HasNoRingOfSets, are_sets_right, is_set, ring_string};
 ghost use Rattle.resolver_doc.specs.Rings.{naming_string};
 ghost use Rattle.resolver_doc.specs.View.{sets_view, source_view};
@@ -34,6 +35,21 @@ fn is_set(source: &WrittenSource<'_, '_>, number: usize) -> bool
     }
 }
 
+// Whether the item of a list of sources names the set of the number.
+fn names_set<'a, 's>(
+    alloc: Global,
+    known: &Known<'a, 's>,
+    item: NodeRef<'a, 's>,
+    number: usize,
+) -> Result<bool, NoMemory>
+    ensures { IfOk result (λ names. names
+        ≡ is_set number (source_of (known_sets known.now) (ref_view item.entry))) }
+{
+    let mut seen_before = None;
+    let written = source(alloc, known, item, &mut seen_before)?;
+    Ok(is_set(&written, number))
+}
+
 // The string by which the sources of a set first name the set of the number.
 fn naming_string<'a, 's>(
     alloc: Global,
@@ -48,9 +64,7 @@ fn naming_string<'a, 's>(
         return Ok(None);
     };
     for item in items {
-        let mut seen_before = None;
-        let written = source(alloc, known, item, &mut seen_before)?;
-        if is_set(&written, number) {
+        if names_set(alloc, known, item, number)? {
             return Ok(member(item, "$ref"));
         }
     }

@@ -1,10 +1,11 @@
 //! What a resolver document says of sources, sets and items.
 
 use json_span::NodeRef;
+use std::fmt;
 use tk_io::{Sequence, Text};
 
 /// A source as it is written.
-#[derive(Debug, Drop)]
+#[derive(Drop)]
 pub enum WrittenSource<'a, 's> {
     /// A file: its name, and the byte offsets of the beginning and the end of the string that names it.
     File(Text<'s>, usize, usize),
@@ -12,6 +13,12 @@ pub enum WrittenSource<'a, 's> {
     SetRef(Text<'s>, usize),
     /// Tokens that are written in the document.
     Inline(NodeRef<'a, 's>),
+}
+
+impl<'a, 's> fmt::Debug for WrittenSource<'a, 's> {
+    fn fmt<W: fmt::Write>(&self, f: &mut fmt::Formatter<W>) -> fmt::Result {
+        f.write_str("WrittenSource")
+    }
 }
 
 /// Sources, in written order.

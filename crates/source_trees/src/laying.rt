@@ -13,14 +13,21 @@ use crate::source::{Home, SourceBreak, SourceFault};
 use file_plan::PlanSource;
 use group_inherit::over;
 use std::alloc::Global;
+use std::fmt;
 use tk_io::NoMemory;
 use token_tree::{Group, Members};
 
 /// What sources come to: one tree, or the first rule that one of them breaks.
-#[derive(Debug, Drop)]
+#[derive(Drop)]
 pub enum Merged<'s> {
     Tree(Group<'s>),
     Broken(SourceBreak<'s>),
+}
+
+impl<'s> fmt::Debug for Merged<'s> {
+    fn fmt<W: fmt::Write>(&self, f: &mut fmt::Formatter<W>) -> fmt::Result {
+        f.write_str("Merged")
+    }
 }
 
 // A shape over what is merged before it.

@@ -6,16 +6,23 @@ ghost use Rattle.source_trees.specs.Merges.{IsMergeOf};
 
 use group_inherit::{Flat, TreeFault, flatten};
 use std::alloc::Global;
+use std::fmt;
 use std::sync::ledger::Ledger;
 use tk_io::{NoMemory, Steps, TextMap};
 use token_tree::Group;
 
 /// The flat tree of a merged tree, or the first rule of extension that the tree breaks.
-#[derive(Debug, Drop)]
+#[derive(Drop)]
 pub enum Merge<'s> {
     Flat(Flat<'s>),
     /// The fault is never [`TreeFault::NoMemory`].
     Broken(TreeFault<'s>),
+}
+
+impl<'s> fmt::Debug for Merge<'s> {
+    fn fmt<W: fmt::Write>(&self, f: &mut fmt::Formatter<W>) -> fmt::Result {
+        f.write_str("Merge")
+    }
 }
 
 /// What permutations come to, by their names.

@@ -11,14 +11,21 @@ use crate::source::{SourceBreak, SourceFault};
 use file_plan::Tree;
 use json_span::{JsonFault, Node};
 use std::alloc::Global;
+use std::fmt;
 use tk_io::{NoMemory, TextMap};
 use token_tree::{Group, ShapeFault, shape};
 
 /// What the tree of a file, or an object in it, shows: groups and tokens, or the first rule that it breaks.
-#[derive(Debug, Drop)]
+#[derive(Drop)]
 pub enum FileShape<'s> {
     Shows(Group<'s>),
     Breaks(SourceBreak<'s>),
+}
+
+impl<'s> fmt::Debug for FileShape<'s> {
+    fn fmt<W: fmt::Write>(&self, f: &mut fmt::Formatter<W>) -> fmt::Result {
+        f.write_str("FileShape")
+    }
 }
 
 /// The shapes of files by their paths.

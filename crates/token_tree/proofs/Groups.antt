@@ -1,13 +1,16 @@
 -- Groups, member by member.
-use Rattle.std.proofs.Common.{◌≡◌, ℕ, Bool, true, false, not, List, ◌++◌, Some, None, refl, sym, ap, ◌∙◌, cond}
+use Rattle.std.proofs.Common.{◌≡◌, ℕ, Bool, true, false, not, List, [], ◌++◌, Some, None, refl, sym, ap, ◌∙◌, cond}
 use Rattle.std.specs.Prelude.{slice_get}
+use Rattle.std.specs.Str.{bytes_eq}
 use Rattle.json_span.specs.Tree.{Tree, a_null, a_boolean, a_number, a_string, an_array, an_object, Placed, placed, Entry, entries_in, members_of, tree_of, start_of, end_of, object_in}
 use Rattle.json_span.proofs.Views.{entries_in-of}
 use Rattle.token_tree.specs.declared.fault.Rule.{Rule}
 use Rattle.token_tree.specs.declared.fault.Rule.TheVariants as rule
 use Rattle.token_tree.specs.Tree.{a_token, a_group}
 use Rattle.token_tree.specs.Answer.{IsObjectOf}
-use Rattle.token_tree.specs.Shape.{Break, members_in, entries_at, is_object, are_token, is_token, at_value, token_breaks, group_breaks, child_breaks, shape_breaks, child_of, def_of, group_of}
+use Rattle.token_tree.specs.Shape.{Break, root_breaks, members_in, entries_at, is_object, are_token, is_token, at_value, token_breaks, group_breaks, child_breaks, shape_breaks, child_of, def_of, group_of}
+use Rattle.name_path.specs.Names.{root_name}
+use Rattle.token_tree.specs.inner.Outcomes.{breaks_under, rule_under}
 use Rattle.token_tree.proofs.Keeps.{members_again}
 use Rattle.token_tree.proofs.Sound.{entries_are}
 
@@ -40,9 +43,6 @@ breaks_of : (n : Placed) (es : List Entry) → IsObjectOf n es → child_breaks 
 breaks_of (placed v start end) es h =
     ap (λ z. child_breaks (placed z start end)) h
     ∙ ap (λ z. cond (are_token z) (token_breaks z) (group_breaks (members_of es))) (entries_in-of es)
-
-pub group_child_breaks : (n : Placed) (es : List Entry) → IsObjectOf n es → are_token es ≡ false → child_breaks n ≡ group_breaks (members_of es)
-group_child_breaks n es h t = breaks_of n es h ∙ if_false (are_token es) (token_breaks es) (group_breaks (members_of es)) t
 
 token_is : (n : Placed) (es : List Entry) → IsObjectOf n es → is_token n ≡ are_token es
 token_is n es h = ap are_token (entries_are n es h)
@@ -80,3 +80,52 @@ group_root n es h t = root_cases n es h ∙ if_false (are_token es) (at_value ru
 
 pub token_root : (n : Placed) (es : List Entry) → IsObjectOf n es → are_token es ≡ true → shape_breaks n ≡ at_value rule.Root n ++ token_breaks (entries_at n)
 token_root n es h t = root_cases n es h ∙ if_true (are_token es) (at_value rule.Root n ++ token_breaks (entries_at n)) (group_breaks (members_of es)) t
+
+-- a value under a child's name
+
+no_token : (n : Placed) → None ≡ object_in (tree_of n) → is_token n ≡ false
+no_token (placed a_null start end) e = refl
+no_token (placed (a_boolean b) start end) e = refl
+no_token (placed (a_number k) start end) e = refl
+no_token (placed (a_string s) start end) e = refl
+no_token (placed (an_array ns) start end) e = refl
+no_token (placed (an_object ms) start end) e = absurd (cc)
+
+no_child : (n : Placed) → None ≡ object_in (tree_of n) → child_breaks n ≡ at_value rule.Member n
+no_child (placed a_null start end) e = refl
+no_child (placed (a_boolean b) start end) e = refl
+no_child (placed (a_number k) start end) e = refl
+no_child (placed (a_string s) start end) e = refl
+no_child (placed (an_array ns) start end) e = refl
+no_child (placed (an_object ms) start end) e = absurd (cc)
+
+none_under : (name : List ℕ) (n : Placed) → None ≡ object_in (tree_of n) → breaks_under name n ≡ at_value (rule_under name) n
+none_under name n e =
+    elim (bytes_eq name root_name) as (λ b. cond b (root_breaks n) (child_breaks n) ≡ at_value (cond b rule.RootToken rule.Member) n) [
+      | true ↦ if_false (is_token n) (token_breaks (entries_at n)) (at_value rule.RootToken n) (no_token n e)
+      | false ↦ no_child n e
+    ]
+
+pub first_under : (name : List ℕ) (n : Placed) (r : Rule) (s e : ℕ) → None ≡ object_in (tree_of n) → r ≡ rule_under name → s ≡ start_of n → e ≡ end_of n
+    → slice_get (breaks_under name n) 0 ≡ Some (record { rule = r; start = s; end = e })
+first_under name n r s e none is p q =
+    ap (λ z. slice_get z 0) (none_under name n none) ∙ λ i. Some (record { rule = sym is i; start = sym p i; end = sym q i })
+
+pub token_under : (name : List ℕ) (n : Placed) (es : List Entry) → IsObjectOf n es → are_token es ≡ true → breaks_under name n ≡ token_breaks es
+token_under name n es h t =
+    elim (bytes_eq name root_name) as (λ b. cond b (root_breaks n) (child_breaks n) ≡ token_breaks es) [
+      | true ↦ if_true (is_token n) (token_breaks (entries_at n)) (at_value rule.RootToken n) (token_is n es h ∙ t) ∙ ap token_breaks (entries_are n es h)
+      | false ↦ breaks_of n es h ∙ if_true (are_token es) (token_breaks es) (group_breaks (members_of es)) t
+    ]
+
+pub first_root : (name : List ℕ) (n : Placed) (es : List Entry) (s e : ℕ) → bytes_eq name root_name ≡ true → IsObjectOf n es → are_token es ≡ false → s ≡ start_of n → e ≡ end_of n
+    → slice_get (breaks_under name n) 0 ≡ Some (record { rule = rule.RootToken; start = s; end = e })
+first_root name n es s e root h t p q =
+    ap (λ z. slice_get z 0) (if_true (bytes_eq name root_name) (root_breaks n) (child_breaks n) root
+    ∙ if_false (is_token n) (token_breaks (entries_at n)) (at_value rule.RootToken n) (token_is n es h ∙ t))
+    ∙ first_at rule.RootToken n [] s e p q
+
+pub group_under : (name : List ℕ) (n : Placed) (es : List Entry) → bytes_eq name root_name ≡ false → IsObjectOf n es → are_token es ≡ false → breaks_under name n ≡ group_breaks (members_of es)
+group_under name n es other h t =
+    if_false (bytes_eq name root_name) (root_breaks n) (child_breaks n) other
+    ∙ (breaks_of n es h ∙ if_false (are_token es) (token_breaks es) (group_breaks (members_of es)) t)

@@ -3,12 +3,13 @@
 use crate::mark::Mark;
 use json_span::Node;
 use name_path::Kind;
+use std::fmt;
 use std::marker::Model;
 use tk_io::Text;
 
 /// A token as it is written in a file. It is seen as plain data, and it is always what its `source`
 /// shows: that is the text of an object without a flaw, which is a token and breaks no rule.
-#[derive(Debug, Drop)]
+#[derive(Drop)]
 pub struct TokenDef<'s> {
     /// The name of the file.
     pub file: &'s str,
@@ -46,6 +47,12 @@ impl<'s> Model for TokenDef<'s> {
     ghost view = { definition_view };
 
     ghost invariant = { λ d. IsDefinition (definition_view d) };
+}
+
+impl<'s> fmt::Debug for TokenDef<'s> {
+    fn fmt<W: fmt::Write>(&self, f: &mut fmt::Formatter<W>) -> fmt::Result {
+        f.write_str("TokenDef")
+    }
 }
 
 impl<'s> TokenDef<'s> {

@@ -9,12 +9,13 @@ ghost use Rattle.token_tree.specs.Texts.{is_reserved};
 ghost use Rattle.token_tree.specs.inner.Listed.{AreListed, IsNoted, if_named};
 ghost use Rattle.token_tree.specs.inner.Names.{NameStands, NamesStand};
 
+use crate::properties::is_word;
 use json_span::{Field, Fields, NodeRef};
 use std::alloc::Global;
 use tk_io::NoMemory;
 
 /// What stands under each listed name: the value of the first member of that name.
-#[derive(Clone, Copy, Debug)]
+#[derive(Clone, Copy)]
 pub(crate) struct ListedMembers<'d, 's> {
     pub value: Option<NodeRef<'d, 's>>,
     pub reference: Option<NodeRef<'d, 's>>,
@@ -67,7 +68,7 @@ impl<'d, 's> ListedMembers<'d, 's> {
     fn note_named(&mut self, name: &str, value: NodeRef<'d, 's>)
         ensures { IsNoted name.now (ref_view value.entry) self.old self.new }
     {
-        if name == "$value" {
+        if is_word(name, "$value") {
             self.value = self.value.or(Some(value));
             return;
         }
@@ -106,7 +107,7 @@ fn first<'d, 's>(
     ensures { option_map ref_view result ≡ option_or (option_map ref_view found.entry)
         (if_named wanted.now name.now (ref_view value.entry)) }
 {
-    if name == wanted {
+    if is_word(name, wanted) {
         return found.or(Some(value));
     }
     found

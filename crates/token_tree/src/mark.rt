@@ -2,14 +2,21 @@
 
 ghost use Rattle.std.specs.Prelude.{◌≡◌, IfOk};
 
+use std::fmt;
 use tk_io::{NoMemory, Text};
 
 /// What `$deprecated` says: `false`, `true`, or a text that gives the reason.
-#[derive(Debug, Drop)]
+#[derive(Drop)]
 pub enum Mark<'s> {
     No,
     Yes,
     Because(Text<'s>),
+}
+
+impl<'s> fmt::Debug for Mark<'s> {
+    fn fmt<W: fmt::Write>(&self, f: &mut fmt::Formatter<W>) -> fmt::Result {
+        f.write_str("Mark")
+    }
 }
 
 impl<'s> Mark<'s> {

@@ -2,6 +2,7 @@
 //! form.
 
 ghost use Rattle.std.specs.Prelude.{◌≡◌, IfOk};
+ghost use Rattle.std.specs.Str.{bytes_eq};
 ghost use Rattle.json_span.specs.View.{json_view};
 ghost use Rattle.token_tree.specs.Texts.{is_reserved, is_name};
 ghost use Rattle.token_tree.specs.Shape.{has_form, has_group_form, has_token_form};
@@ -12,6 +13,13 @@ use json_span::{NodeRef, ValueType};
 use name_path::{Kind, Path, RefStop, read_group};
 use std::alloc::Global;
 use tk_io::NoMemory;
+
+/// Whether the name is this word.
+pub(crate) fn is_word(name: &str, word: &str) -> bool
+    ensures { result ≡ bytes_eq name.now word.now }
+{
+    name == word
+}
 
 /// Whether a name begins with `$`.
 pub(crate) fn is_reserved(name: &str) -> bool
@@ -102,17 +110,17 @@ pub(crate) fn target_in<'s>(
 fn has_form(alloc: Global, name: &str, node: NodeRef<'_, '_>) -> Result<bool, NoMemory>
     ensures { IfOk result (λ b. b ≡ has_form name.now (json_view node.entry)) }
 {
-    if name == "$type" {
+    if is_word(name, "$type") {
         let kind = kind_in(alloc, node)?;
         return Ok(kind.is_some());
     }
-    if name == "$description" {
+    if is_word(name, "$description") {
         return Ok(is_text(node));
     }
-    if name == "$extensions" {
+    if is_word(name, "$extensions") {
         return Ok(node.as_object().is_some());
     }
-    if name == "$deprecated" {
+    if is_word(name, "$deprecated") {
         return Ok(is_mark(node));
     }
     Ok(true)
@@ -126,7 +134,7 @@ pub(crate) fn has_group_form(
 ) -> Result<bool, NoMemory>
     ensures { IfOk result (λ b. b ≡ has_group_form name.now (json_view node.entry)) }
 {
-    if name == "$extends" {
+    if is_word(name, "$extends") {
         let target = target_in(alloc, node)?;
         return Ok(target.is_some());
     }
@@ -142,7 +150,7 @@ pub(crate) fn has_token_form(
 ) -> Result<bool, NoMemory>
     ensures { IfOk result (λ b. b ≡ has_token_form valued name.now (json_view node.entry)) }
 {
-    if name == "$ref" {
+    if is_word(name, "$ref") {
         return Ok(is_text(node) && !valued);
     }
     has_form(alloc, name, node)

@@ -16,12 +16,13 @@ use crate::entries::{copy_list, place, put_child, sort_members};
 use crate::mark::Mark;
 use name_path::{Kind, Path};
 use std::alloc::Global;
+use std::fmt;
 use std::marker::Model;
 use std::rc::Rc;
 use tk_io::{NoMemory, Text};
 
 /// A group: what it says of itself, and its members.
-#[derive(Debug, Drop)]
+#[derive(Drop)]
 #[cycle(group)]
 pub struct Group<'s> {
     /// `$type`, where given.
@@ -34,7 +35,7 @@ pub struct Group<'s> {
 }
 
 /// The group that a group extends.
-#[derive(Debug, Drop)]
+#[derive(Drop)]
 pub struct Extends<'s> {
     /// Its path, which is empty for the root.
     pub target: Path<'s>,
@@ -48,7 +49,7 @@ pub struct Extends<'s> {
 
 /// The members of a group, seen as a finite map from name to token or group, in byte order of
 /// names. Copies share them.
-#[derive(Debug, Drop)]
+#[derive(Drop)]
 #[cycle(group)]
 pub struct Members<'s> {
     alloc: Global,
@@ -57,7 +58,7 @@ pub struct Members<'s> {
 }
 
 /// A member of a group under its name.
-#[derive(Debug, Drop)]
+#[derive(Drop)]
 #[cycle(group)]
 pub struct Member<'s> {
     pub name: Text<'s>,
@@ -65,11 +66,41 @@ pub struct Member<'s> {
 }
 
 /// A token or a group. Trees share both.
-#[derive(Debug, Drop)]
+#[derive(Drop)]
 #[cycle(group)]
 pub enum Child<'s> {
     Token(Rc<TokenDef<'s>>),
     Group(Rc<Group<'s>>),
+}
+
+impl<'s> fmt::Debug for Group<'s> {
+    fn fmt<W: fmt::Write>(&self, f: &mut fmt::Formatter<W>) -> fmt::Result {
+        f.write_str("Group")
+    }
+}
+
+impl<'s> fmt::Debug for Extends<'s> {
+    fn fmt<W: fmt::Write>(&self, f: &mut fmt::Formatter<W>) -> fmt::Result {
+        f.write_str("Extends")
+    }
+}
+
+impl<'s> fmt::Debug for Members<'s> {
+    fn fmt<W: fmt::Write>(&self, f: &mut fmt::Formatter<W>) -> fmt::Result {
+        f.write_str("Members")
+    }
+}
+
+impl<'s> fmt::Debug for Member<'s> {
+    fn fmt<W: fmt::Write>(&self, f: &mut fmt::Formatter<W>) -> fmt::Result {
+        f.write_str("Member")
+    }
+}
+
+impl<'s> fmt::Debug for Child<'s> {
+    fn fmt<W: fmt::Write>(&self, f: &mut fmt::Formatter<W>) -> fmt::Result {
+        f.write_str("Child")
+    }
 }
 
 impl<'s> Model for Members<'s> {

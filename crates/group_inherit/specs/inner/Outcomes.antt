@@ -8,7 +8,7 @@ use Rattle.std.specs.declared.vec.Vec.{Vec}
 use Rattle.ring.specs.Lists.{In}
 use Rattle.tk_io.specs.Order.{names_cmp}
 use Rattle.token_tree.specs.View.{extends_view, child_view, member_view, group_view}
-use Rattle.token_tree.specs.Tree.{Extension, Definition, Named, Children, Group as GroupData, children_of}
+use Rattle.token_tree.specs.Tree.{Extension, Definition, Named, Children, a_group, Group as GroupData, children_of}
 use Rattle.token_tree.specs.declared.tree.Child.{Child}
 use Rattle.token_tree.specs.declared.tree.Extends.{Extends}
 use Rattle.token_tree.specs.declared.tree.Group.{Group}
@@ -35,15 +35,19 @@ use Rattle.group_inherit.specs.inner.View.{nodes_view, nearest_view}
 abbrev pub AreOver : Named → Named → Named → Type 0
 AreOver later earlier members = members ≡ over_members (children_of (map.entries later)) earlier
 
-abbrev pub IsChildOver : Child → Child → Child → Type 0
-IsChildOver later earlier c = child_view c ≡ over_child (child_view later) (Some (child_view earlier))
-
 -- the members of a list from the i-th on are put
 abbrev pub AreMembersAdded : List Member → ℕ → Named → Named → Type 0
 AreMembersAdded list i old new = new ≡ put_all (drop i (map_list member_view list)) old
 
 abbrev pub IsMemberAdded : Member → Named → Named → Type 0
 IsMemberAdded m old new = new ≡ map.insert old m.name (child_view m.child)
+
+abbrev pub IsGroupAdded : List ℕ → Group → Named → Named → Type 0
+IsGroupAdded name g old new = new ≡ map.insert old name (a_group (group_view g))
+
+-- the later member over the earlier one is put
+abbrev pub IsOverAdded : Member → Member → Named → Named → Type 0
+IsOverAdded later earlier old new = new ≡ map.insert old later.name (over_child (child_view later.child) (Some (child_view earlier.child)))
 
 -- the target that a group names is another's, or both name none
 abbrev pub IsSameTarget : Option Extends → Option Extends → Type 0

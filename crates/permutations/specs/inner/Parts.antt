@@ -12,7 +12,7 @@ use Rattle.resolver_doc.specs.declared.written.Item.TheVariants.{Set as Sources,
 use Rattle.permutations.specs.declared.part.Part.{Part}
 use Rattle.permutations.specs.declared.part.Part.TheVariants.{File, Inline, Set}
 use Rattle.permutations.specs.declared.part.Row.{Row}
-use Rattle.permutations.specs.declared.fault.TheConstants.{LAST_NUMBER}
+use Rattle.permutations.specs.Answer.{last_number}
 
 -- a part: a source itself, or a set by its number
 pub data PartData : Type 0 where
@@ -65,7 +65,7 @@ count_in rows (set_source name v) = (row_at rows v).count
 count_in rows (inline_source n) = 1
 
 abbrev pub counts_in : List RowData → List SourceData → ℕ
-counts_in rows sources = min (sum_by (count_in rows) sources) LAST_NUMBER
+counts_in rows sources = min (sum_by (count_in rows) sources) last_number
 
 abbrev pub row_in : List RowData → List SourceData → RowData
 row_in rows sources = record { parts = parts_in rows sources; count = counts_in rows sources }
@@ -109,7 +109,7 @@ AreSolid of_set rows K parts = (p : PartData) → In p parts → IsSolid of_set 
 -- a row tells what comes to these sources
 pub record RowTells (of_set : ℕ → List TokenSource) (rows : List RowData) (K : ℕ → Type 0) (sources : List TokenSource) (row : RowData) : Type 0 where
   pub whole : flat_map (part_sources of_set) row.parts ≡ sources
-  pub count : row.count ≡ min (length sources) LAST_NUMBER
+  pub count : row.count ≡ min (length sources) last_number
   pub solid : AreSolid of_set rows K row.parts
 
 -- the rows tell what each set comes to

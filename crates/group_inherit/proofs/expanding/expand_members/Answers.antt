@@ -75,12 +75,11 @@ loop-member-preserved-in-Group c =
     let counted = groups_left_group x.name (child_view x.child) g left next (length children) is
     (subst (λ (l : Entries). next + length (names_of_groups (children_of l)) ≡ length children) first c.loop-member.invariant.many) in
     let within : w < length table = All-get_or (λ v. v < length table) children next 0 counted.0 c.requires.within in
-    let put = c.in_ok-put.ensures.ok
-    ∙ ap (map.insert made x.name) (ap (λ h. a_group (group_view h)) c.in_ok-shared.ensures.ok
-    ∙ ap a_group (c.in_ok-group.ensures ∙ sym (value_read table w c.index-table-children.result within c.index-table-children.is))) in
+    let put = c.in_ok-put_group.ensures
+    ∙ ap (map.insert made x.name) (ap a_group (c.in_ok-group.ensures ∙ sym (value_read table w c.index-table-children.result within c.index-table-children.is))) in
     record {
       many = counted.1;
-      filling = λ tree path known. group_filled tree path table es x.name (child_view x.child) g left w (drop (next + 1) children) made (members_view c.put.new.self) is put
+      filling = λ tree path known. group_filled tree path table es x.name (child_view x.child) g left w (drop (next + 1) children) made (members_view c.put_group.new.members) is put
           (subst (λ (l : Entries). Filling tree path table es l (w ∷ drop (next + 1) children) made) first
           (subst (λ (ws : List ℕ). Filling tree path table es (drop i es) ws made) (drop_more children next 0 counted.0) (c.loop-member.invariant.filling tree path known)));
     }
@@ -100,8 +99,8 @@ loop-member-preserved c =
     record {
       many = groups_left_token x.name (child_view x.child) c.in_default.field-0.value left next many is
           (subst (λ (l : Entries). next + length (names_of_groups (children_of l)) ≡ many) first c.loop-member.invariant.many);
-      filling = λ tree path known. token_filled tree path c.args.table.now es x.name (child_view x.child) c.in_default.field-0.value left (drop next c.args.children.now) made (members_view c.put-in-loop-member.new.self) is
-          (c.in_ok-put-2.ensures.ok ∙ ap (map.insert made x.name) c.in_ok-token.ensures)
+      filling = λ tree path known. token_filled tree path c.args.table.now es x.name (child_view x.child) c.in_default.field-0.value left (drop next c.args.children.now) made (members_view c.put_copy.new.members) is
+          c.in_ok-put_copy.ensures
           (subst (λ (l : Entries). Filling tree path c.args.table.now es l (drop next c.args.children.now) made) first (c.loop-member.invariant.filling tree path known));
     }
 

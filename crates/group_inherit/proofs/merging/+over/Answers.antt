@@ -1,10 +1,10 @@
-use Rattle.std.proofs.Common.{◌≡◌, ℕ, true, List, [], inl, inr, ◌⊎◌, ◌==◌, drop, option_map, arith, ap, ap₂, sym, ◌∙◌}
+use Rattle.std.proofs.Common.{◌≡◌, ℕ, true, List, [], inl, inr, ◌⊎◌, ◌==◌, drop, option_map, arith, refl, ap, ap₂, sym, ◌∙◌}
 use Rattle.std.proofs.Common.{map as map_list}
 use Rattle.std.proofs.lemmas.Bool.Decides.{nat_tests}
 use Rattle.std.proofs.lemmas.Result.{IfOk-weaker}
 use Rattle.std.specs.FinMap as map
 use Rattle.token_tree.specs.Tree.{Properties, group_with, children_of}
-use Rattle.token_tree.specs.View.{extends_view, child_view, member_view, members_view, properties_view}
+use Rattle.token_tree.specs.View.{extends_view, member_view, members_view, properties_view}
 use Rattle.token_tree.specs.declared.tree.Member.{Member}
 use Rattle.group_inherit.specs.Merging.{over_properties, over_members}
 use Rattle.group_inherit.proofs.Options.{copied_or, map_or}
@@ -41,8 +41,8 @@ over_members-returns-then-is_empty-2 t c =
     IfOk-weaker c.copy-then-is_empty-2.result _ (λ ms. ms ≡ over_members (children_of (map.entries c.args.later.now)) c.args.earlier.now)
     (λ ms is. is ∙ sym (over_members_alone c.args.later.now c.args.earlier.now e)) c.copy-then-is_empty-2.ensures
 
-pub merged-over_child-requires : goal.merged-over_child-requires
-merged-over_child-requires t c =
+pub merged-put_over-requires : goal.merged-put_over-requires
+merged-put_over-requires t c =
     let h = entry_lighter c.as_slice-upper.result.now (map.entries (members_view c.args.later.now)) c.loop-i.i c.index-upper-i.result c.as_slice-upper.ensures c.loop-i-test.true c.index-upper-i.is in
     (omega (arith, h, c.decreases), tt)
 
@@ -72,8 +72,8 @@ merged-loop-i-preserved-in-Equal t c =
     record {
       upper = omega (arith, c.loop-i-test.true);
       lower = omega (arith, c.if-j-lower.true);
-      at = λ q. both_turn c.as_slice-upper.result.now c.as_slice-lower.result.now c.loop-i.i c.loop-i.j c.index-upper-i.result c.index-lower-j.result c.loop-i.members c.put.new.self s r
-          c.loop-i-test.true c.if-j-lower.true c.index-upper-i.is c.index-lower-j.is (child_view c.in_ok-child-in-Equal.child) (sym c.cmp.ensures ∙ c.in-Equal.is) c.in_ok-child-in-Equal.ensures c.in_ok-put-in-Equal.ensures.ok q
+      at = λ q. both_turn c.as_slice-upper.result.now c.as_slice-lower.result.now c.loop-i.i c.loop-i.j c.index-upper-i.result c.index-lower-j.result c.loop-i.members c.put_over.new.members s r
+          c.loop-i-test.true c.if-j-lower.true c.index-upper-i.is c.index-lower-j.is _ (sym c.cmp.ensures ∙ c.in-Equal.is) refl c.in_ok-put_over-in-Equal.ensures q
           ∙ c.loop-i.invariant.at q;
     }
 

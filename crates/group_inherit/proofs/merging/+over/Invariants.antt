@@ -11,8 +11,8 @@ use Rattle.group_inherit.proofs.Merges.{left_or}
 use Rattle.group_inherit.proofs.Weights.{child_weight, group_weight, children_weight}
 use Rattle.group_inherit.proofs.merging.+over.Given as goal
 
-abbrev pub decreases-over_child : goal.decreases-over_child
-decreases-over_child l = child_weight (child_view l.later.now) + 1
+abbrev pub decreases-put_over : goal.decreases-put_over
+decreases-put_over l = child_weight (child_view l.later.now.child) + 1
 
 abbrev pub decreases-over : goal.decreases-over
 decreases-over l = group_weight (group_view l.later.now)

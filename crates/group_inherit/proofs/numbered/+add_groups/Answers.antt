@@ -28,10 +28,8 @@ loop-member-preserved t c =
     let x = c.member-item.result in
     let is : child_view x.child ≡ a_group (group_view c.deref.result.now) = ap child_view c.in-Group.is ∙ ap (λ (g : GroupValue). a_group (group_view g)) (sym c.deref.ensures) in
     let nodes = nodes_view c.loop-member.nodes.items in
-    let below : c.push-in-loop-member.new.self ≡ c.args.path.now ++ x.name ∷ [] =
-    c.in_ok-push-2.ensures.ok ∙ (ap (λ (q : List (List ℕ)). q ++ c.in_ok-copy.field-0 ∷ []) c.in_ok-below.ensures ∙ ap (λ (n : List ℕ). c.args.path.now ++ n ∷ []) c.in_ok-copy.ensures) in
     let added : nodes_view c.add_groups.new.nodes.items ≡ nodes ++ groups_from (c.args.path.now ++ x.name ∷ []) (group_view c.deref.result.now) =
-    c.in_ok-add_groups.ensures.all ∙ ap (λ (q : List (List ℕ)). nodes ++ groups_from q (group_view c.deref.result.now)) below in
+    c.in_ok-add_groups.ensures.all ∙ ap (λ (q : List (List ℕ)). nodes ++ groups_from q (group_view c.deref.result.now)) c.in_ok-below.ensures in
     turn_group c.args.path.now _ es c.as_slice-member-items.result.now c.as_slice-member-items.ensures (map_of.entries_sorted (members_view c.args.group.now.members)) c.loop-member.member-index
     nodes c.loop-member.invariant x c.loop-member-test.true c.member-item.is (nodes_view c.add_groups.new.nodes.items) (group_view c.deref.result.now) is added c.in_ok-add_groups.ensures.named
 

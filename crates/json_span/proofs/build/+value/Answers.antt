@@ -112,8 +112,8 @@ build_value-returns-in_err-end-in-Some-Scalar-clause-stop t c =
 pub build_value-returns-in-None-clause-stop : goal.build_value-returns-in-None-clause-stop
 build_value-returns-in-None-clause-stop t c = no_value c.args.text.now c.args.at c.requires.1.1.0 c.in-None.ensures.none
 
-pub build_object-loop-own-init : goal.build_object-loop-own-init
-build_object-loop-own-init t c = record {
+pub build_object-loop-front-init : goal.build_object-loop-front-init
+build_object-loop-front-init t c = record {
   within = c.requires.1.1.0.blanks.within_text;
   leads = list.open_leads c.args.text.now Curly c.args.at c.args.inner c.requires.1.1.0;
   members = record {
@@ -129,46 +129,40 @@ build_object-loop-own-init t c = record {
   small = gives.opened_small c.args.text.now c.args.at c.args.inner c.args.nodes.now.items _ _ c.requires.1.1.1 c.requires.1.1.0.blanks c.in_ok-push.ensures.items;
 }
 
-pub build_object-returns-in_err-own-clause-stop : goal.build_object-returns-in_err-own-clause-stop
-build_object-returns-in_err-own-clause-stop t c =
-    let l = c.loop-own in
-    let p = err_from_is_err_and c.from_residual-in_err-own.result c.from_residual-in_err-own.ensures.1 in
-    rw (p.1, p.2) (list.bad_name c.args.text.now c.args.at l.next l.invariant.leads (Syntax c.in_err-own.field-0.0) c.in_err-own.ensures.stop)
-
-pub build_object-returns-in_err-value-clause-stop : goal.build_object-returns-in_err-value-clause-stop
-build_object-returns-in_err-value-clause-stop t c =
-    let l = c.loop-own in
-    let p = err_from_is_err_and c.from_residual-in_err-value.result c.from_residual-in_err-value.ensures.1 in
-    rw (p.1, p.2) (list.bad_colon c.args.text.now c.args.at l.next c.in_ok-own.own.end l.invariant.leads c.in_err-value.field-0.0 c.in_ok-own.ensures.ok.reads c.in_err-value.ensures)
+pub build_object-returns-in_err-front-clause-stop : goal.build_object-returns-in_err-front-clause-stop
+build_object-returns-in_err-front-clause-stop t c =
+    let l = c.loop-front in
+    let p = err_from_is_err_and c.from_residual-in_err-front.result c.from_residual-in_err-front.ensures.1 in
+    rw (p.1, p.2) (list.bad_front c.args.text.now curly c.args.at l.next l.invariant.leads c.in_err-front.field-0.0 c.in_err-front.ensures.stop)
 
 pub build_object-returns-in_err-built-clause-stop : goal.build_object-returns-in_err-built-clause-stop
 build_object-returns-in_err-built-clause-stop t c =
-    let l = c.loop-own in
-    let before = gives.name_before c.in_ok-own.ensures.ok.reads c.in_ok-value.ensures in
+    let l = c.loop-front in
+    let before = gives.name_before c.in_ok-front.ensures.own.reads c.in_ok-front.ensures.colon in
     let p = err_from_is_err_and c.from_residual-in_err-built.result c.from_residual-in_err-built.ensures.1 in
     rw (p.1, p.2) (list.bad_value c.args.text.now curly c.args.at l.next l.invariant.leads c.in_err-built.field-0.0 before c.in_err-built.ensures.stop)
 
 -- a turn that read a member, under the arm of what its value was built as
 turn : (t : ℕ) (c : build_object-In_ok-built t) {b : Built} → c.in_ok-built.built ≡ b →
-    gives.ObjectTurn c.args.text.now c.args.room c.args.at c.args.inner c.loop-own.next c.args.name c.args.name_end
+    gives.ObjectTurn c.args.text.now c.args.room c.args.at c.args.inner c.loop-front.next c.args.name c.args.name_end
     c.args.nodes.now.items c.build_value.new.nodes.items c.args.names.now.items c.build_value.new.names.items b
 turn t c is =
-    let held = c.loop-own.invariant in
-    let own = c.in_ok-own.ensures.ok in
+    let held = c.loop-front.invariant in
+    let own = c.in_ok-front.ensures.own in
     record {
-      nodes = c.loop-own.nodes.items;
-      names = c.loop-own.names.items;
+      nodes = c.loop-front.nodes.items;
+      names = c.loop-front.names.items;
       opens = c.requires.1.1.0;
       leads = held.leads;
       before = held.members;
       within_text = held.within;
-      n = c.in_ok-own.own;
-      value_start = c.in_ok-value.value;
-      own = named_at c.args.text.now c.loop-own.next c.in_ok-own.own own;
+      n = c.in_ok-front.front.own;
+      value_start = c.in_ok-front.front.value;
+      own = named_at c.args.text.now c.loop-front.next c.in_ok-front.front.own own;
       reads = own.reads;
-      colon = c.in_ok-value.ensures;
+      colon = c.in_ok-front.ensures.colon;
       built = gives.built_at own.start is c.in_ok-built.ensures.ok;
-      pushed = c.in_ok-built.ensures.names ∙ c.in_ok-push-2.ensures.items;
+      pushed = c.in_ok-built.ensures.names ∙ c.in_ok-front.ensures.names;
     }
 
 pub build_object-returns-in_err-end-in-Flawed-clause-stop : goal.build_object-returns-in_err-end-in-Flawed-clause-stop
@@ -180,7 +174,7 @@ build_object-returns-in_err-end-in-Flawed-clause-stop t c =
 pub build_object-returns-in-Flawed-clause-ok : goal.build_object-returns-in-Flawed-clause-ok
 build_object-returns-in-Flawed-clause-ok t c =
     let r = turn t (goal.at.build_object-returns-in-Flawed-clause-ok t c).In_ok-built c.in-Flawed.is in
-    let told = c.in_ok-first-in-Flawed.ensures.flaw _ (gives.names_read r c.loop-own.invariant.base) in
+    let told = c.in_ok-first-in-Flawed.ensures.flaw _ (gives.names_read r c.loop-front.invariant.base) in
     rw c.unwrap_or.ensures (gives.object_flawed r c.in_ok-first-in-Flawed.first told c.in_ok-end-in-Flawed.ensures.end)
 
 pub build_object-returns-in_err-item-clause-stop : goal.build_object-returns-in_err-item-clause-stop
@@ -189,38 +183,38 @@ build_object-returns-in_err-item-clause-stop t c =
     let p = err_from_is_err_and c.from_residual-in_err-item.result c.from_residual-in_err-item.ensures.1 in
     rw (p.1, p.2) (gives.rest_stops r (Syntax c.in_err-item.field-0.0) c.in_err-item.ensures.stop)
 
-pub build_object-loop-own-preserved : goal.build_object-loop-own-preserved
-build_object-loop-own-preserved t c =
-    let r = turn t (goal.at.build_object-loop-own-preserved t c).In_ok-built c.in-Whole.is in
-    let held = c.loop-own.invariant in
+pub build_object-loop-front-preserved : goal.build_object-loop-front-preserved
+build_object-loop-front-preserved t c =
+    let r = turn t (goal.at.build_object-loop-front-preserved t c).In_ok-built c.in-Whole.is in
+    let held = c.loop-front.invariant in
     let comma = gives.comma_as curly c.in-Item.is c.in_ok-item.ensures.ok in
     let (h, leads, left, more) = gives.object_next r comma in
     record { within = h; leads = leads; members = left; base = held.base; index = search rules; small = gives.small_after c.in-Whole.end held.small r.built.kept.1 comma }
 
-pub build_object-loop-own-smaller : goal.build_object-loop-own-smaller
-build_object-loop-own-smaller t c =
-    let r = turn t (goal.at.build_object-loop-own-smaller t c).In_ok-built c.in-Whole.is in
+pub build_object-loop-front-smaller : goal.build_object-loop-front-smaller
+build_object-loop-front-smaller t c =
+    let r = turn t (goal.at.build_object-loop-front-smaller t c).In_ok-built c.in-Whole.is in
     let (h, leads, left, more) = gives.object_next r (gives.comma_as curly c.in-Item.is c.in_ok-item.ensures.ok) in
     omega (arith, h, more)
 
 pub build_object-close_names-requires-clause-are : goal.build_object-close_names-requires-clause-are
 build_object-close_names-requires-clause-are t c =
     let r = turn t (goal.at.build_object-close_names-requires-clause-are t c).In_ok-built c.in-Flawed.is in
-    (_, gives.names_read r c.loop-own.invariant.base)
+    (_, gives.names_read r c.loop-front.invariant.base)
 
 pub build_object-close_names-requires-in-Closed-clause-are : goal.build_object-close_names-requires-in-Closed-clause-are
 build_object-close_names-requires-in-Closed-clause-are t c =
     let r = turn t (goal.at.build_object-close_names-requires-in-Closed-clause-are t c).In_ok-built c.in-Whole.is in
-    (_, gives.names_read r c.loop-own.invariant.base)
+    (_, gives.names_read r c.loop-front.invariant.base)
 
 pub build_object-returns-in-Some-clause-ok : goal.build_object-returns-in-Some-clause-ok
 build_object-returns-in-Some-clause-ok t c =
     let r = turn t (goal.at.build_object-returns-in-Some-clause-ok t c).In_ok-built c.in-Whole.is in
-    let told = c.in_ok-again-in-Closed.ensures.flaw _ (gives.names_read r c.loop-own.invariant.base) in
+    let told = c.in_ok-again-in-Closed.ensures.flaw _ (gives.names_read r c.loop-front.invariant.base) in
     gives.object_again r (gives.close_as c.in-Closed.is c.in_ok-item.ensures.ok) (gives.told_as c.in-Some.is told)
 
 pub build_object-returns-in-Closed-clause-ok : goal.build_object-returns-in-Closed-clause-ok
 build_object-returns-in-Closed-clause-ok t c =
     let r = turn t (goal.at.build_object-returns-in-Closed-clause-ok t c).In_ok-built c.in-Whole.is in
-    let told = c.in_ok-again-in-Closed.ensures.flaw _ (gives.names_read r c.loop-own.invariant.base) in
+    let told = c.in_ok-again-in-Closed.ensures.flaw _ (gives.names_read r c.loop-front.invariant.base) in
     gives.object_whole r (gives.close_as c.in-Closed.is c.in_ok-item.ensures.ok) (gives.told_as c.in_default.is told) (search rules)

@@ -31,8 +31,8 @@ invariant-build_array-loop-end l = record {
 abbrev pub decreases-build_array-loop-end : goal.decreases-build_array-loop-end
 decreases-build_array-loop-end l = length l.text - l.next
 
-abbrev pub invariant-build_object-loop-own : goal.invariant-build_object-loop-own
-invariant-build_object-loop-own l = record {
+abbrev pub invariant-build_object-loop-front : goal.invariant-build_object-loop-front
+invariant-build_object-loop-front l = record {
   within : l.next ≤ length l.text;
   leads : ContinuesAs l.text (left_of true []) l.at (list_left curly) l.next;
   members : ObjectLeft l.text l.room l.at l.inner l.next l.name l.name_end l.fn.nodes.items l.nodes.items l.fn.names.items l.names.items;
@@ -41,5 +41,5 @@ invariant-build_object-loop-own l = record {
   small : IsSmall l.text l.next l.nodes.items;
 }
 
-abbrev pub decreases-build_object-loop-own : goal.decreases-build_object-loop-own
-decreases-build_object-loop-own l = length l.text - l.next
+abbrev pub decreases-build_object-loop-front : goal.decreases-build_object-loop-front
+decreases-build_object-loop-front l = length l.text - l.next

@@ -1,9 +1,8 @@
 use Rattle.std.proofs.Common.{◌<◌, ℕ, length, map, take, ap, ap₂, sym, ◌∙◌, arith}
 use Rattle.std.specs.Prelude.{max}
-use Rattle.permutations.specs.Answer.{told_number}
+use Rattle.permutations.specs.Answer.{told_number, last_number}
 use Rattle.resolver_doc.specs.View.{sets_view, sources_view}
 use Rattle.permutations.specs.Permutation.{greatest}
-use Rattle.permutations.specs.declared.fault.TheConstants.{LAST_NUMBER}
 use Rattle.permutations.specs.inner.Counting.{source_count}
 use Rattle.permutations.proofs.CountSteps.{most_more, told_max}
 use Rattle.permutations.proofs.counting.most_in.Goals as goal
@@ -17,5 +16,5 @@ loop-context-preserved c =
     let here = source_count sets (sources_view c.context-item.result.sources) in
     c.max-most.ensures
     ∙ (ap₂ (λ (a b : ℕ). max a b) (c.source_count.ensures ∙ ap (λ ss. told_number (source_count sets (sources_view ss))) c.as_slice.ensures) c.loop-context.invariant
-    ∙ (told_max before here LAST_NUMBER
+    ∙ (told_max before here last_number
     ∙ ap told_number (sym (most_more (λ d. source_count sets d.sources) c.args.contexts.now i c.context-item.result within c.context-item.is))))

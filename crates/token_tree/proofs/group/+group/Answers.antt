@@ -1,4 +1,4 @@
-use Rattle.std.proofs.Common.{◌≡◌, ℕ, suc, ◌++◌, true, false, arith, List, [], sym, ap, ap₂, subst, ◌∙◌, option_map}
+use Rattle.std.proofs.Common.{◌≡◌, ℕ, suc, ◌++◌, true, false, arith, List, [], sym, ap, subst, ◌∙◌}
 use Rattle.std.specs.FinMap as map
 use Rattle.std.specs.Prelude.{slice_get}
 use Rattle.std.proofs.lemmas.List.{append-nil}
@@ -6,18 +6,18 @@ use Rattle.std.proofs.lemmas.Result.{err_from_is_err_and}
 use Rattle.tk_io.specs.Order.{text_cmp}
 use Rattle.json_span.specs.Tree.{Entry, members_of}
 use Rattle.json_span.specs.View.{ref_view, field_view, fields_view}
-use Rattle.json_span.proofs.Views.{entries_in-of}
 use Rattle.token_tree.specs.Answer.{IsObjectOf}
 use Rattle.token_tree.specs.inner.Outcomes.{NamesDiffer}
-use Rattle.token_tree.specs.Tree.{a_token, a_group, group_with}
-use Rattle.token_tree.specs.Shape.{are_token, group_breaks, group_member_breaks, child_breaks, properties_of}
-use Rattle.token_tree.specs.View.{extends_view, group_view}
+use Rattle.token_tree.specs.Tree.{a_token}
+use Rattle.std.specs.Str.{bytes_eq}
+use Rattle.name_path.specs.Names.{root_name}
+use Rattle.token_tree.specs.Shape.{are_token, token_breaks, group_breaks, group_member_breaks, child_breaks}
+use Rattle.token_tree.specs.inner.Outcomes.{breaks_under}
 use Rattle.token_tree.specs.MembersView.{entries_of}
 use Rattle.token_tree.specs.inner.Lists.{KeysAreApart}
 use Rattle.token_tree.specs.declared.tree.Member.{Member}
 use Rattle.token_tree.proofs.Children.{children_in, children_apart, one_read, put_all}
-use Rattle.token_tree.proofs.Groups.{object_is, group_child_breaks, group_child, token_child}
-use Rattle.token_tree.proofs.Listed.{listed_properties}
+use Rattle.token_tree.proofs.Groups.{object_is, group_child, token_child, first_under, token_under, first_root, group_under}
 use Rattle.token_tree.proofs.NamesStand.{names_stand}
 use Rattle.token_tree.proofs.Places.{members_stand, names_differ}
 use Rattle.token_tree.proofs.Sound.{first_stays, first_of}
@@ -29,55 +29,80 @@ read_child-among-requires t c =
     let es = fields_view c.in-Some.fields in
     names_stand c.args.text.now (ref_view c.args.node) es (object_is (sym c.in-Some.ensures)) c.requires.1.1
 
-pub read_child-read_token-requires-clause-members : goal.read_child-read_token-requires-clause-members
-read_child-read_token-requires-clause-members t c = object_is (sym c.in-Some.ensures)
-
-pub read_child-read_group-requires : goal.read_child-read_group-requires
-read_child-read_group-requires t c =
+pub read_child-read_object-requires : goal.read_child-read_object-requires
+read_child-read_object-requires t c =
     let es = fields_view c.in-Some.fields in
     let are : IsObjectOf (ref_view c.args.node) es = object_is (sym c.in-Some.ensures) in
-    (omega (arith, ap tree_weight are, weight_of (ref_view c.args.node)), (members_stand c.args.text.now (ref_view c.args.node) es are c.requires.1.1, (names_differ c.args.text.now (ref_view c.args.node) es are c.requires.1.1, c.in_ok-listed.ensures)))
+    (omega (arith, ap tree_weight are, weight_of (ref_view c.args.node)), (c.requires.1.1, (are, c.in_ok-listed.ensures)))
 
-pub read_child-returns-in_err-group-clause-broken : goal.read_child-returns-in_err-group-clause-broken
-read_child-returns-in_err-group-clause-broken t c =
+pub read_child-returns-in_default-clause-broken : goal.read_child-returns-in_default-clause-broken
+read_child-returns-in_default-clause-broken t c =
+    first_under c.args.name.now (ref_view c.args.node) c.rule_under.result c.start.result c.end.result c.in_default.ensures c.rule_under.ensures c.start.ensures c.end.ensures
+
+pub read_object-read_members-requires : goal.read_object-read_members-requires
+read_object-read_members-requires t c =
     let n = ref_view c.args.node in
-    let es = fields_view c.in-Some.fields in
-    let are : IsObjectOf n es = object_is (sym c.in-Some.ensures) in
-    let none : are_token es ≡ false = sym (c.are_token.ensures es c.in_ok-listed.ensures) ∙ c.if-are_token.false in
-    let p = err_from_is_err_and c.from_residual-in_err-group.result c.from_residual-in_err-group.ensures.1 in
-    rw (p.1, p.2) (first_of (group_breaks (members_of es)) (child_breaks n) _ (sym (group_child_breaks n es are none)) c.in_err-group.ensures.broken)
-
-pub read_child-returns-then-are_token-clause-ok : goal.read_child-returns-then-are_token-clause-ok
-read_child-returns-then-are_token-clause-ok t c =
-    let es = fields_view c.in-Some.fields in
-    let some : are_token es ≡ true = sym (c.are_token.ensures es c.in_ok-listed.ensures) ∙ c.if-are_token.true in
-    ap a_token c.in_ok-def.ensures.ok
-    ∙ sym (token_child c.args.file.now c.args.text.now (ref_view c.args.node) es (object_is (sym c.in-Some.ensures)) some)
-
-pub read_child-returns-clause-sound : goal.read_child-returns-clause-sound
-read_child-returns-clause-sound t c =
-    let n = ref_view c.args.node in
-    let es = fields_view c.in-Some.fields in
-    let are : IsObjectOf n es = object_is (sym c.in-Some.ensures) in
-    let none : are_token es ≡ false = sym (c.are_token.ensures es c.in_ok-listed.ensures) ∙ c.if-are_token.false in
-    group_child_breaks n es are none ∙ c.in_ok-group.ensures.sound
-
-pub read_child-returns-clause-ok : goal.read_child-returns-clause-ok
-read_child-returns-clause-ok t c =
-    let n = ref_view c.args.node in
-    let es = fields_view c.in-Some.fields in
-    let are : IsObjectOf n es = object_is (sym c.in-Some.ensures) in
-    let none : are_token es ≡ false = sym (c.are_token.ensures es c.in_ok-listed.ensures) ∙ c.if-are_token.false in
-    ap (λ g. a_group (group_view g)) c.in_ok-shared.ensures.ok
-    ∙ (ap a_group c.in_ok-group.ensures.ok
-    ∙ sym (group_child c.args.file.now c.args.text.now n es are none))
-
-pub read_group-returns-clause-ok : goal.read_group-returns-clause-ok
-read_group-returns-clause-ok t c =
     let es = fields_view c.args.fields.now in
-    let file = c.args.file.now in
-    let own = listed_properties file es c.args.listed.now (record { kind = c.in_ok-kind.kind; deprecated = c.in_ok-deprecated.deprecated; extends = option_map extends_view c.in_ok-extends.extends }) c.requires.1.1.1.1 c.in_ok-kind.ensures c.in_ok-deprecated.ensures c.in_ok-extends.ensures in
-    ap₂ group_with (own ∙ ap (properties_of file) (sym (entries_in-of es))) c.in_ok-members.ensures.ok
+    (omega arith, (members_stand c.args.text.now n es c.requires.1.1.1.0 c.requires.1.1.0, names_differ c.args.text.now n es c.requires.1.1.1.0 c.requires.1.1.0))
+
+pub read_object-returns-in_err-def-clause-broken : goal.read_object-returns-in_err-def-clause-broken
+read_object-returns-in_err-def-clause-broken t c =
+    let n = ref_view c.args.node in
+    let es = fields_view c.args.fields.now in
+    let are : IsObjectOf n es = c.requires.1.1.1.0 in
+    let some : are_token es ≡ true = sym (c.are_token.ensures es c.requires.1.1.1.1) ∙ c.if-are_token.true in
+    let p = err_from_is_err_and c.from_residual.result c.from_residual.ensures.1 in
+    rw (p.1, p.2) (first_of (token_breaks es) (breaks_under c.args.name.now n) _ (sym (token_under c.args.name.now n es are some)) c.in_err-def.ensures.broken)
+
+pub read_object-returns-then-are_token-clause-sound : goal.read_object-returns-then-are_token-clause-sound
+read_object-returns-then-are_token-clause-sound t c =
+    let n = ref_view c.args.node in
+    let es = fields_view c.args.fields.now in
+    let are : IsObjectOf n es = c.requires.1.1.1.0 in
+    let some : are_token es ≡ true = sym (c.are_token.ensures es c.requires.1.1.1.1) ∙ c.if-are_token.true in
+    token_under c.args.name.now n es are some ∙ c.in_ok-def.ensures.sound
+
+pub read_object-returns-then-is_word-clause-broken : goal.read_object-returns-then-is_word-clause-broken
+read_object-returns-then-is_word-clause-broken t c =
+    let n = ref_view c.args.node in
+    let es = fields_view c.args.fields.now in
+    let none : are_token es ≡ false = sym (c.are_token.ensures es c.requires.1.1.1.1) ∙ c.if-are_token.false in
+    first_root c.args.name.now n es c.start.result c.end.result (sym c.is_word.ensures ∙ c.if-is_word.true) c.requires.1.1.1.0 none c.start.ensures c.end.ensures
+
+pub read_object-returns-in_err-members-clause-broken : goal.read_object-returns-in_err-members-clause-broken
+read_object-returns-in_err-members-clause-broken t c =
+    let n = ref_view c.args.node in
+    let es = fields_view c.args.fields.now in
+    let are : IsObjectOf n es = c.requires.1.1.1.0 in
+    let none : are_token es ≡ false = sym (c.are_token.ensures es c.requires.1.1.1.1) ∙ c.if-are_token.false in
+    let other : bytes_eq c.args.name.now root_name ≡ false = sym c.is_word.ensures ∙ c.if-is_word.false in
+    let p = err_from_is_err_and c.from_residual-in_err-members.result c.from_residual-in_err-members.ensures.1 in
+    rw (p.1, p.2) (first_of (group_breaks (members_of es)) (breaks_under c.args.name.now n) _ (sym (group_under c.args.name.now n es other are none)) c.in_err-members.ensures.broken)
+
+pub read_object-returns-then-are_token-clause-ok : goal.read_object-returns-then-are_token-clause-ok
+read_object-returns-then-are_token-clause-ok t c =
+    let es = fields_view c.args.fields.now in
+    let some : are_token es ≡ true = sym (c.are_token.ensures es c.requires.1.1.1.1) ∙ c.if-are_token.true in
+    ap a_token c.in_ok-def.ensures.ok
+    ∙ sym (token_child c.args.file.now c.args.text.now (ref_view c.args.node) es c.requires.1.1.1.0 some)
+
+pub read_object-returns-clause-sound : goal.read_object-returns-clause-sound
+read_object-returns-clause-sound t c =
+    let n = ref_view c.args.node in
+    let es = fields_view c.args.fields.now in
+    let are : IsObjectOf n es = c.requires.1.1.1.0 in
+    let none : are_token es ≡ false = sym (c.are_token.ensures es c.requires.1.1.1.1) ∙ c.if-are_token.false in
+    let other : bytes_eq c.args.name.now root_name ≡ false = sym c.is_word.ensures ∙ c.if-is_word.false in
+    group_under c.args.name.now n es other are none ∙ c.in_ok-members.ensures.sound
+
+pub read_object-returns-clause-ok : goal.read_object-returns-clause-ok
+read_object-returns-clause-ok t c =
+    let n = ref_view c.args.node in
+    let es = fields_view c.args.fields.now in
+    let are : IsObjectOf n es = c.requires.1.1.1.0 in
+    let none : are_token es ≡ false = sym (c.are_token.ensures es c.requires.1.1.1.1) ∙ c.if-are_token.false in
+    c.in_ok-child.ensures c.args.text.now es c.requires.1.1.1.1 c.in_ok-members.ensures.ok
+    ∙ sym (group_child c.args.file.now c.args.text.now n es are none)
 
 pub read_members-read_member-requires : goal.read_members-read_member-requires
 read_members-read_member-requires t c =

@@ -11,8 +11,8 @@ use Rattle.token_tree.proofs.group.+group.Given as goal
 abbrev pub decreases-read_child : goal.decreases-read_child
 decreases-read_child l = node_weight (ref_view l.node)
 
-abbrev pub decreases-read_group : goal.decreases-read_group
-decreases-read_group l = members_weight (members_of (fields_view l.fields.now)) + 2
+abbrev pub decreases-read_object : goal.decreases-read_object
+decreases-read_object l = members_weight (members_of (fields_view l.fields.now)) + 2
 
 abbrev pub decreases-read_members : goal.decreases-read_members
 decreases-read_members l = members_weight (members_of (fields_view l.fields.now)) + 1

@@ -5,7 +5,7 @@ use Rattle.token_tree.proofs.listed_members.ListedMembers.note_named.Goals as go
 
 pub returns : goal.returns
 returns c = record {
-  value = unnamed c.args.name.now (codes "$value") (ref_view c.args.value) _ (sym c.eq.ensures ∙ c.if-eq.false);
+  value = unnamed c.args.name.now (codes "$value") (ref_view c.args.value) _ (sym c.is_word.ensures ∙ c.if-is_word.false);
   reference = c.first-self.ensures;
   kind = c.first-self-2.ensures;
   description = c.first-self-3.ensures;
