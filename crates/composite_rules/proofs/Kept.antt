@@ -32,89 +32,89 @@ use Rattle.composite_rules.specs.Sound.{kind_of, IsStroke, IsBorder, IsTransitio
 
 -- stroke styles
 
-dashes_keep : (v : Value) (s : Stroke) → dashes_in v ≡ Ok s → IsStroke s
+dashes_keep : (legacy : Bool) (v : Value) (s : Stroke) → dashes_in legacy v ≡ Ok s → IsStroke s
 unfolding dashes_in
-dashes_keep v s e =
+dashes_keep legacy v s e =
     made (members_in v) _ s e (λ es h e1.
-    made (member (list_in size_in) (codes "dashArray") es) _ s e1 (λ lengths has e2.
+    made (member (list_in (size_in legacy)) (codes "dashArray") es) _ s e1 (λ lengths has e2.
     made (member (word_in StrokeCap caps) (codes "lineCap") es) _ s e2 (λ cap is e3.
-    found IsStroke (stroke.Dashes lengths cap) s e3 (member_keeps (list_in size_in) (λ xs. IsStroke (stroke.Dashes xs cap)) (list_keeps size_in IsSize sizes_keep) (codes "dashArray") es lengths has))))
+    found IsStroke (stroke.Dashes lengths cap) s e3 (member_keeps (list_in (size_in legacy)) (λ xs. IsStroke (stroke.Dashes xs cap)) (list_keeps (size_in legacy) IsSize (sizes_keep legacy)) (codes "dashArray") es lengths has))))
 
-strokes_by : (o : Option (List ℕ)) (v : Value) (s : Stroke) → if_text o stroke_of_word (dashes_in v) ≡ Ok s → IsStroke s
+strokes_by : (legacy : Bool) (o : Option (List ℕ)) (v : Value) (s : Stroke) → if_text o stroke_of_word (dashes_in legacy v) ≡ Ok s → IsStroke s
 unfolding stroke_of_word
-strokes_by (Some text) v s e = made (or_broken StrokeWord (meaning stroke_words text)) _ s e (λ word h e2. found IsStroke (stroke.Word word) s e2 tt)
-strokes_by None v s e = dashes_keep v s e
+strokes_by legacy (Some text) v s e = made (or_broken StrokeWord (meaning stroke_words text)) _ s e (λ word h e2. found IsStroke (stroke.Word word) s e2 tt)
+strokes_by legacy None v s e = dashes_keep legacy v s e
 
-pub strokes_keep : (v : Value) (s : Stroke) → stroke_in v ≡ Ok s → IsStroke s
+pub strokes_keep : (legacy : Bool) (v : Value) (s : Stroke) → stroke_in legacy v ≡ Ok s → IsStroke s
 unfolding stroke_in
-strokes_keep v s e = strokes_by (plain_string_in v) v s e
+strokes_keep legacy v s e = strokes_by legacy (plain_string_in v) v s e
 
 -- borders and transitions
 
-pub borders_keep : (v : Value) (b : Border) → border_in v ≡ Ok b → IsBorder b
+pub borders_keep : (legacy : Bool) (v : Value) (b : Border) → border_in legacy v ≡ Ok b → IsBorder b
 unfolding border_in
-borders_keep v b e =
+borders_keep legacy v b e =
     made (members_in v) _ b e (λ es h e1.
-    made (member color_in (codes "color") es) _ b e1 (λ color c e2.
-    made (member size_in (codes "width") es) _ b e2 (λ width w e3.
-    made (member stroke_in (codes "style") es) _ b e3 (λ style s e4.
+    made (member (color_in legacy) (codes "color") es) _ b e1 (λ color c e2.
+    made (member (size_in legacy) (codes "width") es) _ b e2 (λ width w e3.
+    made (member (stroke_in legacy) (codes "style") es) _ b e3 (λ style s e4.
     found IsBorder (record { color = color; width = width; style = style }) b e4 (record {
-      color = member_keeps color_in IsColor colors_keep (codes "color") es color c;
-      width = member_keeps size_in IsSize sizes_keep (codes "width") es width w;
-      style = member_keeps stroke_in IsStroke strokes_keep (codes "style") es style s;
+      color = member_keeps (color_in legacy) IsColor (colors_keep legacy) (codes "color") es color c;
+      width = member_keeps (size_in legacy) IsSize (sizes_keep legacy) (codes "width") es width w;
+      style = member_keeps (stroke_in legacy) IsStroke (strokes_keep legacy) (codes "style") es style s;
     })))))
 
-pub transitions_keep : (v : Value) (t : Transition) → transition_in v ≡ Ok t → IsTransition t
+pub transitions_keep : (legacy : Bool) (v : Value) (t : Transition) → transition_in legacy v ≡ Ok t → IsTransition t
 unfolding transition_in
-transitions_keep v t e =
+transitions_keep legacy v t e =
     made (members_in v) _ t e (λ es h e1.
-    made (member time_in (codes "duration") es) _ t e1 (λ duration d e2.
-    made (member time_in (codes "delay") es) _ t e2 (λ delay l e3.
+    made (member (time_in legacy) (codes "duration") es) _ t e1 (λ duration d e2.
+    made (member (time_in legacy) (codes "delay") es) _ t e2 (λ delay l e3.
     made (member curve_in (codes "timingFunction") es) _ t e3 (λ timing f e4.
     found IsTransition (record { duration = duration; delay = delay; timing = timing }) t e4 (record {
-      duration = member_keeps time_in IsTime times_keep (codes "duration") es duration d;
-      delay = member_keeps time_in IsTime times_keep (codes "delay") es delay l;
+      duration = member_keeps (time_in legacy) IsTime (times_keep legacy) (codes "duration") es duration d;
+      delay = member_keeps (time_in legacy) IsTime (times_keep legacy) (codes "delay") es delay l;
       timing = member_keeps curve_in IsCurve curves_keep (codes "timingFunction") es timing f;
     })))))
 
 -- shadows
 
-pub shadow_items_keep : (v : Value) (item : ShadowItem) → shadow_item_in v ≡ Ok item → IsShadowItem item
+pub shadow_items_keep : (legacy : Bool) (v : Value) (item : ShadowItem) → shadow_item_in legacy v ≡ Ok item → IsShadowItem item
 unfolding shadow_item_in
-shadow_items_keep v item e =
+shadow_items_keep legacy v item e =
     made (members_in v) _ item e (λ es h e1.
-    made (member color_in (codes "color") es) _ item e1 (λ color c e2.
-    made (member size_in (codes "offsetX") es) _ item e2 (λ offset_x x e3.
-    made (member size_in (codes "offsetY") es) _ item e3 (λ offset_y y e4.
-    made (member size_in (codes "blur") es) _ item e4 (λ blur b e5.
-    made (member size_in (codes "spread") es) _ item e5 (λ spread s e6.
+    made (member (color_in legacy) (codes "color") es) _ item e1 (λ color c e2.
+    made (member (size_in legacy) (codes "offsetX") es) _ item e2 (λ offset_x x e3.
+    made (member (size_in legacy) (codes "offsetY") es) _ item e3 (λ offset_y y e4.
+    made (member (size_in legacy) (codes "blur") es) _ item e4 (λ blur b e5.
+    made (member (size_in legacy) (codes "spread") es) _ item e5 (λ spread s e6.
     made (member_or boolean_in false (codes "inset") es) _ item e6 (λ inset i e7.
     found IsShadowItem (record { color = color; offset_x = offset_x; offset_y = offset_y; blur = blur; spread = spread; inset = inset }) item e7 (record {
-      color = member_keeps color_in IsColor colors_keep (codes "color") es color c;
-      offset_x = member_keeps size_in IsSize sizes_keep (codes "offsetX") es offset_x x;
-      offset_y = member_keeps size_in IsSize sizes_keep (codes "offsetY") es offset_y y;
-      blur = member_keeps size_in IsSize sizes_keep (codes "blur") es blur b;
-      spread = member_keeps size_in IsSize sizes_keep (codes "spread") es spread s;
+      color = member_keeps (color_in legacy) IsColor (colors_keep legacy) (codes "color") es color c;
+      offset_x = member_keeps (size_in legacy) IsSize (sizes_keep legacy) (codes "offsetX") es offset_x x;
+      offset_y = member_keeps (size_in legacy) IsSize (sizes_keep legacy) (codes "offsetY") es offset_y y;
+      blur = member_keeps (size_in legacy) IsSize (sizes_keep legacy) (codes "blur") es blur b;
+      spread = member_keeps (size_in legacy) IsSize (sizes_keep legacy) (codes "spread") es spread s;
     }))))))))
 
-one_keeps : (v : Value) (items : List ShadowItem) → one_item v ≡ Ok items → IsShadows items
+one_keeps : (legacy : Bool) (v : Value) (items : List ShadowItem) → one_item legacy v ≡ Ok items → IsShadows items
 unfolding one_item
-one_keeps v items e =
-    made (shadow_item_in v) _ items e (λ item h e2.
-    found IsShadows (item ∷ []) items e2 (record { some = λ n. cc; every = (shadow_items_keep v item h, tt) }))
+one_keeps legacy v items e =
+    made (shadow_item_in legacy v) _ items e (λ item h e2.
+    found IsShadows (item ∷ []) items e2 (record { some = λ n. cc; every = (shadow_items_keep legacy v item h, tt) }))
 
-unless_keeps : (o : Option Value) (v : Value) (items : List ShadowItem) → unless_zero o (one_item v) ≡ Ok items → IsShadows items
-unless_keeps (Some zero) v items e = absurd (let h : ⊥ = cc in h)
-unless_keeps None v items e = one_keeps v items e
+unless_keeps : (legacy : Bool) (o : Option Value) (v : Value) (items : List ShadowItem) → unless_zero o (one_item legacy v) ≡ Ok items → IsShadows items
+unless_keeps legacy (Some zero) v items e = absurd (let h : ⊥ = cc in h)
+unless_keeps legacy None v items e = one_keeps legacy v items e
 
-shadows_by : (o : Option (List Value)) (v : Value) (items : List ShadowItem) → if_list o (some_in shadow_item_in v) (one_shadow v) ≡ Ok items → IsShadows items
+shadows_by : (legacy : Bool) (o : Option (List Value)) (v : Value) (items : List ShadowItem) → if_list o (some_in (shadow_item_in legacy) v) (one_shadow legacy v) ≡ Ok items → IsShadows items
 unfolding one_shadow
-shadows_by (Some vs) v items e = record { some = some_is_there shadow_item_in v items e; every = some_keep shadow_item_in IsShadowItem shadow_items_keep v items e }
-shadows_by None v items e = made (members_in v) _ items e (λ es h e2. unless_keeps (named (codes "0") es) v items e2)
+shadows_by legacy (Some vs) v items e = record { some = some_is_there (shadow_item_in legacy) v items e; every = some_keep (shadow_item_in legacy) IsShadowItem (shadow_items_keep legacy) v items e }
+shadows_by legacy None v items e = made (members_in v) _ items e (λ es h e2. unless_keeps legacy (named (codes "0") es) v items e2)
 
-pub shadows_keep : (v : Value) (items : List ShadowItem) → shadows_in v ≡ Ok items → IsShadows items
+pub shadows_keep : (legacy : Bool) (v : Value) (items : List ShadowItem) → shadows_in legacy v ≡ Ok items → IsShadows items
 unfolding shadows_in
-shadows_keep v items e = shadows_by (plain_array_in v) v items e
+shadows_keep legacy v items e = shadows_by legacy (plain_array_in v) v items e
 
 -- gradients
 
@@ -162,37 +162,37 @@ positions_clamp d = (is_clamped d).part
 pub shares_stay : (d : Decimal) → IsFromZeroToOne d → clamped d ≡ d
 shares_stay d h = rw (is_less (order_with d 0) h.low, is_greater (order_with d 1) h.high) refl
 
-pub stops_keep : (v : Value) (stop : ColorStop) → stop_in v ≡ Ok stop → IsColorStop stop
+pub stops_keep : (legacy : Bool) (v : Value) (stop : ColorStop) → stop_in legacy v ≡ Ok stop → IsColorStop stop
 unfolding stop_in
-stops_keep v stop e =
+stops_keep legacy v stop e =
     made (members_in v) _ stop e (λ es h e1.
-    made (member color_in (codes "color") es) _ stop e1 (λ color c e2.
+    made (member (color_in legacy) (codes "color") es) _ stop e1 (λ color c e2.
     made (member number_in (codes "position") es) _ stop e2 (λ position p e3.
     found IsColorStop (record { color = color; position = clamped position }) stop e3 (record {
-      color = member_keeps color_in IsColor colors_keep (codes "color") es color c;
+      color = member_keeps (color_in legacy) IsColor (colors_keep legacy) (codes "color") es color c;
       position = record { exact = (is_clamped position).exact (member_keeps number_in IsExact numbers_keep (codes "position") es position p); part = (is_clamped position).part };
     }))))
 
-pub gradients_keep : (v : Value) (stops : List ColorStop) → gradient_in v ≡ Ok stops → IsStops stops
+pub gradients_keep : (legacy : Bool) (v : Value) (stops : List ColorStop) → gradient_in legacy v ≡ Ok stops → IsStops stops
 unfolding gradient_in
-gradients_keep v stops e = record { some = some_is_there stop_in v stops e; every = some_keep stop_in IsColorStop stops_keep v stops e }
+gradients_keep legacy v stops e = record { some = some_is_there (stop_in legacy) v stops e; every = some_keep (stop_in legacy) IsColorStop (stops_keep legacy) v stops e }
 
 -- typography
 
-pub typographies_keep : (v : Value) (t : Typography) → typography_in v ≡ Ok t → IsTypography t
+pub typographies_keep : (legacy : Bool) (v : Value) (t : Typography) → typography_in legacy v ≡ Ok t → IsTypography t
 unfolding typography_in
-typographies_keep v t e =
+typographies_keep legacy v t e =
     made (members_in v) _ t e (λ es h e1.
     made (member families_in (codes "fontFamily") es) _ t e1 (λ family f e2.
-    made (member size_in (codes "fontSize") es) _ t e2 (λ size s e3.
+    made (member (size_in legacy) (codes "fontSize") es) _ t e2 (λ size s e3.
     made (member weight_in (codes "fontWeight") es) _ t e3 (λ weight w e4.
-    made (member size_in (codes "letterSpacing") es) _ t e4 (λ spacing p e5.
+    made (member (size_in legacy) (codes "letterSpacing") es) _ t e4 (λ spacing p e5.
     made (member number_in (codes "lineHeight") es) _ t e5 (λ line_height l e6.
     found IsTypography (record { family = family; size = size; weight = weight; spacing = spacing; line_height = line_height }) t e6 (record {
       family = member_keeps families_in IsFamilies families_keep (codes "fontFamily") es family f;
-      size = member_keeps size_in IsSize sizes_keep (codes "fontSize") es size s;
+      size = member_keeps (size_in legacy) IsSize (sizes_keep legacy) (codes "fontSize") es size s;
       weight = member_keeps weight_in IsWeight weights_keep (codes "fontWeight") es weight w;
-      spacing = member_keeps size_in IsSize sizes_keep (codes "letterSpacing") es spacing p;
+      spacing = member_keeps (size_in legacy) IsSize (sizes_keep legacy) (codes "letterSpacing") es spacing p;
       line_height = member_keeps number_in IsExact numbers_keep (codes "lineHeight") es line_height l;
     })))))))
 
@@ -201,22 +201,22 @@ typographies_keep v t e =
 abbrev pub Keeps : Kind → Typed → Type 0
 Keeps k t = (kind_of t ≡ k) × IsTyped t
 
-simples : (k : Kind) (v : Value) (t : Typed) → simple_in k v ≡ Ok t → Keeps k t
+simples : (legacy : Bool) (k : Kind) (v : Value) (t : Typed) → simple_in legacy k v ≡ Ok t → Keeps k t
 unfolding simple_in
-simples k v t e = made (simple_value k v) _ t e (λ s h e2. found (Keeps k) (typed.Simple s) t e2 (simples_keep k v s h))
+simples legacy k v t e = made (simple_value legacy k v) _ t e (λ s h e2. found (Keeps k) (typed.Simple s) t e2 (simples_keep legacy k v s h))
 
-pub values_keep : (k : Kind) (v : Value) (t : Typed) → value_of k v ≡ Ok t → Keeps k t
+pub values_keep : (legacy : Bool) (k : Kind) (v : Value) (t : Typed) → value_of legacy k v ≡ Ok t → Keeps k t
 unfolding value_of
-values_keep kind.Color v t e = simples kind.Color v t e
-values_keep kind.Dimension v t e = simples kind.Dimension v t e
-values_keep kind.FontFamily v t e = simples kind.FontFamily v t e
-values_keep kind.FontWeight v t e = simples kind.FontWeight v t e
-values_keep kind.Duration v t e = simples kind.Duration v t e
-values_keep kind.CubicBezier v t e = simples kind.CubicBezier v t e
-values_keep kind.Number v t e = simples kind.Number v t e
-values_keep kind.StrokeStyle v t e = made (stroke_in v) _ t e (λ x h e2. found (Keeps kind.StrokeStyle) (typed.StrokeStyle x) t e2 (refl, strokes_keep v x h))
-values_keep kind.Border v t e = made (border_in v) _ t e (λ x h e2. found (Keeps kind.Border) (typed.Border x) t e2 (refl, borders_keep v x h))
-values_keep kind.Transition v t e = made (transition_in v) _ t e (λ x h e2. found (Keeps kind.Transition) (typed.Transition x) t e2 (refl, transitions_keep v x h))
-values_keep kind.Shadow v t e = made (shadows_in v) _ t e (λ x h e2. found (Keeps kind.Shadow) (typed.Shadow x) t e2 (refl, shadows_keep v x h))
-values_keep kind.Gradient v t e = made (gradient_in v) _ t e (λ x h e2. found (Keeps kind.Gradient) (typed.Gradient x) t e2 (refl, gradients_keep v x h))
-values_keep kind.Typography v t e = made (typography_in v) _ t e (λ x h e2. found (Keeps kind.Typography) (typed.Typography x) t e2 (refl, typographies_keep v x h))
+values_keep legacy kind.Color v t e = simples legacy kind.Color v t e
+values_keep legacy kind.Dimension v t e = simples legacy kind.Dimension v t e
+values_keep legacy kind.FontFamily v t e = simples legacy kind.FontFamily v t e
+values_keep legacy kind.FontWeight v t e = simples legacy kind.FontWeight v t e
+values_keep legacy kind.Duration v t e = simples legacy kind.Duration v t e
+values_keep legacy kind.CubicBezier v t e = simples legacy kind.CubicBezier v t e
+values_keep legacy kind.Number v t e = simples legacy kind.Number v t e
+values_keep legacy kind.StrokeStyle v t e = made (stroke_in legacy v) _ t e (λ x h e2. found (Keeps kind.StrokeStyle) (typed.StrokeStyle x) t e2 (refl, strokes_keep legacy v x h))
+values_keep legacy kind.Border v t e = made (border_in legacy v) _ t e (λ x h e2. found (Keeps kind.Border) (typed.Border x) t e2 (refl, borders_keep legacy v x h))
+values_keep legacy kind.Transition v t e = made (transition_in legacy v) _ t e (λ x h e2. found (Keeps kind.Transition) (typed.Transition x) t e2 (refl, transitions_keep legacy v x h))
+values_keep legacy kind.Shadow v t e = made (shadows_in legacy v) _ t e (λ x h e2. found (Keeps kind.Shadow) (typed.Shadow x) t e2 (refl, shadows_keep legacy v x h))
+values_keep legacy kind.Gradient v t e = made (gradient_in legacy v) _ t e (λ x h e2. found (Keeps kind.Gradient) (typed.Gradient x) t e2 (refl, gradients_keep legacy v x h))
+values_keep legacy kind.Typography v t e = made (typography_in legacy v) _ t e (λ x h e2. found (Keeps kind.Typography) (typed.Typography x) t e2 (refl, typographies_keep legacy v x h))

@@ -29,8 +29,8 @@ Stands v steps = (w : Value) × (plain_at v steps ≡ Some w)
 one_step : (v w : Value) (name : List ℕ) → child name v ≡ Some w → plain_at v (name ∷ []) ≡ Some w
 one_step v w name e = ap (option_and_then (λ u. Some u)) e
 
-member_stands : (v : Value) (row : Row) (name : List ℕ) (x : Typed) → Rows v row → meaning row name ≡ Some x → Stands v (name ∷ [])
-member_stands v row name x r m = let here = in_row r.es row name x r.typed m in (here.value, one_step v here.value name (child_named v r.es name r.object ∙ here.stands))
+member_stands : (legacy : Bool) (v : Value) (row : Row) (name : List ℕ) (x : Typed) → Rows legacy v row → meaning row name ≡ Some x → Stands v (name ∷ [])
+member_stands legacy v row name x r m = let here = in_row legacy r.es row name x r.typed m in (here.value, one_step v here.value name (child_named v r.es name r.object ∙ here.stands))
 
 -- an item that was found to be this
 record Source {A : Type 0} (check : Value → Checked A) (step : List ℕ) (i : ℕ) (vs : List Value) (x : A) : Type 0 where
@@ -58,12 +58,12 @@ mapped : {A B P : Type 0} (f : A → B) (o : Option A) (y : B) → option_map f 
 mapped f (Some x) y e k = k x refl (some_is (f x) y e)
 mapped f None y e k = absurd (let h : ⊥ = cc in h)
 
-item_stands : {A : Type 0} (check : Value → Checked A) (f : A → Row) (rows : (v : Value) (x : A) → check v ≡ Ok x → Rows v (f x)) (v : Value) (xs : List A) (index name : List ℕ) (x : Typed) → Items check v xs → option_and_then (λ row. meaning row name) (item_at index 0 (map f xs)) ≡ Some x → Stands v (index ∷ name ∷ [])
-item_stands check f rows v xs index name x l m =
+item_stands : (legacy : Bool) {A : Type 0} (check : Value → Checked A) (f : A → Row) (rows : (v : Value) (x : A) → check v ≡ Ok x → Rows legacy v (f x)) (v : Value) (xs : List A) (index name : List ℕ) (x : Typed) → Items check v xs → option_and_then (λ row. meaning row name) (item_at index 0 (map f xs)) ≡ Some x → Stands v (index ∷ name ∷ [])
+item_stands legacy check f rows v xs index name x l m =
     some_then (λ row. meaning row name) (item_at index 0 (map f xs)) x m (λ row r q.
     mapped f (item_at index 0 xs) row (sym (item_map f index 0 xs) ∙ r) (λ y n same.
     let s = source check index 0 l.vs xs y l.every n in
-    let (w, e) = member_stands s.value (f y) name x (rows s.value y s.checks) (ap (λ z. meaning z name) same ∙ q) in
+    let (w, e) = member_stands legacy s.value (f y) name x (rows s.value y s.checks) (ap (λ z. meaning z name) same ∙ q) in
     (w, ap (option_and_then (λ u. plain_at u (name ∷ []))) (child_item v l.vs index l.array ∙ s.stands) ∙ e)))
 
 abbrev StandAll : Value → Typed → Type 0
@@ -75,65 +75,65 @@ none_stand v t m i (name ∷ []) part p f = let k : ◌≡◌ {A = Option Typed}
 none_stand v t m i (index ∷ name ∷ []) part p f = let k : ◌≡◌ {A = Option Typed} None (Some part) = sym (ap (λ r. option_and_then (λ row. meaning row name) (item_at index 0 r)) i) ∙ p in absurd (let z : ⊥ = cc in z)
 none_stand v t m i (a ∷ b ∷ c ∷ steps) part p f = absurd (let z : ⊥ = cc in z)
 
-members_stand : (v : Value) (t : Typed) → Rows v (member_row t) → item_rows t ≡ [] → StandAll v t
-members_stand v t r i [] part p f = (v, refl)
-members_stand v t r i (name ∷ []) part p f = member_stands v (member_row t) name part r p
-members_stand v t r i (index ∷ name ∷ []) part p f = let k : ◌≡◌ {A = Option Typed} None (Some part) = sym (ap (λ r. option_and_then (λ row. meaning row name) (item_at index 0 r)) i) ∙ p in absurd (let z : ⊥ = cc in z)
-members_stand v t r i (a ∷ b ∷ c ∷ steps) part p f = absurd (let z : ⊥ = cc in z)
+members_stand : (legacy : Bool) (v : Value) (t : Typed) → Rows legacy v (member_row t) → item_rows t ≡ [] → StandAll v t
+members_stand legacy v t r i [] part p f = (v, refl)
+members_stand legacy v t r i (name ∷ []) part p f = member_stands legacy v (member_row t) name part r p
+members_stand legacy v t r i (index ∷ name ∷ []) part p f = let k : ◌≡◌ {A = Option Typed} None (Some part) = sym (ap (λ r. option_and_then (λ row. meaning row name) (item_at index 0 r)) i) ∙ p in absurd (let z : ⊥ = cc in z)
+members_stand legacy v t r i (a ∷ b ∷ c ∷ steps) part p f = absurd (let z : ⊥ = cc in z)
 
-gradient_stands : (v : Value) (stops : List ColorStop) → gradient_in v ≡ Ok stops → StandAll v (typed.Gradient stops)
+gradient_stands : (legacy : Bool) (v : Value) (stops : List ColorStop) → gradient_in legacy v ≡ Ok stops → StandAll v (typed.Gradient stops)
 unfolding gradient_in
-gradient_stands v stops g [] part p f = (v, refl)
-gradient_stands v stops g (name ∷ []) part p f = absurd (let z : ⊥ = cc in z)
-gradient_stands v stops g (index ∷ name ∷ []) part p f = item_stands stop_in stop_row stop_rows v stops index name part (items_are stop_in v stops g) p
-gradient_stands v stops g (a ∷ b ∷ c ∷ steps) part p f = absurd (let z : ⊥ = cc in z)
+gradient_stands legacy v stops g [] part p f = (v, refl)
+gradient_stands legacy v stops g (name ∷ []) part p f = absurd (let z : ⊥ = cc in z)
+gradient_stands legacy v stops g (index ∷ name ∷ []) part p f = item_stands legacy (stop_in legacy) stop_row (stop_rows legacy) v stops index name part (items_are (stop_in legacy) v stops g) p
+gradient_stands legacy v stops g (a ∷ b ∷ c ∷ steps) part p f = absurd (let z : ⊥ = cc in z)
 
 -- a list is no object
 no_object : (v : Value) (vs : List Value) (es : List ValueEntry) → plain_array_in v ≡ Some vs → plain_object_in v ≡ Some es → ⊥
 no_object v vs es a o = let k : ◌≡◌ {A = Option (List Value)} None (Some vs) = sym (array_none v es o) ∙ a in cc
 
-listed_stands : (v : Value) (items : List ShadowItem) → some_in shadow_item_in v ≡ Ok items → StandAll v (typed.Shadow items)
-listed_stands v items g [] part p f = (v, refl)
-listed_stands v items g (name ∷ []) part p (es, o) = let l = items_are shadow_item_in v items g in absurd (no_object v l.vs es l.array o)
-listed_stands v items g (index ∷ name ∷ []) part p f = item_stands shadow_item_in shadow_row shadow_rows v items index name part (items_are shadow_item_in v items g) p
-listed_stands v items g (a ∷ b ∷ c ∷ steps) part p f = absurd (let z : ⊥ = cc in z)
+listed_stands : (legacy : Bool) (v : Value) (items : List ShadowItem) → some_in (shadow_item_in legacy) v ≡ Ok items → StandAll v (typed.Shadow items)
+listed_stands legacy v items g [] part p f = (v, refl)
+listed_stands legacy v items g (name ∷ []) part p (es, o) = let l = items_are (shadow_item_in legacy) v items g in absurd (no_object v l.vs es l.array o)
+listed_stands legacy v items g (index ∷ name ∷ []) part p f = item_stands legacy (shadow_item_in legacy) shadow_row (shadow_rows legacy) v items index name part (items_are (shadow_item_in legacy) v items g) p
+listed_stands legacy v items g (a ∷ b ∷ c ∷ steps) part p f = absurd (let z : ⊥ = cc in z)
 
-alone_stands : (v : Value) (item : ShadowItem) → shadow_item_in v ≡ Ok item → StandAll v (typed.Shadow (item ∷ []))
-alone_stands v item g [] part p f = (v, refl)
-alone_stands v item g (name ∷ []) part p f = member_stands v (shadow_row item) name part (shadow_rows v item g) p
-alone_stands v item g (index ∷ name ∷ []) part p (vs, a) = let r = shadow_rows v item g in absurd (no_object v vs r.es a r.object)
-alone_stands v item g (a ∷ b ∷ c ∷ steps) part p f = absurd (let z : ⊥ = cc in z)
+alone_stands : (legacy : Bool) (v : Value) (item : ShadowItem) → shadow_item_in legacy v ≡ Ok item → StandAll v (typed.Shadow (item ∷ []))
+alone_stands legacy v item g [] part p f = (v, refl)
+alone_stands legacy v item g (name ∷ []) part p f = member_stands legacy v (shadow_row item) name part (shadow_rows legacy v item g) p
+alone_stands legacy v item g (index ∷ name ∷ []) part p (vs, a) = let r = shadow_rows legacy v item g in absurd (no_object v vs r.es a r.object)
+alone_stands legacy v item g (a ∷ b ∷ c ∷ steps) part p f = absurd (let z : ⊥ = cc in z)
 
-one_stands : (v : Value) (items : List ShadowItem) (o : Option Value) → unless_zero o (one_item v) ≡ Ok items → StandAll v (typed.Shadow items)
+one_stands : (legacy : Bool) (v : Value) (items : List ShadowItem) (o : Option Value) → unless_zero o (one_item legacy v) ≡ Ok items → StandAll v (typed.Shadow items)
 unfolding one_item
-one_stands v items (Some zero) e = absurd (let k : ⊥ = cc in k)
-one_stands v items None e = made (shadow_item_in v) _ items e (λ item g e2. found (λ z. StandAll v (typed.Shadow z)) (item ∷ []) items e2 (alone_stands v item g))
+one_stands legacy v items (Some zero) e = absurd (let k : ⊥ = cc in k)
+one_stands legacy v items None e = made (shadow_item_in legacy v) _ items e (λ item g e2. found (λ z. StandAll v (typed.Shadow z)) (item ∷ []) items e2 (alone_stands legacy v item g))
 
-shadow_by : (v : Value) (items : List ShadowItem) (l : Option (List Value)) → if_list l (some_in shadow_item_in v) (one_shadow v) ≡ Ok items → StandAll v (typed.Shadow items)
+shadow_by : (legacy : Bool) (v : Value) (items : List ShadowItem) (l : Option (List Value)) → if_list l (some_in (shadow_item_in legacy) v) (one_shadow legacy v) ≡ Ok items → StandAll v (typed.Shadow items)
 unfolding one_shadow
-shadow_by v items (Some vs) e = listed_stands v items e
-shadow_by v items None e = made (members_in v) _ items e (λ es k e2. one_stands v items (named (codes "0") es) e2)
+shadow_by legacy v items (Some vs) e = listed_stands legacy v items e
+shadow_by legacy v items None e = made (members_in v) _ items e (λ es k e2. one_stands legacy v items (named (codes "0") es) e2)
 
-shadow_stands : (v : Value) (items : List ShadowItem) → shadows_in v ≡ Ok items → StandAll v (typed.Shadow items)
+shadow_stands : (legacy : Bool) (v : Value) (items : List ShadowItem) → shadows_in legacy v ≡ Ok items → StandAll v (typed.Shadow items)
 unfolding shadows_in
-shadow_stands v items e = shadow_by v items (plain_array_in v) e
+shadow_stands legacy v items e = shadow_by legacy v items (plain_array_in v) e
 
-simple_stands : (k : Kind) (v : Value) (t : Typed) → simple_in k v ≡ Ok t → StandAll v t
+simple_stands : (legacy : Bool) (k : Kind) (v : Value) (t : Typed) → simple_in legacy k v ≡ Ok t → StandAll v t
 unfolding simple_in
-simple_stands k v t e = made (simple_value k v) _ t e (λ s g e2. found (StandAll v) (typed.Simple s) t e2 (none_stand v (typed.Simple s) refl refl))
+simple_stands legacy k v t e = made (simple_value legacy k v) _ t e (λ s g e2. found (StandAll v) (typed.Simple s) t e2 (none_stand v (typed.Simple s) refl refl))
 
-pub parts_stand : (k : Kind) (v : Value) (t : Typed) → value_of k v ≡ Ok t → StandAll v t
+pub parts_stand : (legacy : Bool) (k : Kind) (v : Value) (t : Typed) → value_of legacy k v ≡ Ok t → StandAll v t
 unfolding value_of
-parts_stand kind.Color v t e = simple_stands kind.Color v t e
-parts_stand kind.Dimension v t e = simple_stands kind.Dimension v t e
-parts_stand kind.FontFamily v t e = simple_stands kind.FontFamily v t e
-parts_stand kind.FontWeight v t e = simple_stands kind.FontWeight v t e
-parts_stand kind.Duration v t e = simple_stands kind.Duration v t e
-parts_stand kind.CubicBezier v t e = simple_stands kind.CubicBezier v t e
-parts_stand kind.Number v t e = simple_stands kind.Number v t e
-parts_stand kind.StrokeStyle v t e = made (stroke_in v) _ t e (λ x g e2. found (StandAll v) (typed.StrokeStyle x) t e2 (none_stand v (typed.StrokeStyle x) refl refl))
-parts_stand kind.Border v t e = made (border_in v) _ t e (λ x g e2. found (StandAll v) (typed.Border x) t e2 (members_stand v (typed.Border x) (border_rows v x g) refl))
-parts_stand kind.Transition v t e = made (transition_in v) _ t e (λ x g e2. found (StandAll v) (typed.Transition x) t e2 (members_stand v (typed.Transition x) (transition_rows v x g) refl))
-parts_stand kind.Shadow v t e = made (shadows_in v) _ t e (λ x g e2. found (StandAll v) (typed.Shadow x) t e2 (shadow_stands v x g))
-parts_stand kind.Gradient v t e = made (gradient_in v) _ t e (λ x g e2. found (StandAll v) (typed.Gradient x) t e2 (gradient_stands v x g))
-parts_stand kind.Typography v t e = made (typography_in v) _ t e (λ x g e2. found (StandAll v) (typed.Typography x) t e2 (members_stand v (typed.Typography x) (typography_rows v x g) refl))
+parts_stand legacy kind.Color v t e = simple_stands legacy kind.Color v t e
+parts_stand legacy kind.Dimension v t e = simple_stands legacy kind.Dimension v t e
+parts_stand legacy kind.FontFamily v t e = simple_stands legacy kind.FontFamily v t e
+parts_stand legacy kind.FontWeight v t e = simple_stands legacy kind.FontWeight v t e
+parts_stand legacy kind.Duration v t e = simple_stands legacy kind.Duration v t e
+parts_stand legacy kind.CubicBezier v t e = simple_stands legacy kind.CubicBezier v t e
+parts_stand legacy kind.Number v t e = simple_stands legacy kind.Number v t e
+parts_stand legacy kind.StrokeStyle v t e = made (stroke_in legacy v) _ t e (λ x g e2. found (StandAll v) (typed.StrokeStyle x) t e2 (none_stand v (typed.StrokeStyle x) refl refl))
+parts_stand legacy kind.Border v t e = made (border_in legacy v) _ t e (λ x g e2. found (StandAll v) (typed.Border x) t e2 (members_stand legacy v (typed.Border x) (border_rows legacy v x g) refl))
+parts_stand legacy kind.Transition v t e = made (transition_in legacy v) _ t e (λ x g e2. found (StandAll v) (typed.Transition x) t e2 (members_stand legacy v (typed.Transition x) (transition_rows legacy v x g) refl))
+parts_stand legacy kind.Shadow v t e = made (shadows_in legacy v) _ t e (λ x g e2. found (StandAll v) (typed.Shadow x) t e2 (shadow_stands legacy v x g))
+parts_stand legacy kind.Gradient v t e = made (gradient_in legacy v) _ t e (λ x g e2. found (StandAll v) (typed.Gradient x) t e2 (gradient_stands legacy v x g))
+parts_stand legacy kind.Typography v t e = made (typography_in legacy v) _ t e (λ x g e2. found (StandAll v) (typed.Typography x) t e2 (members_stand legacy v (typed.Typography x) (typography_rows legacy v x g) refl))

@@ -1,5 +1,5 @@
 -- Each typed value that keeps what values of its kind keep is the value of some plain value.
-use Rattle.std.proofs.Common.{◌≡◌, List, [], ◌∷◌, map, codes, Ok, refl}
+use Rattle.std.proofs.Common.{◌≡◌, Bool, List, [], ◌∷◌, map, codes, Ok, refl}
 use Rattle.json_span.specs.Plain.{plain_boolean, plain_string}
 use Rattle.json_span.specs.PlainView.{Value}
 use Rattle.type_rules.specs.declared.fault.ValueRule.TheVariants.{StrokeCap}
@@ -28,24 +28,24 @@ abbrev plain_stroke : Stroke → Value
 plain_stroke (stroke.Word w) = plain_string (stroke_word_name w)
 plain_stroke (stroke.Dashes lengths cap) = object (entry (codes "dashArray") (array (map plain_size lengths)) ∷ entry (codes "lineCap") (plain_string (cap_name cap)) ∷ [])
 
-stroke_some : (s : Stroke) → IsStroke s → stroke_in (plain_stroke s) ≡ Ok s
+stroke_some : (legacy : Bool) (s : Stroke) → IsStroke s → stroke_in legacy (plain_stroke s) ≡ Ok s
 unfolding stroke_in stroke_of_word dashes_in members_in member
-stroke_some (stroke.Word w) h = rw (word_found w) refl
-stroke_some (stroke.Dashes lengths cap) h = rw (list_some size_in IsSize plain_size size_some lengths h, word_some StrokeCap caps (cap_name cap) cap (cap_found cap)) refl
+stroke_some legacy (stroke.Word w) h = rw (word_found w) refl
+stroke_some legacy (stroke.Dashes lengths cap) h = rw (list_some (size_in legacy) IsSize plain_size (size_some legacy) lengths h, word_some StrokeCap caps (cap_name cap) cap (cap_found cap)) refl
 
 abbrev plain_border : Border → Value
 plain_border b = object (entry (codes "color") (plain_color b.color) ∷ entry (codes "width") (plain_size b.width) ∷ entry (codes "style") (plain_stroke b.style) ∷ [])
 
-border_some : (b : Border) → IsBorder b → border_in (plain_border b) ≡ Ok b
+border_some : (legacy : Bool) (b : Border) → IsBorder b → border_in legacy (plain_border b) ≡ Ok b
 unfolding border_in members_in member
-border_some b h = rw (color_some b.color h.color, size_some b.width h.width, stroke_some b.style h.style) refl
+border_some legacy b h = rw (color_some legacy b.color h.color, size_some legacy b.width h.width, stroke_some legacy b.style h.style) refl
 
 abbrev plain_transition : Transition → Value
 plain_transition t = object (entry (codes "duration") (plain_time t.duration) ∷ entry (codes "delay") (plain_time t.delay) ∷ entry (codes "timingFunction") (plain_curve t.timing) ∷ [])
 
-transition_some : (t : Transition) → IsTransition t → transition_in (plain_transition t) ≡ Ok t
+transition_some : (legacy : Bool) (t : Transition) → IsTransition t → transition_in legacy (plain_transition t) ≡ Ok t
 unfolding transition_in members_in member
-transition_some t h = rw (time_some t.duration h.duration, time_some t.delay h.delay, curve_some t.timing h.timing) refl
+transition_some legacy t h = rw (time_some legacy t.duration h.duration, time_some legacy t.delay h.delay, curve_some t.timing h.timing) refl
 
 abbrev plain_shadow : ShadowItem → Value
 plain_shadow item = object (
@@ -56,24 +56,24 @@ plain_shadow item = object (
     ∷ entry (codes "spread") (plain_size item.spread)
     ∷ entry (codes "inset") (plain_boolean item.inset) ∷ [])
 
-shadow_some : (item : ShadowItem) → IsShadowItem item → shadow_item_in (plain_shadow item) ≡ Ok item
+shadow_some : (legacy : Bool) (item : ShadowItem) → IsShadowItem item → shadow_item_in legacy (plain_shadow item) ≡ Ok item
 unfolding shadow_item_in boolean_in members_in member member_or
-shadow_some item h = rw (color_some item.color h.color, size_some item.offset_x h.offset_x, size_some item.offset_y h.offset_y, size_some item.blur h.blur, size_some item.spread h.spread) refl
+shadow_some legacy item h = rw (color_some legacy item.color h.color, size_some legacy item.offset_x h.offset_x, size_some legacy item.offset_y h.offset_y, size_some legacy item.blur h.blur, size_some legacy item.spread h.spread) refl
 
-shadows_some : (items : List ShadowItem) → IsShadows items → shadows_in (array (map plain_shadow items)) ≡ Ok items
+shadows_some : (legacy : Bool) (items : List ShadowItem) → IsShadows items → shadows_in legacy (array (map plain_shadow items)) ≡ Ok items
 unfolding shadows_in
-shadows_some items h = some_some shadow_item_in IsShadowItem plain_shadow shadow_some items h.some h.every
+shadows_some legacy items h = some_some (shadow_item_in legacy) IsShadowItem plain_shadow (shadow_some legacy) items h.some h.every
 
 abbrev plain_stop : ColorStop → Value
 plain_stop stop = object (entry (codes "color") (plain_color stop.color) ∷ entry (codes "position") (number stop.position) ∷ [])
 
-stop_some : (stop : ColorStop) → IsColorStop stop → stop_in (plain_stop stop) ≡ Ok stop
+stop_some : (legacy : Bool) (stop : ColorStop) → IsColorStop stop → stop_in legacy (plain_stop stop) ≡ Ok stop
 unfolding stop_in members_in member
-stop_some stop h = rw (color_some stop.color h.color, number_some stop.position h.position.exact, shares_stay stop.position h.position.part) refl
+stop_some legacy stop h = rw (color_some legacy stop.color h.color, number_some stop.position h.position.exact, shares_stay stop.position h.position.part) refl
 
-stops_some : (stops : List ColorStop) → IsStops stops → gradient_in (array (map plain_stop stops)) ≡ Ok stops
+stops_some : (legacy : Bool) (stops : List ColorStop) → IsStops stops → gradient_in legacy (array (map plain_stop stops)) ≡ Ok stops
 unfolding gradient_in
-stops_some stops h = some_some stop_in IsColorStop plain_stop stop_some stops h.some h.every
+stops_some legacy stops h = some_some (stop_in legacy) IsColorStop plain_stop (stop_some legacy) stops h.some h.every
 
 abbrev plain_typography : Typography → Value
 plain_typography t = object (
@@ -83,26 +83,26 @@ plain_typography t = object (
     ∷ entry (codes "letterSpacing") (plain_size t.spacing)
     ∷ entry (codes "lineHeight") (number t.line_height) ∷ [])
 
-typography_some : (t : Typography) → IsTypography t → typography_in (plain_typography t) ≡ Ok t
+typography_some : (legacy : Bool) (t : Typography) → IsTypography t → typography_in legacy (plain_typography t) ≡ Ok t
 unfolding typography_in members_in member
-typography_some t h = rw (families_some t.family h.family, size_some t.size h.size, weight_some t.weight h.weight, size_some t.spacing h.spacing, number_some t.line_height h.line_height) refl
+typography_some legacy t h = rw (families_some t.family h.family, size_some legacy t.size h.size, weight_some t.weight h.weight, size_some legacy t.spacing h.spacing, number_some t.line_height h.line_height) refl
 
-simple_some : (s : Simple) (v : Value) → simple_value (simple_kind_of s) v ≡ Ok s → value_of (simple_kind_of s) v ≡ Ok (typed.Simple s)
+simple_some : (legacy : Bool) (s : Simple) (v : Value) → simple_value legacy (simple_kind_of s) v ≡ Ok s → value_of legacy (simple_kind_of s) v ≡ Ok (typed.Simple s)
 unfolding value_of simple_in
-simple_some (simple.Color x) v e = rw e refl
-simple_some (simple.Dimension x) v e = rw e refl
-simple_some (simple.FontFamily x) v e = rw e refl
-simple_some (simple.FontWeight x) v e = rw e refl
-simple_some (simple.Duration x) v e = rw e refl
-simple_some (simple.CubicBezier x) v e = rw e refl
-simple_some (simple.Number x) v e = rw e refl
+simple_some legacy (simple.Color x) v e = rw e refl
+simple_some legacy (simple.Dimension x) v e = rw e refl
+simple_some legacy (simple.FontFamily x) v e = rw e refl
+simple_some legacy (simple.FontWeight x) v e = rw e refl
+simple_some legacy (simple.Duration x) v e = rw e refl
+simple_some legacy (simple.CubicBezier x) v e = rw e refl
+simple_some legacy (simple.Number x) v e = rw e refl
 
-pub values_some : (t : Typed) → IsTyped t → (v : Value) × (value_of (kind_of t) v ≡ Ok t)
+pub values_some : (legacy : Bool) (t : Typed) → IsTyped t → (v : Value) × (value_of legacy (kind_of t) v ≡ Ok t)
 unfolding value_of
-values_some (typed.Simple s) h = let (v, e) = simples_some s h in (v, simple_some s v e)
-values_some (typed.StrokeStyle s) h = (plain_stroke s, rw (stroke_some s h) refl)
-values_some (typed.Border b) h = (plain_border b, rw (border_some b h) refl)
-values_some (typed.Transition t) h = (plain_transition t, rw (transition_some t h) refl)
-values_some (typed.Shadow items) h = (array (map plain_shadow items), rw (shadows_some items h) refl)
-values_some (typed.Gradient stops) h = (array (map plain_stop stops), rw (stops_some stops h) refl)
-values_some (typed.Typography t) h = (plain_typography t, rw (typography_some t h) refl)
+values_some legacy (typed.Simple s) h = let (v, e) = simples_some legacy s h in (v, simple_some legacy s v e)
+values_some legacy (typed.StrokeStyle s) h = (plain_stroke s, rw (stroke_some legacy s h) refl)
+values_some legacy (typed.Border b) h = (plain_border b, rw (border_some legacy b h) refl)
+values_some legacy (typed.Transition t) h = (plain_transition t, rw (transition_some legacy t h) refl)
+values_some legacy (typed.Shadow items) h = (array (map plain_shadow items), rw (shadows_some legacy items h) refl)
+values_some legacy (typed.Gradient stops) h = (array (map plain_stop stops), rw (stops_some legacy stops h) refl)
+values_some legacy (typed.Typography t) h = (plain_typography t, rw (typography_some legacy t h) refl)

@@ -1,5 +1,5 @@
 -- Laws over the definitions alone.
-use Rattle.std.specs.Prelude.{◌≡◌, ◌↔◌, ℕ, List, [], ◌∷◌, codes, Some, Ok, Err}
+use Rattle.std.specs.Prelude.{◌≡◌, ◌↔◌, ℕ, Bool, List, [], ◌∷◌, codes, Some, Ok, Err}
 use Rattle.dec_fix.specs.Decimal.{Decimal}
 use Rattle.dec_fix.specs.Arithmetic.{IsFromZeroToOne}
 use Rattle.json_span.specs.Plain.{plain_object_in}
@@ -20,23 +20,23 @@ use Rattle.composite_rules.specs.Parts.{part_at, HasForm}
 
 -- a value has the kind under which it is read, and keeps what values of the kind keep
 abbrev pub KindsStay : Type 0
-KindsStay = (kind : Kind) (v : Value) (t : Typed) → value_of kind v ≡ Ok t → kind_of t ≡ kind
+KindsStay = (legacy : Bool) (kind : Kind) (v : Value) (t : Typed) → value_of legacy kind v ≡ Ok t → kind_of t ≡ kind
 
 abbrev pub ValuesKeep : Type 0
-ValuesKeep = (kind : Kind) (v : Value) (t : Typed) → value_of kind v ≡ Ok t → IsTyped t
+ValuesKeep = (legacy : Bool) (kind : Kind) (v : Value) (t : Typed) → value_of legacy kind v ≡ Ok t → IsTyped t
 
 -- each of those is the value of some plain value
 abbrev pub ValuesAreWritten : Type 0
-ValuesAreWritten = (t : Typed) → IsTyped t → (v : Value) × (value_of (kind_of t) v ≡ Ok t)
+ValuesAreWritten = (legacy : Bool) (t : Typed) → IsTyped t → (v : Value) × (value_of legacy (kind_of t) v ≡ Ok t)
 
 -- what a value breaks, it breaks at a part to which the steps lead
 abbrev pub ValuesBreakInside : Type 0
-ValuesBreakInside = (kind : Kind) → BreaksLead (value_of kind)
+ValuesBreakInside = (legacy : Bool) (kind : Kind) → BreaksLead (value_of legacy kind)
 
 -- a shadow that is one object breaks the rule on shapes at a member `0`, whatever its other members are
 abbrev pub ZerosBreak : Type 0
-ZerosBreak = (v zero : Value) (es : List ValueEntry) → plain_object_in v ≡ Some es → named (codes "0") es ≡ Some zero
-    → value_of kind.Shadow v ≡ Err (record { rule = ValueShape; trail = codes "0" ∷ [] })
+ZerosBreak = (legacy : Bool) (v zero : Value) (es : List ValueEntry) → plain_object_in v ≡ Some es → named (codes "0") es ≡ Some zero
+    → value_of legacy kind.Shadow v ≡ Err (record { rule = ValueShape; trail = codes "0" ∷ [] })
 
 -- a position within 0 to 1 stays, and every other is moved there
 abbrev pub PositionsClamp : Type 0
@@ -47,13 +47,13 @@ SharesStay = (d : Decimal) → IsFromZeroToOne d → clamped d ≡ d
 
 -- what stands at a part's steps has the part as its value, under the kind that the part has
 abbrev pub PartsAreTyped : Type 0
-PartsAreTyped = (kind : Kind) (v w : Value) (t part : Typed) (steps : List (List ℕ))
-    → value_of kind v ≡ Ok t → plain_at v steps ≡ Some w → part_at t steps ≡ Some part → value_of (kind_of part) w ≡ Ok part
+PartsAreTyped = (legacy : Bool) (kind : Kind) (v w : Value) (t part : Typed) (steps : List (List ℕ))
+    → value_of legacy kind v ≡ Ok t → plain_at v steps ≡ Some w → part_at t steps ≡ Some part → value_of legacy (kind_of part) w ≡ Ok part
 
 -- and where the value is written in the form of such steps, something stands there
 abbrev pub PartsStand : Type 0
-PartsStand = (kind : Kind) (v : Value) (t part : Typed) (steps : List (List ℕ))
-    → value_of kind v ≡ Ok t → part_at t steps ≡ Some part → HasForm v steps → (w : Value) × (plain_at v steps ≡ Some w)
+PartsStand = (legacy : Bool) (kind : Kind) (v : Value) (t part : Typed) (steps : List (List ℕ))
+    → value_of legacy kind v ≡ Ok t → part_at t steps ≡ Some part → HasForm v steps → (w : Value) × (plain_at v steps ≡ Some w)
 
 -- a word stands for what has it as its name, and for nothing else
 abbrev pub StrokeWordsNamed : Type 0

@@ -31,32 +31,32 @@ stroke_of_word text = do
   word ← or_broken StrokeWord (meaning stroke_words text)
   Ok (stroke.Word word)
 
-abbrev pub lengths_member : List ValueEntry → Checked (List Size)
-lengths_member es = member (list_in size_in) (codes "dashArray") es
+abbrev pub lengths_member : Bool → List ValueEntry → Checked (List Size)
+lengths_member legacy es = member (list_in (size_in legacy)) (codes "dashArray") es
 
-unfoldable pub dashes_in : Value → Checked Stroke
-dashes_in v = do
+unfoldable pub dashes_in : Bool → Value → Checked Stroke
+dashes_in legacy v = do
   es ← members_in v
-  lengths ← lengths_member es
+  lengths ← lengths_member legacy es
   cap ← member (word_in StrokeCap caps) (codes "lineCap") es
   Ok (stroke.Dashes lengths cap)
 
-unfoldable pub stroke_in : Value → Checked Stroke
-stroke_in v = if_text (plain_string_in v) stroke_of_word (dashes_in v)
+unfoldable pub stroke_in : Bool → Value → Checked Stroke
+stroke_in legacy v = if_text (plain_string_in v) stroke_of_word (dashes_in legacy v)
 
-unfoldable pub border_in : Value → Checked Border
-border_in v = do
+unfoldable pub border_in : Bool → Value → Checked Border
+border_in legacy v = do
   es ← members_in v
-  color ← member color_in (codes "color") es
-  width ← member size_in (codes "width") es
-  style ← member stroke_in (codes "style") es
+  color ← member (color_in legacy) (codes "color") es
+  width ← member (size_in legacy) (codes "width") es
+  style ← member (stroke_in legacy) (codes "style") es
   Ok (record { color = color; width = width; style = style })
 
-unfoldable pub transition_in : Value → Checked Transition
-transition_in v = do
+unfoldable pub transition_in : Bool → Value → Checked Transition
+transition_in legacy v = do
   es ← members_in v
-  duration ← member time_in (codes "duration") es
-  delay ← member time_in (codes "delay") es
+  duration ← member (time_in legacy) (codes "duration") es
+  delay ← member (time_in legacy) (codes "delay") es
   timing ← member curve_in (codes "timingFunction") es
   Ok (record { duration = duration; delay = delay; timing = timing })
 
@@ -68,14 +68,14 @@ boolean_in v = or_broken ValueShape (plain_boolean_in v)
 abbrev pub inset_member : List ValueEntry → Checked Bool
 inset_member es = member_or boolean_in false (codes "inset") es
 
-unfoldable pub shadow_item_in : Value → Checked ShadowItem
-shadow_item_in v = do
+unfoldable pub shadow_item_in : Bool → Value → Checked ShadowItem
+shadow_item_in legacy v = do
   es ← members_in v
-  color ← member color_in (codes "color") es
-  offset_x ← member size_in (codes "offsetX") es
-  offset_y ← member size_in (codes "offsetY") es
-  blur ← member size_in (codes "blur") es
-  spread ← member size_in (codes "spread") es
+  color ← member (color_in legacy) (codes "color") es
+  offset_x ← member (size_in legacy) (codes "offsetX") es
+  offset_y ← member (size_in legacy) (codes "offsetY") es
+  blur ← member (size_in legacy) (codes "blur") es
+  spread ← member (size_in legacy) (codes "spread") es
   inset ← inset_member es
   Ok (record { color = color; offset_x = offset_x; offset_y = offset_y; blur = blur; spread = spread; inset = inset })
 
@@ -84,23 +84,23 @@ abbrev pub unless_zero : {A : Type 0} → Option Value → Checked A → Checked
 unless_zero None checked = checked
 unless_zero (Some v) checked = under (codes "0") (broken ValueShape)
 
-unfoldable pub one_item : Value → Checked (List ShadowItem)
-one_item v = do
-  item ← shadow_item_in v
+unfoldable pub one_item : Bool → Value → Checked (List ShadowItem)
+one_item legacy v = do
+  item ← shadow_item_in legacy v
   Ok (item ∷ [])
 
-unfoldable pub one_shadow : Value → Checked (List ShadowItem)
-one_shadow v = do
+unfoldable pub one_shadow : Bool → Value → Checked (List ShadowItem)
+one_shadow legacy v = do
   es ← members_in v
-  unless_zero (named (codes "0") es) (one_item v)
+  unless_zero (named (codes "0") es) (one_item legacy v)
 
 abbrev pub if_list : {A : Type 0} → Option (List Value) → A → A → A
 if_list None list other = other
 if_list (Some vs) list other = list
 
 -- one or more shadows
-unfoldable pub shadows_in : Value → Checked (List ShadowItem)
-shadows_in v = if_list (plain_array_in v) (some_in shadow_item_in v) (one_shadow v)
+unfoldable pub shadows_in : Bool → Value → Checked (List ShadowItem)
+shadows_in legacy v = if_list (plain_array_in v) (some_in (shadow_item_in legacy) v) (one_shadow legacy v)
 
 -- the nearest number from 0 to 1
 abbrev pub clamped : Decimal → Decimal
@@ -108,55 +108,55 @@ clamped d =
     if is_lt (order_with d 0) then whole_decimal (pos 0)
     else (if is_gt (order_with d 1) then whole_decimal (pos 1) else d)
 
-unfoldable pub stop_in : Value → Checked ColorStop
-stop_in v = do
+unfoldable pub stop_in : Bool → Value → Checked ColorStop
+stop_in legacy v = do
   es ← members_in v
-  color ← member color_in (codes "color") es
+  color ← member (color_in legacy) (codes "color") es
   position ← member number_in (codes "position") es
   Ok (record { color = color; position = clamped position })
 
-unfoldable pub gradient_in : Value → Checked (List ColorStop)
-gradient_in v = some_in stop_in v
+unfoldable pub gradient_in : Bool → Value → Checked (List ColorStop)
+gradient_in legacy v = some_in (stop_in legacy) v
 
-unfoldable pub typography_in : Value → Checked Typography
-typography_in v = do
+unfoldable pub typography_in : Bool → Value → Checked Typography
+typography_in legacy v = do
   es ← members_in v
   family ← member families_in (codes "fontFamily") es
-  size ← member size_in (codes "fontSize") es
+  size ← member (size_in legacy) (codes "fontSize") es
   weight ← member weight_in (codes "fontWeight") es
-  spacing ← member size_in (codes "letterSpacing") es
+  spacing ← member (size_in legacy) (codes "letterSpacing") es
   line_height ← member number_in (codes "lineHeight") es
   Ok (record { family = family; size = size; weight = weight; spacing = spacing; line_height = line_height })
 
-unfoldable pub simple_in : Kind → Value → Checked Typed
-simple_in k v = do
-  simple ← simple_value k v
+unfoldable pub simple_in : Bool → Kind → Value → Checked Typed
+simple_in legacy k v = do
+  simple ← simple_value legacy k v
   Ok (typed.Simple simple)
 
 -- the value under a kind
-unfoldable pub value_of : Kind → Value → Checked Typed
-value_of kind.Color v = simple_in kind.Color v
-value_of kind.Dimension v = simple_in kind.Dimension v
-value_of kind.FontFamily v = simple_in kind.FontFamily v
-value_of kind.FontWeight v = simple_in kind.FontWeight v
-value_of kind.Duration v = simple_in kind.Duration v
-value_of kind.CubicBezier v = simple_in kind.CubicBezier v
-value_of kind.Number v = simple_in kind.Number v
-value_of kind.StrokeStyle v = do
-  style ← stroke_in v
+unfoldable pub value_of : Bool → Kind → Value → Checked Typed
+value_of legacy kind.Color v = simple_in legacy kind.Color v
+value_of legacy kind.Dimension v = simple_in legacy kind.Dimension v
+value_of legacy kind.FontFamily v = simple_in legacy kind.FontFamily v
+value_of legacy kind.FontWeight v = simple_in legacy kind.FontWeight v
+value_of legacy kind.Duration v = simple_in legacy kind.Duration v
+value_of legacy kind.CubicBezier v = simple_in legacy kind.CubicBezier v
+value_of legacy kind.Number v = simple_in legacy kind.Number v
+value_of legacy kind.StrokeStyle v = do
+  style ← stroke_in legacy v
   Ok (typed.StrokeStyle style)
-value_of kind.Border v = do
-  border ← border_in v
+value_of legacy kind.Border v = do
+  border ← border_in legacy v
   Ok (typed.Border border)
-value_of kind.Transition v = do
-  transition ← transition_in v
+value_of legacy kind.Transition v = do
+  transition ← transition_in legacy v
   Ok (typed.Transition transition)
-value_of kind.Shadow v = do
-  items ← shadows_in v
+value_of legacy kind.Shadow v = do
+  items ← shadows_in legacy v
   Ok (typed.Shadow items)
-value_of kind.Gradient v = do
-  stops ← gradient_in v
+value_of legacy kind.Gradient v = do
+  stops ← gradient_in legacy v
   Ok (typed.Gradient stops)
-value_of kind.Typography v = do
-  typography ← typography_in v
+value_of legacy kind.Typography v = do
+  typography ← typography_in legacy v
   Ok (typed.Typography typography)

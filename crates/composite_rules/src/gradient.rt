@@ -8,15 +8,22 @@ ghost use Rattle.composite_rules.specs.Value.{clamped, stop_in, gradient_in};
 use dec_fix::Dec;
 use json_span::Plain;
 use std::alloc::Global;
+use std::fmt;
 use tk_io::Sequence;
 use type_rules::{Color, Part, ValueFault, members_of, part_under, some_of};
 
 /// A colour at a place of a gradient (Format Module 2025.10, gradient).
-#[derive(Clone, Copy, Debug, PartialEq, Eq)]
+#[derive(Clone, Copy, PartialEq, Eq)]
 pub struct ColorStop {
     pub color: Color,
     /// Within 0 to 1.
     pub position: Dec,
+}
+
+impl fmt::Debug for ColorStop {
+    fn fmt<W: fmt::Write>(&self, f: &mut fmt::Formatter<W>) -> fmt::Result {
+        f.write_str("ColorStop")
+    }
 }
 
 /// One or more stops.
@@ -42,10 +49,10 @@ impl<'s> Part<'s> for ColorStop {
 
     ghost part_in = { stop_in };
 
-    fn check(alloc: Global, plain: &Plain<'s>) -> Result<ColorStop, ValueFault<'s>> {
+    fn check(alloc: Global, plain: &Plain<'s>, legacy: bool) -> Result<ColorStop, ValueFault<'s>> {
         let members = members_of(alloc, plain)?;
-        let color = part_under::<Color>(alloc, members, "color")?;
-        let position = part_under::<Dec>(alloc, members, "position")?;
+        let color = part_under::<Color>(alloc, members, "color", legacy)?;
+        let position = part_under::<Dec>(alloc, members, "position", legacy)?;
         Ok(ColorStop {
             color,
             position: clamped(position),
@@ -54,9 +61,13 @@ impl<'s> Part<'s> for ColorStop {
 }
 
 /// The stops of the gradient that the value is: a list of one or more.
-pub(crate) fn stops_of<'s>(alloc: Global, plain: &Plain<'s>) -> Result<Stops, ValueFault<'s>>
-    ensures ok { IfOk result (λ stops. gradient_in (plain_view plain.now) ≡ Ok stops) }
-    ensures broken { IfErr result (IsBreak (gradient_in (plain_view plain.now))) }
+pub(crate) fn stops_of<'s>(
+    alloc: Global,
+    plain: &Plain<'s>,
+    legacy: bool,
+) -> Result<Stops, ValueFault<'s>>
+    ensures ok { IfOk result (λ stops. gradient_in legacy (plain_view plain.now) ≡ Ok stops) }
+    ensures broken { IfErr result (IsBreak (gradient_in legacy (plain_view plain.now))) }
 {
-    some_of::<ColorStop>(alloc, plain)
+    some_of::<ColorStop>(alloc, plain, legacy)
 }

@@ -8,6 +8,7 @@ ghost use Rattle.composite_rules.specs.Value.{one_shadow, shadows_in};
 
 use json_span::{Plain, PlainFields};
 use std::alloc::Global;
+use std::fmt;
 use tk_io::Sequence;
 use type_rules::{
     Color, Part, Size, ValueFault, ValueRule, broken, members_of, named, one, part_under, some_of,
@@ -15,7 +16,7 @@ use type_rules::{
 };
 
 /// One shadow of a box (Format Module 2025.10, shadow).
-#[derive(Clone, Copy, Debug, PartialEq, Eq)]
+#[derive(Clone, Copy, PartialEq, Eq)]
 pub struct ShadowItem {
     pub color: Color,
     pub offset_x: Size,
@@ -24,6 +25,12 @@ pub struct ShadowItem {
     pub spread: Size,
     /// Whether the shadow falls inside of the box.
     pub inset: bool,
+}
+
+impl fmt::Debug for ShadowItem {
+    fn fmt<W: fmt::Write>(&self, f: &mut fmt::Formatter<W>) -> fmt::Result {
+        f.write_str("ShadowItem")
+    }
 }
 
 /// One or more shadows.
@@ -57,13 +64,13 @@ impl<'s> Part<'s> for ShadowItem {
 
     ghost part_in = { shadow_item_in };
 
-    fn check(alloc: Global, plain: &Plain<'s>) -> Result<ShadowItem, ValueFault<'s>> {
+    fn check(alloc: Global, plain: &Plain<'s>, legacy: bool) -> Result<ShadowItem, ValueFault<'s>> {
         let members = members_of(alloc, plain)?;
-        let color = part_under::<Color>(alloc, members, "color")?;
-        let offset_x = part_under::<Size>(alloc, members, "offsetX")?;
-        let offset_y = part_under::<Size>(alloc, members, "offsetY")?;
-        let blur = part_under::<Size>(alloc, members, "blur")?;
-        let spread = part_under::<Size>(alloc, members, "spread")?;
+        let color = part_under::<Color>(alloc, members, "color", legacy)?;
+        let offset_x = part_under::<Size>(alloc, members, "offsetX", legacy)?;
+        let offset_y = part_under::<Size>(alloc, members, "offsetY", legacy)?;
+        let blur = part_under::<Size>(alloc, members, "blur", legacy)?;
+        let spread = part_under::<Size>(alloc, members, "spread", legacy)?;
         let inset = inset_under(alloc, members)?;
         Ok(ShadowItem {
             color,
@@ -76,34 +83,38 @@ impl<'s> Part<'s> for ShadowItem {
     }
 }
 
-fn one_item<'s>(alloc: Global, plain: &Plain<'s>) -> Result<Shadows, ValueFault<'s>>
-    ensures ok { IfOk result (λ items. one_item (plain_view plain.now) ≡ Ok items) }
-    ensures broken { IfErr result (IsBreak (one_item (plain_view plain.now))) }
+fn one_item<'s>(alloc: Global, plain: &Plain<'s>, legacy: bool) -> Result<Shadows, ValueFault<'s>>
+    ensures ok { IfOk result (λ items. one_item legacy (plain_view plain.now) ≡ Ok items) }
+    ensures broken { IfErr result (IsBreak (one_item legacy (plain_view plain.now))) }
 {
-    let item = ShadowItem::check(alloc, plain)?;
+    let item = ShadowItem::check(alloc, plain, legacy)?;
     let items = one(alloc, item)?;
     Ok(items)
 }
 
 // A shadow that is one object, without a member `0`.
-fn one_shadow<'s>(alloc: Global, plain: &Plain<'s>) -> Result<Shadows, ValueFault<'s>>
-    ensures ok { IfOk result (λ items. one_shadow (plain_view plain.now) ≡ Ok items) }
-    ensures broken { IfErr result (IsBreak (one_shadow (plain_view plain.now))) }
+fn one_shadow<'s>(alloc: Global, plain: &Plain<'s>, legacy: bool) -> Result<Shadows, ValueFault<'s>>
+    ensures ok { IfOk result (λ items. one_shadow legacy (plain_view plain.now) ≡ Ok items) }
+    ensures broken { IfErr result (IsBreak (one_shadow legacy (plain_view plain.now))) }
 {
     let members = members_of(alloc, plain)?;
     match named(members, "0") {
         Some(_) => under(alloc, "0", Err(broken(alloc, ValueRule::ValueShape))),
-        None => one_item(alloc, plain),
+        None => one_item(alloc, plain, legacy),
     }
 }
 
 /// The shadows that the value is: one object without a member `0`, or a list of one or more.
-pub(crate) fn shadows_of<'s>(alloc: Global, plain: &Plain<'s>) -> Result<Shadows, ValueFault<'s>>
-    ensures ok { IfOk result (λ items. shadows_in (plain_view plain.now) ≡ Ok items) }
-    ensures broken { IfErr result (IsBreak (shadows_in (plain_view plain.now))) }
+pub(crate) fn shadows_of<'s>(
+    alloc: Global,
+    plain: &Plain<'s>,
+    legacy: bool,
+) -> Result<Shadows, ValueFault<'s>>
+    ensures ok { IfOk result (λ items. shadows_in legacy (plain_view plain.now) ≡ Ok items) }
+    ensures broken { IfErr result (IsBreak (shadows_in legacy (plain_view plain.now))) }
 {
     match plain.as_array() {
-        Some(_) => some_of::<ShadowItem>(alloc, plain),
-        None => one_shadow(alloc, plain),
+        Some(_) => some_of::<ShadowItem>(alloc, plain, legacy),
+        None => one_shadow(alloc, plain, legacy),
     }
 }

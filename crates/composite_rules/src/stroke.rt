@@ -8,6 +8,7 @@ ghost use Rattle.composite_rules.specs.Words.{stroke_word_name, cap_name};
 
 use json_span::{Plain, PlainFields};
 use std::alloc::Global;
+use std::fmt;
 use tk_io::Sequence;
 use type_rules::{
     Part, Size, ValueFault, ValueRule, list_of, meaning, members_of, or_broken, required, under,
@@ -15,7 +16,7 @@ use type_rules::{
 };
 
 /// A style that has a word of its own (Format Module 2025.10, stroke style).
-#[derive(Clone, Copy, Debug, PartialEq, Eq)]
+#[derive(Clone, Copy, PartialEq, Eq)]
 pub enum StrokeWord {
     Solid,
     Dashed,
@@ -25,6 +26,12 @@ pub enum StrokeWord {
     Ridge,
     Outset,
     Inset,
+}
+
+impl fmt::Debug for StrokeWord {
+    fn fmt<W: fmt::Write>(&self, f: &mut fmt::Formatter<W>) -> fmt::Result {
+        f.write_str(self.name())
+    }
 }
 
 /// How the dashes of a stroke end.
@@ -39,11 +46,17 @@ pub enum Cap {
 pub type Sizes = Sequence<Size>;
 
 /// How a stroke is drawn.
-#[derive(Debug, Drop)]
+#[derive(Drop)]
 pub enum Stroke {
     Word(StrokeWord),
     /// Dashes and gaps of these lengths in turn, and how the dashes end.
     Dashes(Sizes, Cap),
+}
+
+impl fmt::Debug for Stroke {
+    fn fmt<W: fmt::Write>(&self, f: &mut fmt::Formatter<W>) -> fmt::Result {
+        f.write_str("Stroke")
+    }
 }
 
 const WORDS: [(&str, StrokeWord); 8] = [
@@ -102,20 +115,24 @@ fn stroke_of_word<'s>(alloc: Global, text: &str) -> Result<Stroke, ValueFault<'s
     Ok(Stroke::Word(word))
 }
 
-fn lengths_under<'s>(alloc: Global, members: &PlainFields<'s>) -> Result<Sizes, ValueFault<'s>>
-    ensures ok { IfOk result (IsFound (lengths_member (plain_fields_view members.now))) }
-    ensures broken { IfErr result (IsBreak (lengths_member (plain_fields_view members.now))) }
+fn lengths_under<'s>(
+    alloc: Global,
+    members: &PlainFields<'s>,
+    legacy: bool,
+) -> Result<Sizes, ValueFault<'s>>
+    ensures ok { IfOk result (IsFound (lengths_member legacy (plain_fields_view members.now))) }
+    ensures broken { IfErr result (IsBreak (lengths_member legacy (plain_fields_view members.now))) }
 {
     let plain = required(alloc, members, "dashArray")?;
-    under(alloc, "dashArray", list_of::<Size>(alloc, plain))
+    under(alloc, "dashArray", list_of::<Size>(alloc, plain, legacy))
 }
 
-fn dashes_of<'s>(alloc: Global, plain: &Plain<'s>) -> Result<Stroke, ValueFault<'s>>
-    ensures ok { IfOk result (λ stroke. dashes_in (plain_view plain.now) ≡ Ok stroke) }
-    ensures broken { IfErr result (IsBreak (dashes_in (plain_view plain.now))) }
+fn dashes_of<'s>(alloc: Global, plain: &Plain<'s>, legacy: bool) -> Result<Stroke, ValueFault<'s>>
+    ensures ok { IfOk result (λ stroke. dashes_in legacy (plain_view plain.now) ≡ Ok stroke) }
+    ensures broken { IfErr result (IsBreak (dashes_in legacy (plain_view plain.now))) }
 {
     let members = members_of(alloc, plain)?;
-    let lengths = lengths_under(alloc, members)?;
+    let lengths = lengths_under(alloc, members, legacy)?;
     let cap = word_under(alloc, ValueRule::StrokeCap, &CAPS, members, "lineCap")?;
     Ok(Stroke::Dashes(lengths, cap))
 }
@@ -127,10 +144,10 @@ impl<'s> Part<'s> for Stroke {
 
     ghost part_in = { stroke_in };
 
-    fn check(alloc: Global, plain: &Plain<'s>) -> Result<Stroke, ValueFault<'s>> {
+    fn check(alloc: Global, plain: &Plain<'s>, legacy: bool) -> Result<Stroke, ValueFault<'s>> {
         match plain.as_text() {
             Some(text) => stroke_of_word(alloc, text.as_str()),
-            None => dashes_of(alloc, plain),
+            None => dashes_of(alloc, plain, legacy),
         }
     }
 }

@@ -1,9 +1,8 @@
 //! Values of every kind.
 
-ghost use Rattle.std.specs.Prelude.{◌≡◌, true, Ok, IfOk, IfErr};
-ghost use Rattle.json_span.specs.PlainView.{plain_view};
+ghost use Rattle.std.specs.Prelude.{◌≡◌, true, IfOk, IfErr};
 ghost use Rattle.name_path.specs.Kinds.{is_simple_kind};
-ghost use Rattle.type_rules.specs.Answer.{IsBreak};
+ghost use Rattle.type_rules.specs.Answer.{IsFound, IsBreak, seen};
 ghost use Rattle.composite_rules.specs.Sound.{kind_of};
 ghost use Rattle.composite_rules.specs.Value.{value_of};
 
@@ -16,10 +15,11 @@ use crate::typography::Typography;
 use json_span::Plain;
 use name_path::Kind;
 use std::alloc::Global;
+use std::fmt;
 use type_rules::{Part, Simple, ValueFault, check_simple};
 
 /// A value of a kind.
-#[derive(Debug, Drop)]
+#[derive(Drop)]
 pub enum Typed<'s> {
     /// A value that is made of no values of other kinds.
     Simple(Simple<'s>),
@@ -29,6 +29,12 @@ pub enum Typed<'s> {
     Shadow(Shadows),
     Gradient(Stops),
     Typography(Typography<'s>),
+}
+
+impl fmt::Debug for Typed<'_> {
+    fn fmt<W: fmt::Write>(&self, f: &mut fmt::Formatter<W>) -> fmt::Result {
+        f.write_str("Typed")
+    }
 }
 
 impl<'s> Typed<'s> {
@@ -48,24 +54,35 @@ impl<'s> Typed<'s> {
     }
 }
 
-fn simple_of<'s>(alloc: Global, kind: Kind, plain: &Plain<'s>) -> Result<Typed<'s>, ValueFault<'s>>
+fn simple_of<'s>(
+    alloc: Global,
+    kind: Kind,
+    plain: &Plain<'s>,
+    legacy: bool,
+) -> Result<Typed<'s>, ValueFault<'s>>
     requires { is_simple_kind kind ≡ true }
-    ensures ok { IfOk result (λ typed. value_of kind (plain_view plain.now) ≡ Ok typed) }
-    ensures broken { IfErr result (IsBreak (value_of kind (plain_view plain.now))) }
+    ensures ok { IfOk result (IsFound (seen (value_of legacy kind) plain.now)) }
+    ensures broken { IfErr result (IsBreak (seen (value_of legacy kind) plain.now)) }
 {
-    let simple = check_simple(alloc, kind, plain)?;
+    let simple = check_simple(alloc, kind, plain, legacy)?;
     Ok(Typed::Simple(simple))
 }
 
-/// The value under the kind, or the first rule that it breaks.
+/// The value under the kind, or the first rule that it breaks. Where `legacy` is true, a text stands for a length, a time
+/// or a colour, also as a part of the value.
 ///
 /// # Errors
 /// `Broken` with the first broken rule in the order of the kind's parts, each part from its first
 /// to its last, and the steps to the part that breaks it, or to the object that lacks a member;
 /// `NoMemory` where memory runs out.
-pub fn check<'s>(alloc: Global, kind: Kind, plain: &Plain<'s>) -> Result<Typed<'s>, ValueFault<'s>>
-    ensures ok { IfOk result (λ typed. value_of kind (plain_view plain.now) ≡ Ok typed) }
-    ensures broken { IfErr result (IsBreak (value_of kind (plain_view plain.now))) }
+pub fn check<'s>(
+    alloc: Global,
+    kind: Kind,
+    plain: &Plain<'s>,
+    legacy: bool,
+) -> Result<Typed<'s>, ValueFault<'s>>
+    ensures ok { IfOk result (IsFound (seen (value_of legacy kind) plain.now)) }
+    ensures broken { IfErr result (IsBreak (seen (value_of legacy kind) plain.now)) }
 {
     match kind {
         Kind::Color
@@ -74,12 +91,12 @@ pub fn check<'s>(alloc: Global, kind: Kind, plain: &Plain<'s>) -> Result<Typed<'
         | Kind::FontWeight
         | Kind::Duration
         | Kind::CubicBezier
-        | Kind::Number => simple_of(alloc, kind, plain),
-        Kind::StrokeStyle => Ok(Typed::StrokeStyle(Stroke::check(alloc, plain)?)),
-        Kind::Border => Ok(Typed::Border(Border::check(alloc, plain)?)),
-        Kind::Transition => Ok(Typed::Transition(Transition::check(alloc, plain)?)),
-        Kind::Shadow => Ok(Typed::Shadow(shadows_of(alloc, plain)?)),
-        Kind::Gradient => Ok(Typed::Gradient(stops_of(alloc, plain)?)),
-        Kind::Typography => Ok(Typed::Typography(Typography::check(alloc, plain)?)),
+        | Kind::Number => simple_of(alloc, kind, plain, legacy),
+        Kind::StrokeStyle => Ok(Typed::StrokeStyle(Stroke::check(alloc, plain, legacy)?)),
+        Kind::Border => Ok(Typed::Border(Border::check(alloc, plain, legacy)?)),
+        Kind::Transition => Ok(Typed::Transition(Transition::check(alloc, plain, legacy)?)),
+        Kind::Shadow => Ok(Typed::Shadow(shadows_of(alloc, plain, legacy)?)),
+        Kind::Gradient => Ok(Typed::Gradient(stops_of(alloc, plain, legacy)?)),
+        Kind::Typography => Ok(Typed::Typography(Typography::check(alloc, plain, legacy)?)),
     }
 }

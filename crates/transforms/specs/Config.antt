@@ -10,11 +10,12 @@ use Rattle.tk_io.specs.Order.{text_cmp}
 use Rattle.transforms.specs.declared.config.ConfigFault.{ConfigFault}
 use Rattle.transforms.specs.declared.config.ConfigFault.TheVariants.{Toml, Key, NoMemory}
 
--- what goes before each name, what a rem is in pixels, and whether references are spelled as such
+-- what goes before each name, what a rem is in pixels, whether references are spelled as such, and whether lengths, times and colours may be texts
 pub record Settings : Type 0 where
   pub prefix : List ℕ
   pub rem_base : ℕ
   pub references : Bool
+  pub legacy : Bool
 
 -- empty, or an ASCII letter and at most 31 ASCII letters and digits
 abbrev pub is_prefix : List ℕ → Bool
@@ -23,7 +24,7 @@ is_prefix (first ∷ rest) = is_ascii_alphabetic first && (list_all is_ascii_alp
 
 -- the settings that no text has changed
 abbrev pub plain : Settings
-plain = record { prefix = []; rem_base = 16; references = true }
+plain = record { prefix = []; rem_base = 16; references = true; legacy = false }
 
 -- settings that a configuration can have
 pub record AreAllowed (settings : Settings) : Type 0 where
@@ -50,6 +51,7 @@ is_setting key value =
     if bytes_eq key (codes "prefix") then is_some (prefix_in value)
     else if bytes_eq key (codes "rem_base") then is_some (base_in value)
     else if bytes_eq key (codes "references") then is_some (as_bool value)
+    else if bytes_eq key (codes "legacy") then is_some (as_bool value)
     else false
 
 -- the first key that is refused
@@ -57,12 +59,17 @@ abbrev pub first_refused : Members → Option (List ℕ)
 first_refused no_members = None
 first_refused (member key value rest) = if is_setting key value then first_refused rest else Some key
 
+-- what a table says under a key that is true or false, else this default
+abbrev pub boolean_under : List ℕ → Bool → Members → Bool
+boolean_under key default table = unwrap_or (option_and_then as_bool (get_member key table)) default
+
 -- what a table says, and the defaults for the keys that it does not have
 abbrev pub settings_in : Members → Settings
 settings_in table = record {
   prefix = unwrap_or (option_and_then prefix_in (get_member (codes "prefix") table)) plain.prefix;
   rem_base = unwrap_or (option_and_then base_in (get_member (codes "rem_base") table)) plain.rem_base;
-  references = unwrap_or (option_and_then as_bool (get_member (codes "references") table)) plain.references;
+  references = boolean_under (codes "references") plain.references table;
+  legacy = boolean_under (codes "legacy") plain.legacy table;
 }
 
 -- the settings, where no key is refused

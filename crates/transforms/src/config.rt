@@ -4,15 +4,17 @@ ghost use Rattle.std.specs.Prelude.{◌≡◌, ◌≢◌, true, false, Ok, Err, 
 ghost use Rattle.std.specs.Prelude.{option_map};
 ghost use Rattle.std.specs.List.{list_all};
 ghost use Rattle.std.specs.Char.{is_ascii_alphanumeric};
+ghost use Rattle.std.specs.Str.{bytes_eq};
 ghost use Rattle.toml.specs.Data.{get_member};
 ghost use Rattle.toml.specs.Parse.{parse_document};
 ghost use Rattle.toml.specs.View.{view, table_view};
 ghost use Rattle.transforms.specs.inner.Unread.{IsUnread};
 ghost use Rattle.transforms.specs.Config.{is_prefix, plain, prefix_in, base_in, is_setting};
-ghost use Rattle.transforms.specs.Config.{first_refused, settings_in, config_of, IsFirstRefused};
-ghost use Rattle.transforms.specs.Config.{IsFaultOf, RefusesFirst};
+ghost use Rattle.transforms.specs.Config.{boolean_under, first_refused, settings_in, config_of};
+ghost use Rattle.transforms.specs.Config.{IsFirstRefused, IsFaultOf, RefusesFirst};
 
 use std::alloc::Global;
+use std::fmt;
 use std::marker::Model;
 use tk_io::{Bytes, NoMemory};
 use toml::{Table, Value};
@@ -26,17 +28,25 @@ pub struct Config {
     pub rem_base: u8,
     /// Whether a reference is spelled as one where the platform has references.
     pub references: bool,
+    /// Whether lengths, times and colours may be texts, as `16px`, `200ms` and `#3366cc`.
+    pub legacy: bool,
 }
 
 /// Why a text gives no configuration.
-#[derive(Debug, Drop)]
+#[derive(Drop)]
 pub enum ConfigFault {
     /// The text is no TOML.
     Toml,
-    /// The first key in byte order that is none of the three, or has a value of another form.
+    /// The first key in byte order that is none of the four, or has a value of another form.
     Key(Bytes),
     /// Memory ran out.
     NoMemory,
+}
+
+impl fmt::Debug for ConfigFault {
+    fn fmt<W: fmt::Write>(&self, f: &mut fmt::Formatter<W>) -> fmt::Result {
+        f.write_str("ConfigFault")
+    }
 }
 
 /// Memory ran out.
@@ -57,14 +67,19 @@ impl Model for Config {
 
     ghost Value = { Settings };
 
-    ghost view = { λ c. record
-        { prefix = c.prefix; rem_base = c.rem_base; references = c.references } };
+    ghost view = { λ c. record {
+      prefix = c.prefix;
+      rem_base = c.rem_base;
+      references = c.references;
+      legacy = c.legacy;
+    } };
 
     ghost invariant = { λ c. is_prefix c.prefix ≡ true };
 }
 
 impl Config {
-    /// The defaults: no prefix, a rem of 16 pixels, and references spelled as such.
+    /// The defaults: no prefix, a rem of 16 pixels, references spelled as such, and no text in place of a length, a time or
+    /// a colour.
     pub fn plain(alloc: Global) -> Config
         ensures { result ≡ plain }
     {
@@ -72,6 +87,7 @@ impl Config {
             prefix: Bytes::new(alloc),
             rem_base: 16,
             references: true,
+            legacy: false,
         }
     }
 
@@ -85,6 +101,7 @@ impl Config {
             prefix,
             rem_base: self.rem_base,
             references: self.references,
+            legacy: self.legacy,
         })
     }
 
@@ -95,6 +112,7 @@ impl Config {
     {
         self.rem_base == other.rem_base
             && self.references == other.references
+            && self.legacy == other.legacy
             && self.prefix.as_slice() == other.prefix.as_slice()
     }
 }
@@ -139,17 +157,26 @@ fn base_in(value: &Value) -> Option<u8>
     }
 }
 
+fn is(key: &str, word: &str) -> bool
+    ensures { result ≡ bytes_eq key.now word.now }
+{
+    key == word
+}
+
 /// Whether there is such a key and it may have the value.
 fn is_setting(key: &str, value: &Value) -> bool
     ensures { result ≡ is_setting key.now (view value.now) }
 {
-    if key == "prefix" {
+    if is(key, "prefix") {
         return prefix_in(value).is_some();
     }
-    if key == "rem_base" {
+    if is(key, "rem_base") {
         return base_in(value).is_some();
     }
-    if key == "references" {
+    if is(key, "references") {
+        return value.as_bool().is_some();
+    }
+    if is(key, "legacy") {
         return value.as_bool().is_some();
     }
     false
@@ -198,13 +225,13 @@ fn base_under(table: &Table) -> u8
     base_in(value).unwrap_or(16)
 }
 
-fn references_under(table: &Table) -> bool
-    ensures { result ≡ (settings_in (table_view table.now)).references }
+fn boolean_under(table: &Table, key: &str, default: bool) -> bool
+    ensures { result ≡ boolean_under key.now default (table_view table.now) }
 {
-    let Some(value) = value_under(table, "references") else {
-        return true;
+    let Some(value) = value_under(table, key) else {
+        return default;
     };
-    value.as_bool().unwrap_or(true)
+    value.as_bool().unwrap_or(default)
 }
 
 fn settings_in(alloc: Global, table: &Table) -> Result<Config, NoMemory>
@@ -214,7 +241,8 @@ fn settings_in(alloc: Global, table: &Table) -> Result<Config, NoMemory>
     Ok(Config {
         prefix,
         rem_base: base_under(table),
-        references: references_under(table),
+        references: boolean_under(table, "references", true),
+        legacy: boolean_under(table, "legacy", false),
     })
 }
 
@@ -234,7 +262,8 @@ fn table_of(alloc: Global, text: &str) -> Result<Table, ConfigFault>
 }
 
 /// The configuration that the text says in TOML. Its keys are `prefix` (empty, or an ASCII letter and at most 31 ASCII
-/// letters and digits), `rem_base` (1 to 100) and `references` (a boolean); what is not given is as in `Config::plain`.
+/// letters and digits), `rem_base` (1 to 100), `references` and `legacy` (booleans); what is not given is as in
+/// `Config::plain`.
 pub fn read_config(alloc: Global, text: &str) -> Result<Config, ConfigFault>
     ensures ok { IfOk result (λ config. config_of text.now ≡ Ok config) }
     ensures refused { IfErr result (IsFaultOf text.now) }

@@ -4,11 +4,12 @@ ghost use Rattle.std.specs.Prelude.{◌≡◌, [], ◌∷◌, ◌++◌, Decides,
 ghost use Rattle.transforms.specs.Frag.{AddsSome};
 
 use crate::Texts;
+use std::fmt;
 use std::marker::Model;
 use tk_io::{Bytes, NoMemory, Sequence};
 
 /// Names in memory.
-#[derive(Debug, Drop)]
+#[derive(Drop)]
 enum Held<'a> {
     No,
     /// Most tokens have one name, which was made for them and is lent.
@@ -17,9 +18,15 @@ enum Held<'a> {
 }
 
 /// The names that a token declares on a platform, seen as their list.
-#[derive(Debug, Drop)]
+#[derive(Drop)]
 pub struct Names<'a> {
     held: Held<'a>,
+}
+
+impl fmt::Debug for Names<'_> {
+    fn fmt<W: fmt::Write>(&self, f: &mut fmt::Formatter<W>) -> fmt::Result {
+        f.write_str("Names")
+    }
 }
 
 impl<'a> Model for Names<'a> {

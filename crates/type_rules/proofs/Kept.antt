@@ -1,5 +1,5 @@
 -- What typed values keep.
-use Rattle.std.proofs.Common.{◌≡◌, ◌≢◌, ℕ, ◌^◌, Bool, true, false, ◌&&◌, ◌==◌, cond, List, [], ◌∷◌, map, length, codes, pos, Option, Some, None, Ok, refl, ap, subst, ◌∙◌, arith, inl}
+use Rattle.std.proofs.Common.{◌≡◌, ◌≢◌, ℕ, ◌+◌, ◌<◌, ◌≤◌, ◌^◌, Bool, true, false, ◌&&◌, ◌==◌, cond, List, [], ◌∷◌, map, length, take, codes, pos, Option, Some, None, Ok, refl, ap, sym, subst, ◌∙◌, arith, inl, inr}
 use Rattle.std.specs.Prelude.{IfSome, nat_lt}
 use Rattle.std.specs.Char.{is_ascii_hexdigit, to_ascii_lowercase}
 use Rattle.std.specs.Fmt.{decimal}
@@ -8,16 +8,18 @@ use Rattle.std.specs.Ordering.{is_ge, is_le}
 use Rattle.std.specs.declared.cmp.Ordering.{Ordering}
 use Rattle.std.specs.declared.cmp.Ordering.TheVariants.{Less, Equal, Greater}
 use Rattle.std.proofs.lemmas.Bool.Decides.{nat_tests}
+use Rattle.std.proofs.lemmas.List.{length-take-le}
 use Rattle.json_span.specs.Plain.{plain_string_in, plain_number_in}
 use Rattle.json_span.specs.PlainView.{Value}
 use Rattle.dec_fix.specs.Decimal.{Decimal, IsExact}
-use Rattle.dec_fix.specs.Arithmetic.{IsFromZeroToOne, order_with, whole_decimal}
+use Rattle.dec_fix.specs.Arithmetic.{IsFromZeroToOne, order_with, whole_decimal, byte_decimal}
 use Rattle.dec_fix.specs.Reading.{number_of}
 use Rattle.dec_fix.proofs.ReadingBack.{read_exact}
+use Rattle.dec_fix.proofs.BytesAreParts.{byte_exact, byte_part}
 use Rattle.name_path.specs.declared.kind.Kind.{Kind}
 use Rattle.name_path.specs.declared.kind.Kind.TheVariants as kind
 use Rattle.type_rules.specs.declared.fault.ValueRule.{ValueRule}
-use Rattle.type_rules.specs.declared.fault.ValueRule.TheVariants.{ValueShape, NumberWide, DimensionUnit, DurationUnit, BezierRange, WeightRange, WeightWord, ColorSpace, ColorRange, ColorAlpha, ColorHex}
+use Rattle.type_rules.specs.declared.fault.ValueRule.TheVariants.{ValueShape, NumberWide, DimensionUnit, DurationUnit, BezierRange, WeightRange, WeightWord, ColorSpace, ColorRange, ColorAlpha, ColorHex, LegacyText}
 use Rattle.type_rules.specs.declared.range.Range.{Range}
 use Rattle.type_rules.specs.declared.range.Range.TheVariants.{Within}
 use Rattle.type_rules.specs.declared.space.Ranges.{Ranges}
@@ -33,10 +35,13 @@ use Rattle.type_rules.specs.Checked.{Checked, broken, or_broken, under}
 use Rattle.type_rules.specs.Forms.{number_in, text_in, members_in, if_text, items_of_length, member, member_or, item, some_in}
 use Rattle.type_rules.specs.Ranges.{holds, ranged, share, ranges_of}
 use Rattle.type_rules.specs.Words.{meaning, word_in, size_units, time_units, weights, spaces}
-use Rattle.type_rules.specs.Value.{size_in, time_in, four_numbers, ranged_curve, curve_in, measure_in, families_in, weight_of_word, weight_of_number, weight_in, component_of_word, component_of_number, component_in, three_components, ranged_component, ranged_components, components_in, alpha_in, hex_digits, hex_in, color_in, simple_value}
+use Rattle.type_rules.specs.Legacy.{HasDigits, byte_at, color_of, legacy_text_in, split_measure, measure_of_text, legacy_color, color_of_text}
+use Rattle.type_rules.specs.Value.{size_in, time_in, four_numbers, ranged_curve, curve_in, measure_in_object, measure_in, families_in, weight_of_word, weight_of_number, weight_in, component_of_word, component_of_number, component_in, three_components, ranged_component, ranged_components, components_in, alpha_in, hex_digits, hex_in, color_in_object, color_in, simple_value}
 use Rattle.type_rules.specs.Sound.{kind_of, IsInRange, IsShare, IsHex, is_hex_digit, IsColor, IsSize, IsTime, IsFamilies, IsWeight, IsCurve, IsSimple}
 use Rattle.type_rules.proofs.Keeping.{made, ok_is, found, from_some, from_part, member_keeps, item_keeps, member_or_keeps, some_is_there}
 use Rattle.type_rules.proofs.WordFacts.{all_meanings, and_left, and_right}
+use Rattle.type_rules.proofs.Somes.{share_holds}
+use Rattle.type_rules.proofs.LegacyTexts.{byte_small, all_front, color_spelled}
 
 -- numbers and their ranges
 
@@ -76,22 +81,38 @@ is_share d h = record { exact = h.exact; part = shares_are_parts d h.within }
 
 -- lengths and durations
 
-measures_keep : {U : Type 0} (rule : ValueRule) (units : List (List ℕ × U)) (v : Value) (m : Decimal × U) → measure_in rule units v ≡ Ok m → IsExact m.0
-unfolding measure_in
-measures_keep {U} rule units v m e =
+objects_keep : {U : Type 0} (rule : ValueRule) (units : List (List ℕ × U)) (v : Value) (m : Decimal × U) → measure_in_object rule units v ≡ Ok m → IsExact m.0
+unfolding measure_in_object
+objects_keep {U} rule units v m e =
     made (members_in v) _ m e (λ es h e2.
     made (member number_in (codes "value") es) _ m e2 (λ value has e3.
     made (member (word_in rule units) (codes "unit") es) _ m e3 (λ unit is e4.
     let P : Decimal × U → Type 0 = λ z. IsExact z.0 in
     found P (value, unit) m e4 (member_keeps number_in IsExact numbers_keep (codes "value") es value has))))
 
-pub sizes_keep : (v : Value) (s : Size) → size_in v ≡ Ok s → IsSize s
-unfolding size_in
-sizes_keep v s e = made (measure_in DimensionUnit size_units v) _ s e (λ m h e2. found IsSize (record { value = m.0; unit = m.1 }) s e2 (measures_keep DimensionUnit size_units v m h))
+texts_keep : {U : Type 0} (units : List (List ℕ × U)) (text : List ℕ) (m : Decimal × U) → measure_of_text units text ≡ Ok m → IsExact m.0
+unfolding measure_of_text
+texts_keep {U} units text m e =
+    made (or_broken LegacyText (split_measure units text)) _ m e (λ parts h e2.
+    made (or_broken NumberWide (number_of parts.0)) _ m e2 (λ value k e3.
+    let P : Decimal × U → Type 0 = λ z. IsExact z.0 in
+    found P (value, parts.1) m e3 (read_exact parts.0 value (from_some NumberWide (number_of parts.0) value k))))
 
-pub times_keep : (v : Value) (t : Time) → time_in v ≡ Ok t → IsTime t
+measures_by : {U : Type 0} (t : Option (List ℕ)) (rule : ValueRule) (units : List (List ℕ × U)) (v : Value) (m : Decimal × U) → if_text t (measure_of_text units) (measure_in_object rule units v) ≡ Ok m → IsExact m.0
+measures_by (Some text) rule units v m e = texts_keep units text m e
+measures_by None rule units v m e = objects_keep rule units v m e
+
+measures_keep : {U : Type 0} (legacy : Bool) (rule : ValueRule) (units : List (List ℕ × U)) (v : Value) (m : Decimal × U) → measure_in legacy rule units v ≡ Ok m → IsExact m.0
+unfolding measure_in
+measures_keep legacy rule units v m e = measures_by (legacy_text_in legacy v) rule units v m e
+
+pub sizes_keep : (legacy : Bool) (v : Value) (s : Size) → size_in legacy v ≡ Ok s → IsSize s
+unfolding size_in
+sizes_keep legacy v s e = made (measure_in legacy DimensionUnit size_units v) _ s e (λ m h e2. found IsSize (record { value = m.0; unit = m.1 }) s e2 (measures_keep legacy DimensionUnit size_units v m h))
+
+pub times_keep : (legacy : Bool) (v : Value) (t : Time) → time_in legacy v ≡ Ok t → IsTime t
 unfolding time_in
-times_keep v t e = made (measure_in DurationUnit time_units v) _ t e (λ m h e2. found IsTime (record { value = m.0; unit = m.1 }) t e2 (measures_keep DurationUnit time_units v m h))
+times_keep legacy v t e = made (measure_in legacy DurationUnit time_units v) _ t e (λ m h e2. found IsTime (record { value = m.0; unit = m.1 }) t e2 (measures_keep legacy DurationUnit time_units v m h))
 
 -- curves
 
@@ -285,9 +306,9 @@ hex_keeps v o e =
 
 -- colours
 
-pub colors_keep : (v : Value) (c : Color) → color_in v ≡ Ok c → IsColor c
-unfolding color_in
-colors_keep v c e =
+objects_are_colors : (v : Value) (c : Color) → color_in_object v ≡ Ok c → IsColor c
+unfolding color_in_object
+objects_are_colors v c e =
     made (members_in v) _ c e (λ es h e1.
     made (member (word_in ColorSpace spaces) (codes "colorSpace") es) _ c e1 (λ space s e2.
     made (member (components_in space) (codes "components") es) _ c e2 (λ cs x e3.
@@ -303,20 +324,58 @@ colors_keep v c e =
       hex = member_or_keeps hex_in MayBeHex hex_keeps None (codes "hex") es hex tt d;
     }))))))
 
+-- a byte that two digits write, as a part of 255
+byte_keeps : (i : ℕ) (digits : List ℕ) → i + 1 < length digits → list_all is_ascii_hexdigit digits ≡ true → IsInRange share (byte_decimal (byte_at i digits))
+byte_keeps i digits room t =
+    let small = byte_small i digits room t in
+    record { exact = byte_exact (byte_at i digits) small; within = share_holds (byte_decimal (byte_at i digits)) (byte_part (byte_at i digits) small) }
+
+alpha_by : (eight : Bool) (digits : List ℕ) → (length digits == 8) ≡ eight → list_all is_ascii_hexdigit digits ≡ true → IsShare (cond eight (byte_decimal (byte_at 6 digits)) (whole_decimal (pos 1)))
+alpha_by true digits e t = is_share (byte_decimal (byte_at 6 digits)) (byte_keeps 6 digits (grind (arith, nat_tests)) t)
+alpha_by false digits e t = one_share
+
+digits_keep : (text digits : List ℕ) → HasDigits text digits → IsColor (color_of digits)
+digits_keep text digits h =
+    let room : 6 ≤ length digits = elim h.count [ inl e ↦ omega (arith, e) | inr e ↦ omega (arith, e) ] in
+    record {
+      first = byte_keeps 0 digits (omega (arith, room)) h.hexadecimal;
+      second = byte_keeps 2 digits (omega (arith, room)) h.hexadecimal;
+      third = byte_keeps 4 digits (omega (arith, room)) h.hexadecimal;
+      alpha = alpha_by (length digits == 8) digits refl h.hexadecimal;
+      hex = record {
+        six = length-lower (take 6 digits) ∙ length-take-le 6 digits room;
+        lower = lower_digits (take 6 digits) (all_front is_ascii_hexdigit 6 digits h.hexadecimal);
+      };
+    }
+
+texts_are_colors : (text : List ℕ) (c : Color) → color_of_text text ≡ Ok c → IsColor c
+unfolding color_of_text
+texts_are_colors text c e =
+    let spelled = color_spelled text c (from_some LegacyText (legacy_color text) c e) in
+    subst IsColor (sym spelled.is) (digits_keep text spelled.digits spelled.form)
+
+colors_by : (t : Option (List ℕ)) (v : Value) (c : Color) → if_text t color_of_text (color_in_object v) ≡ Ok c → IsColor c
+colors_by (Some text) v c e = texts_are_colors text c e
+colors_by None v c e = objects_are_colors v c e
+
+pub colors_keep : (legacy : Bool) (v : Value) (c : Color) → color_in legacy v ≡ Ok c → IsColor c
+unfolding color_in
+colors_keep legacy v c e = colors_by (legacy_text_in legacy v) v c e
+
 -- values
 
-pub values_keep : (k : Kind) (v : Value) (s : Simple) → simple_value k v ≡ Ok s → (kind_of s ≡ k) × IsSimple s
+pub values_keep : (legacy : Bool) (k : Kind) (v : Value) (s : Simple) → simple_value legacy k v ≡ Ok s → (kind_of s ≡ k) × IsSimple s
 unfolding simple_value
-values_keep kind.Color v s e = made (color_in v) _ s e (λ x h e2. found (λ z. (kind_of z ≡ kind.Color) × IsSimple z) (simple.Color x) s e2 (refl, colors_keep v x h))
-values_keep kind.Dimension v s e = made (size_in v) _ s e (λ x h e2. found (λ z. (kind_of z ≡ kind.Dimension) × IsSimple z) (simple.Dimension x) s e2 (refl, sizes_keep v x h))
-values_keep kind.FontFamily v s e = made (families_in v) _ s e (λ x h e2. found (λ z. (kind_of z ≡ kind.FontFamily) × IsSimple z) (simple.FontFamily x) s e2 (refl, families_keep v x h))
-values_keep kind.FontWeight v s e = made (weight_in v) _ s e (λ x h e2. found (λ z. (kind_of z ≡ kind.FontWeight) × IsSimple z) (simple.FontWeight x) s e2 (refl, weights_keep v x h))
-values_keep kind.Duration v s e = made (time_in v) _ s e (λ x h e2. found (λ z. (kind_of z ≡ kind.Duration) × IsSimple z) (simple.Duration x) s e2 (refl, times_keep v x h))
-values_keep kind.CubicBezier v s e = made (curve_in v) _ s e (λ x h e2. found (λ z. (kind_of z ≡ kind.CubicBezier) × IsSimple z) (simple.CubicBezier x) s e2 (refl, curves_keep v x h))
-values_keep kind.Number v s e = made (number_in v) _ s e (λ x h e2. found (λ z. (kind_of z ≡ kind.Number) × IsSimple z) (simple.Number x) s e2 (refl, numbers_keep v x h))
-values_keep kind.StrokeStyle v s e = absurd (let h : ⊥ = cc in h)
-values_keep kind.Border v s e = absurd (let h : ⊥ = cc in h)
-values_keep kind.Transition v s e = absurd (let h : ⊥ = cc in h)
-values_keep kind.Shadow v s e = absurd (let h : ⊥ = cc in h)
-values_keep kind.Gradient v s e = absurd (let h : ⊥ = cc in h)
-values_keep kind.Typography v s e = absurd (let h : ⊥ = cc in h)
+values_keep legacy kind.Color v s e = made (color_in legacy v) _ s e (λ x h e2. found (λ z. (kind_of z ≡ kind.Color) × IsSimple z) (simple.Color x) s e2 (refl, colors_keep legacy v x h))
+values_keep legacy kind.Dimension v s e = made (size_in legacy v) _ s e (λ x h e2. found (λ z. (kind_of z ≡ kind.Dimension) × IsSimple z) (simple.Dimension x) s e2 (refl, sizes_keep legacy v x h))
+values_keep legacy kind.FontFamily v s e = made (families_in v) _ s e (λ x h e2. found (λ z. (kind_of z ≡ kind.FontFamily) × IsSimple z) (simple.FontFamily x) s e2 (refl, families_keep v x h))
+values_keep legacy kind.FontWeight v s e = made (weight_in v) _ s e (λ x h e2. found (λ z. (kind_of z ≡ kind.FontWeight) × IsSimple z) (simple.FontWeight x) s e2 (refl, weights_keep v x h))
+values_keep legacy kind.Duration v s e = made (time_in legacy v) _ s e (λ x h e2. found (λ z. (kind_of z ≡ kind.Duration) × IsSimple z) (simple.Duration x) s e2 (refl, times_keep legacy v x h))
+values_keep legacy kind.CubicBezier v s e = made (curve_in v) _ s e (λ x h e2. found (λ z. (kind_of z ≡ kind.CubicBezier) × IsSimple z) (simple.CubicBezier x) s e2 (refl, curves_keep v x h))
+values_keep legacy kind.Number v s e = made (number_in v) _ s e (λ x h e2. found (λ z. (kind_of z ≡ kind.Number) × IsSimple z) (simple.Number x) s e2 (refl, numbers_keep v x h))
+values_keep legacy kind.StrokeStyle v s e = absurd (let h : ⊥ = cc in h)
+values_keep legacy kind.Border v s e = absurd (let h : ⊥ = cc in h)
+values_keep legacy kind.Transition v s e = absurd (let h : ⊥ = cc in h)
+values_keep legacy kind.Shadow v s e = absurd (let h : ⊥ = cc in h)
+values_keep legacy kind.Gradient v s e = absurd (let h : ⊥ = cc in h)
+values_keep legacy kind.Typography v s e = absurd (let h : ⊥ = cc in h)

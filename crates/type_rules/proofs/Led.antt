@@ -1,5 +1,5 @@
 -- The steps of breaks, followed into the value.
-use Rattle.std.proofs.Common.{◌≡◌, ℕ, List, [], ◌∷◌, codes, pos, Option, Some, None, Ok, Err}
+use Rattle.std.proofs.Common.{◌≡◌, ℕ, Bool, List, [], ◌∷◌, codes, pos, Option, Some, None, Ok, Err}
 use Rattle.std.specs.Prelude.{slice_get}
 use Rattle.std.specs.Fmt.{decimal}
 use Rattle.json_span.specs.Plain.{plain_number_in, plain_string_in, plain_array_in}
@@ -10,7 +10,7 @@ use Rattle.dec_fix.specs.Reading.{number_of}
 use Rattle.name_path.specs.declared.kind.Kind.{Kind}
 use Rattle.name_path.specs.declared.kind.Kind.TheVariants as kind
 use Rattle.type_rules.specs.declared.fault.ValueRule.{ValueRule}
-use Rattle.type_rules.specs.declared.fault.ValueRule.TheVariants.{ValueShape, NumberWide, DimensionUnit, DurationUnit, BezierRange, WeightRange, WeightWord, ColorSpace, ColorRange, ColorAlpha, ColorHex}
+use Rattle.type_rules.specs.declared.fault.ValueRule.TheVariants.{ValueShape, NumberWide, DimensionUnit, DurationUnit, BezierRange, WeightRange, WeightWord, ColorSpace, ColorRange, ColorAlpha, ColorHex, LegacyText}
 use Rattle.type_rules.specs.declared.range.Range.{Range}
 use Rattle.type_rules.specs.declared.range.Range.TheVariants.{Within}
 use Rattle.type_rules.specs.declared.space.Ranges.{Ranges}
@@ -22,7 +22,8 @@ use Rattle.type_rules.specs.Checked.{Checked, Break, or_broken, under}
 use Rattle.type_rules.specs.Forms.{number_in, text_in, members_in, if_text, items_of_length, member, member_or, item, some_in}
 use Rattle.type_rules.specs.Ranges.{holds, ranged, share, ranges_of}
 use Rattle.type_rules.specs.Words.{meaning, word_in, size_units, time_units, weights, spaces}
-use Rattle.type_rules.specs.Value.{size_in, time_in, four_numbers, ranged_curve, curve_in, measure_in, families_in, weight_of_word, weight_of_number, weight_in, component_of_word, component_of_number, component_in, three_components, ranged_component, ranged_components, components_in, alpha_in, hex_digits, hex_in, color_in, simple_value}
+use Rattle.type_rules.specs.Legacy.{legacy_text_in, split_measure, measure_of_text, legacy_color, color_of_text}
+use Rattle.type_rules.specs.Value.{size_in, time_in, four_numbers, ranged_curve, curve_in, measure_in_object, measure_in, families_in, weight_of_word, weight_of_number, weight_in, component_of_word, component_of_number, component_in, three_components, ranged_component, ranged_components, components_in, alpha_in, hex_digits, hex_in, color_in_object, color_in, simple_value}
 use Rattle.type_rules.proofs.Keeping.{made}
 use Rattle.type_rules.proofs.Leading.{Led, either, sound, own, own_or, own_test, by_index, members_led, members_are, length_led, length_are, member_led, member_or_led, item_led, item_there, some_lead, texts_lead, words_lead}
 use Rattle.type_rules.specs.Trails.{BreaksLead}
@@ -31,21 +32,33 @@ pub numbers_lead : BreaksLead number_in
 unfolding number_in
 numbers_lead v b e = either (or_broken ValueShape (plain_number_in v)) _ b e (own_or v ValueShape (plain_number_in v) b) (λ s h e2. own_or v NumberWide (number_of s) b e2)
 
-measures_lead : {U : Type 0} (rule : ValueRule) (units : List (List ℕ × U)) → BreaksLead (measure_in rule units)
-unfolding measure_in
-measures_lead rule units v b e =
+objects_lead : {U : Type 0} (rule : ValueRule) (units : List (List ℕ × U)) → BreaksLead (measure_in_object rule units)
+unfolding measure_in_object
+objects_lead rule units v b e =
     either (members_in v) _ b e (members_led v b) (λ es h e2.
     either (member number_in (codes "value") es) _ b e2 (member_led number_in numbers_lead v es (codes "value") b (members_are v es h)) (λ value i e3.
     either (member (word_in rule units) (codes "unit") es) _ b e3 (member_led (word_in rule units) (words_lead rule units) v es (codes "unit") b (members_are v es h)) (λ unit j e4.
     sound _ b e4)))
 
-pub sizes_lead : BreaksLead size_in
-unfolding size_in
-sizes_lead v b e = either (measure_in DimensionUnit size_units v) _ b e (measures_lead DimensionUnit size_units v b) (λ m h e2. sound _ b e2)
+measures_by : {U : Type 0} (t : Option (List ℕ)) (rule : ValueRule) (units : List (List ℕ × U)) (v : Value) (b : Break) → if_text t (measure_of_text units) (measure_in_object rule units v) ≡ Err b → Led v b
+unfolding measure_of_text
+measures_by (Some text) rule units v b e =
+    either (or_broken LegacyText (split_measure units text)) _ b e (own_or v LegacyText (split_measure units text) b) (λ m h e2.
+    either (or_broken NumberWide (number_of m.0)) _ b e2 (own_or v NumberWide (number_of m.0) b) (λ value k e3.
+    sound _ b e3))
+measures_by None rule units v b e = objects_lead rule units v b e
 
-pub times_lead : BreaksLead time_in
+measures_lead : {U : Type 0} (legacy : Bool) (rule : ValueRule) (units : List (List ℕ × U)) → BreaksLead (measure_in legacy rule units)
+unfolding measure_in
+measures_lead legacy rule units v b e = measures_by (legacy_text_in legacy v) rule units v b e
+
+pub sizes_lead : (legacy : Bool) → BreaksLead (size_in legacy)
+unfolding size_in
+sizes_lead legacy v b e = either (measure_in legacy DimensionUnit size_units v) _ b e (measures_lead legacy DimensionUnit size_units v b) (λ m h e2. sound _ b e2)
+
+pub times_lead : (legacy : Bool) → BreaksLead (time_in legacy)
 unfolding time_in
-times_lead v b e = either (measure_in DurationUnit time_units v) _ b e (measures_lead DurationUnit time_units v b) (λ m h e2. sound _ b e2)
+times_lead legacy v b e = either (measure_in legacy DurationUnit time_units v) _ b e (measures_lead legacy DurationUnit time_units v b) (λ m h e2. sound _ b e2)
 
 own_range : (v : Value) (rule : ValueRule) (range : Range) (d : Decimal) (b : Break) → ranged rule range d ≡ Err b → Led v b
 unfolding ranged
@@ -175,9 +188,9 @@ hex_led v b e =
     either (or_broken ColorHex (hex_digits text)) _ b e2 (own_or v ColorHex (hex_digits text) b) (λ ds k e3.
     sound _ b e3))
 
-pub colors_lead : BreaksLead color_in
-unfolding color_in
-colors_lead v b e =
+color_objects_lead : BreaksLead color_in_object
+unfolding color_in_object
+color_objects_lead v b e =
     either (members_in v) _ b e (members_led v b) (λ es h e1.
     either (member (word_in ColorSpace spaces) (codes "colorSpace") es) _ b e1 (member_led (word_in ColorSpace spaces) (words_lead ColorSpace spaces) v es (codes "colorSpace") b (members_are v es h)) (λ space i e2.
     either (member (components_in space) (codes "components") es) _ b e2 (member_led (components_in space) (components_led space) v es (codes "components") b (members_are v es h)) (λ cs j e3.
@@ -185,20 +198,29 @@ colors_lead v b e =
     either (member_or hex_in None (codes "hex") es) _ b e4 (member_or_led hex_in hex_led v es None (codes "hex") b (members_are v es h)) (λ hex l e5.
     sound _ b e5)))))
 
+colors_by : (t : Option (List ℕ)) (v : Value) (b : Break) → if_text t color_of_text (color_in_object v) ≡ Err b → Led v b
+unfolding color_of_text
+colors_by (Some text) v b e = own_or v LegacyText (legacy_color text) b e
+colors_by None v b e = color_objects_lead v b e
+
+pub colors_lead : (legacy : Bool) → BreaksLead (color_in legacy)
+unfolding color_in
+colors_lead legacy v b e = colors_by (legacy_text_in legacy v) v b e
+
 -- values
 
-pub values_lead : (k : Kind) → BreaksLead (simple_value k)
+pub values_lead : (legacy : Bool) (k : Kind) → BreaksLead (simple_value legacy k)
 unfolding simple_value
-values_lead kind.Color v b e = either (color_in v) _ b e (colors_lead v b) (λ x h e2. sound _ b e2)
-values_lead kind.Dimension v b e = either (size_in v) _ b e (sizes_lead v b) (λ x h e2. sound _ b e2)
-values_lead kind.FontFamily v b e = either (families_in v) _ b e (families_lead v b) (λ x h e2. sound _ b e2)
-values_lead kind.FontWeight v b e = either (weight_in v) _ b e (weights_lead v b) (λ x h e2. sound _ b e2)
-values_lead kind.Duration v b e = either (time_in v) _ b e (times_lead v b) (λ x h e2. sound _ b e2)
-values_lead kind.CubicBezier v b e = either (curve_in v) _ b e (curves_lead v b) (λ x h e2. sound _ b e2)
-values_lead kind.Number v b e = either (number_in v) _ b e (numbers_lead v b) (λ x h e2. sound _ b e2)
-values_lead kind.StrokeStyle v b e = own {A = Simple} v ValueShape b e
-values_lead kind.Border v b e = own {A = Simple} v ValueShape b e
-values_lead kind.Transition v b e = own {A = Simple} v ValueShape b e
-values_lead kind.Shadow v b e = own {A = Simple} v ValueShape b e
-values_lead kind.Gradient v b e = own {A = Simple} v ValueShape b e
-values_lead kind.Typography v b e = own {A = Simple} v ValueShape b e
+values_lead legacy kind.Color v b e = either (color_in legacy v) _ b e (colors_lead legacy v b) (λ x h e2. sound _ b e2)
+values_lead legacy kind.Dimension v b e = either (size_in legacy v) _ b e (sizes_lead legacy v b) (λ x h e2. sound _ b e2)
+values_lead legacy kind.FontFamily v b e = either (families_in v) _ b e (families_lead v b) (λ x h e2. sound _ b e2)
+values_lead legacy kind.FontWeight v b e = either (weight_in v) _ b e (weights_lead v b) (λ x h e2. sound _ b e2)
+values_lead legacy kind.Duration v b e = either (time_in legacy v) _ b e (times_lead legacy v b) (λ x h e2. sound _ b e2)
+values_lead legacy kind.CubicBezier v b e = either (curve_in v) _ b e (curves_lead v b) (λ x h e2. sound _ b e2)
+values_lead legacy kind.Number v b e = either (number_in v) _ b e (numbers_lead v b) (λ x h e2. sound _ b e2)
+values_lead legacy kind.StrokeStyle v b e = own {A = Simple} v ValueShape b e
+values_lead legacy kind.Border v b e = own {A = Simple} v ValueShape b e
+values_lead legacy kind.Transition v b e = own {A = Simple} v ValueShape b e
+values_lead legacy kind.Shadow v b e = own {A = Simple} v ValueShape b e
+values_lead legacy kind.Gradient v b e = own {A = Simple} v ValueShape b e
+values_lead legacy kind.Typography v b e = own {A = Simple} v ValueShape b e

@@ -4,8 +4,10 @@ mod Places
 mod Eaches
 pub mod WordFacts
 pub mod Keeping
+pub mod LegacyTexts
 pub mod Kept
 pub mod Leading
 pub mod Led
 pub mod Somes
 pub mod Standing
+pub mod TextLaws

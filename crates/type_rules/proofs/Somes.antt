@@ -29,7 +29,7 @@ use Rattle.type_rules.specs.Checked.{Checked, broken, or_broken}
 use Rattle.type_rules.specs.Forms.{number_in, text_in, items_in, members_in, items_of_length, some_items_in, member, member_or, item, each, list_in, some_in}
 use Rattle.type_rules.specs.Ranges.{holds, ranged, share, ranges_of}
 use Rattle.type_rules.specs.Words.{meaning, word_in, size_units, size_unit_name, time_units, time_unit_name, spaces, space_name}
-use Rattle.type_rules.specs.Value.{measure_in, size_in, time_in, four_numbers, ranged_curve, curve_in, families_in, weight_of_number, weight_in, component_of_number, component_in, three_components, ranged_component, ranged_components, components_in, alpha_in, hex_in, color_in, simple_value}
+use Rattle.type_rules.specs.Value.{measure_in_object, measure_in, size_in, time_in, four_numbers, ranged_curve, curve_in, families_in, weight_of_number, weight_in, component_of_number, component_in, three_components, ranged_component, ranged_components, components_in, alpha_in, hex_in, color_in_object, color_in, simple_value}
 use Rattle.type_rules.specs.Sound.{kind_of, IsInRange, IsShare, IsHex, is_hex_digit, IsColor, IsSize, IsTime, IsFamilies, IsWeight, IsCurve, IsSimple}
 use Rattle.type_rules.proofs.WordFacts.{and_left, and_right, space_found, size_found, time_found}
 
@@ -102,23 +102,28 @@ share_holds d h = both_true (is_ge (order_with d 0)) (is_le (order_with d 1)) (g
 abbrev measure : Decimal → List ℕ → Value
 measure d unit = object (entry (codes "value") (number d) ∷ entry (codes "unit") (plain_string unit) ∷ [])
 
-measure_some : {U : Type 0} (rule : ValueRule) (units : List (List ℕ × U)) (d : Decimal) (word : List ℕ) (u : U) → IsExact d → meaning units word ≡ Some u → measure_in rule units (measure d word) ≡ Ok (d, u)
-unfolding measure_in members_in member
+measure_some : {U : Type 0} (rule : ValueRule) (units : List (List ℕ × U)) (d : Decimal) (word : List ℕ) (u : U) → IsExact d → meaning units word ≡ Some u → measure_in_object rule units (measure d word) ≡ Ok (d, u)
+unfolding measure_in_object members_in member
 measure_some rule units d word u h e = rw (number_some d h, word_some rule units word u e) refl
+
+measured_some : {U : Type 0} (legacy : Bool) (rule : ValueRule) (units : List (List ℕ × U)) (d : Decimal) (word : List ℕ) (u : U) → IsExact d → meaning units word ≡ Some u → measure_in legacy rule units (measure d word) ≡ Ok (d, u)
+unfolding measure_in
+measured_some true rule units d word u h e = measure_some rule units d word u h e
+measured_some false rule units d word u h e = measure_some rule units d word u h e
 
 abbrev pub plain_size : Size → Value
 plain_size s = measure s.value (size_unit_name s.unit)
 
-pub size_some : (s : Size) → IsSize s → size_in (plain_size s) ≡ Ok s
+pub size_some : (legacy : Bool) (s : Size) → IsSize s → size_in legacy (plain_size s) ≡ Ok s
 unfolding size_in
-size_some s h = rw (measure_some DimensionUnit size_units s.value (size_unit_name s.unit) s.unit h (size_found s.unit)) refl
+size_some legacy s h = rw (measured_some legacy DimensionUnit size_units s.value (size_unit_name s.unit) s.unit h (size_found s.unit)) refl
 
 abbrev pub plain_time : Time → Value
 plain_time t = measure t.value (time_unit_name t.unit)
 
-pub time_some : (t : Time) → IsTime t → time_in (plain_time t) ≡ Ok t
+pub time_some : (legacy : Bool) (t : Time) → IsTime t → time_in legacy (plain_time t) ≡ Ok t
 unfolding time_in
-time_some t h = rw (measure_some DurationUnit time_units t.value (time_unit_name t.unit) t.unit h (time_found t.unit)) refl
+time_some legacy t h = rw (measured_some legacy DurationUnit time_units t.value (time_unit_name t.unit) t.unit h (time_found t.unit)) refl
 
 -- curves
 
@@ -211,24 +216,29 @@ plain_color c = object (entry (codes "colorSpace") (plain_string (space_name c.s
 abbrev color_of : Space → Components → Decimal → Option (List ℕ) → Color
 color_of space cs alpha hex = record { space = space; first = cs.first; second = cs.second; third = cs.third; alpha = alpha; hex = hex }
 
-color_by : (space : Space) (cs : Components) (alpha : Decimal) (hex : Option (List ℕ)) → IsColor (color_of space cs alpha hex) → color_in (plain_color (color_of space cs alpha hex)) ≡ Ok (color_of space cs alpha hex)
-unfolding color_in members_in member member_or
+color_by : (space : Space) (cs : Components) (alpha : Decimal) (hex : Option (List ℕ)) → IsColor (color_of space cs alpha hex) → color_in_object (plain_color (color_of space cs alpha hex)) ≡ Ok (color_of space cs alpha hex)
+unfolding color_in_object members_in member member_or
 color_by space cs alpha None h =
     rw (word_some ColorSpace spaces (space_name space) space (space_found space), components_some (color_of space cs alpha None) h, alpha_some alpha h.alpha) refl
 color_by space cs alpha (Some ds) h =
     rw (word_some ColorSpace spaces (space_name space) space (space_found space), components_some (color_of space cs alpha (Some ds)) h, alpha_some alpha h.alpha, hex_some ds h.hex) refl
 
-pub color_some : (c : Color) → IsColor c → color_in (plain_color c) ≡ Ok c
-color_some c h = color_by c.space (record { first = c.first; second = c.second; third = c.third }) c.alpha c.hex h
+object_some : (c : Color) → IsColor c → color_in_object (plain_color c) ≡ Ok c
+object_some c h = color_by c.space (record { first = c.first; second = c.second; third = c.third }) c.alpha c.hex h
+
+pub color_some : (legacy : Bool) (c : Color) → IsColor c → color_in legacy (plain_color c) ≡ Ok c
+unfolding color_in
+color_some true c h = object_some c h
+color_some false c h = object_some c h
 
 -- values
 
-pub values_some : (s : Simple) → IsSimple s → (v : Value) × (simple_value (kind_of s) v ≡ Ok s)
+pub values_some : (legacy : Bool) (s : Simple) → IsSimple s → (v : Value) × (simple_value legacy (kind_of s) v ≡ Ok s)
 unfolding simple_value
-values_some (simple.Color c) h = (plain_color c, rw (color_some c h) refl)
-values_some (simple.Dimension s) h = (plain_size s, rw (size_some s h) refl)
-values_some (simple.FontFamily ts) h = (plain_families ts, rw (families_some ts h) refl)
-values_some (simple.FontWeight d) h = (number d, rw (weight_some d h) refl)
-values_some (simple.Duration t) h = (plain_time t, rw (time_some t h) refl)
-values_some (simple.CubicBezier c) h = (plain_curve c, rw (curve_some c h) refl)
-values_some (simple.Number d) h = (number d, rw (number_some d h) refl)
+values_some legacy (simple.Color c) h = (plain_color c, rw (color_some legacy c h) refl)
+values_some legacy (simple.Dimension s) h = (plain_size s, rw (size_some legacy s h) refl)
+values_some legacy (simple.FontFamily ts) h = (plain_families ts, rw (families_some ts h) refl)
+values_some legacy (simple.FontWeight d) h = (number d, rw (weight_some d h) refl)
+values_some legacy (simple.Duration t) h = (plain_time t, rw (time_some legacy t h) refl)
+values_some legacy (simple.CubicBezier c) h = (plain_curve c, rw (curve_some c h) refl)
+values_some legacy (simple.Number d) h = (number d, rw (number_some d h) refl)

@@ -32,7 +32,7 @@ and_right false b e = cc
 
 module _ {A : Type 0} where
   -- the rows of things by their names
-  abbrev named_rows : (A → List ℕ) → List A → List (List ℕ × A)
+  abbrev pub named_rows : (A → List ℕ) → List A → List (List ℕ × A)
   named_rows name us = map (λ u. (name u, u)) us
 
   first_named : (name : A → List ℕ) (u s : A) (word : List ℕ) (b : Bool) (rest : Option A) → (b ≡ true → name u ≡ word) → (rest ≡ Some s → name s ≡ word) → (cond b (Some u) rest) ≡ Some s → name s ≡ word

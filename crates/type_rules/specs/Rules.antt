@@ -1,7 +1,7 @@
 -- The names of the rules of values.
 use Rattle.std.specs.Prelude.{ℕ, List, codes}
 use Rattle.type_rules.specs.declared.fault.ValueRule.{ValueRule}
-use Rattle.type_rules.specs.declared.fault.ValueRule.TheVariants.{ValueShape, NumberWide, DimensionUnit, DurationUnit, BezierRange, WeightRange, WeightWord, ColorSpace, ColorRange, ColorAlpha, ColorHex, StrokeWord, StrokeCap}
+use Rattle.type_rules.specs.declared.fault.ValueRule.TheVariants.{ValueShape, NumberWide, DimensionUnit, DurationUnit, BezierRange, WeightRange, WeightWord, ColorSpace, ColorRange, ColorAlpha, ColorHex, StrokeWord, StrokeCap, LegacyText}
 
 abbrev pub rule_name : ValueRule → List ℕ
 rule_name ValueShape = codes "value-shape"
@@ -17,3 +17,4 @@ rule_name ColorAlpha = codes "color-alpha"
 rule_name ColorHex = codes "color-hex"
 rule_name StrokeWord = codes "stroke-word"
 rule_name StrokeCap = codes "stroke-cap"
+rule_name LegacyText = codes "legacy-text"

@@ -1,6 +1,6 @@
 -- The types of values (Design Tokens Format Module 2025.10): what a value is under each simple kind, or the first rule that it breaks. The parts
--- are checked in the order of the lines.
-use Rattle.std.specs.Prelude.{ℕ, ◌==◌, ◌&&◌, List, [], ◌∷◌, map, length, codes, pos, Option, Some, None, Ok, if◌then◌else◌}
+-- are checked in the order of the lines. Where `legacy` is true, a text stands for a length, a time or a colour.
+use Rattle.std.specs.Prelude.{ℕ, ◌==◌, ◌&&◌, Bool, List, [], ◌∷◌, map, length, codes, pos, Option, Some, None, Ok, if◌then◌else◌}
 use Rattle.std.specs.Borrow.{Bor}
 use Rattle.std.specs.Char.{is_ascii_hexdigit, to_ascii_lowercase}
 use Rattle.std.specs.Fmt.{decimal}
@@ -29,29 +29,37 @@ use Rattle.type_rules.specs.declared.simple.Simple.TheVariants as simple
 use Rattle.type_rules.specs.Checked.{Checked, broken, or_broken, under, ◌>>=◌}
 use Rattle.type_rules.specs.Forms.{number_in, text_in, members_in, if_text, items_of_length, member, member_or, item, some_in}
 use Rattle.type_rules.specs.Ranges.{ranged, ranges_of, share}
+use Rattle.type_rules.specs.Legacy.{legacy_text_in, measure_of_text, color_of_text}
 use Rattle.type_rules.specs.Words.{rows_of, word_in, meaning, size_units, time_units, weights, spaces}
 
--- a number and a unit out of a table of units
-unfoldable pub measure_in : {U : Type 0} → ValueRule → List (List ℕ × U) → Value → Checked (Decimal × U)
-measure_in rule units v = do
+-- an object of a number and a unit out of a table of units
+unfoldable pub measure_in_object : {U : Type 0} → ValueRule → List (List ℕ × U) → Value → Checked (Decimal × U)
+measure_in_object rule units v = do
   es ← members_in v
   value ← member number_in (codes "value") es
   unit ← member (word_in rule units) (codes "unit") es
   Ok (value, unit)
 
+-- a number and a unit
+unfoldable pub measure_in : {U : Type 0} → Bool → ValueRule → List (List ℕ × U) → Value → Checked (Decimal × U)
+measure_in legacy rule units v = if_text (legacy_text_in legacy v) (measure_of_text units) (measure_in_object rule units v)
+
 -- the same by a table of the code
-abbrev pub measure_by : {U : Type 0} → ValueRule → List (Bor (List ℕ) × U) → Value → Checked (Decimal × U)
-measure_by rule units v = measure_in rule (rows_of units) v
+abbrev pub measure_by_object : {U : Type 0} → ValueRule → List (Bor (List ℕ) × U) → Value → Checked (Decimal × U)
+measure_by_object rule units v = measure_in_object rule (rows_of units) v
+
+abbrev pub measure_by : {U : Type 0} → Bool → ValueRule → List (Bor (List ℕ) × U) → Value → Checked (Decimal × U)
+measure_by legacy rule units v = measure_in legacy rule (rows_of units) v
 
 -- a length
-unfoldable pub size_in : Value → Checked Size
-size_in v = do
-  m ← measure_in DimensionUnit size_units v
+unfoldable pub size_in : Bool → Value → Checked Size
+size_in legacy v = do
+  m ← measure_in legacy DimensionUnit size_units v
   Ok (record { value = m.0; unit = m.1 })
 
-unfoldable pub time_in : Value → Checked Time
-time_in v = do
-  m ← measure_in DurationUnit time_units v
+unfoldable pub time_in : Bool → Value → Checked Time
+time_in legacy v = do
+  m ← measure_in legacy DurationUnit time_units v
   Ok (record { value = m.0; unit = m.1 })
 
 -- four numbers; after their forms, the first and the third lie within 0 to 1
@@ -165,9 +173,9 @@ alpha_member es = member_or alpha_in (whole_decimal (pos 1)) (codes "alpha") es
 abbrev pub hex_member : List ValueEntry → Checked (Option (List ℕ))
 hex_member es = member_or hex_in None (codes "hex") es
 
--- a colour
-unfoldable pub color_in : Value → Checked Color
-color_in v = do
+-- an object that is a colour
+unfoldable pub color_in_object : Value → Checked Color
+color_in_object v = do
   es ← members_in v
   space ← member (word_in ColorSpace spaces) (codes "colorSpace") es
   cs ← components_member space es
@@ -175,32 +183,36 @@ color_in v = do
   hex ← hex_member es
   Ok (record { space = space; first = cs.first; second = cs.second; third = cs.third; alpha = alpha; hex = hex })
 
+-- a colour
+unfoldable pub color_in : Bool → Value → Checked Color
+color_in legacy v = if_text (legacy_text_in legacy v) color_of_text (color_in_object v)
+
 -- The value under a kind. A kind whose values are made of values of other kinds has none here.
-unfoldable pub simple_value : Kind → Value → Checked Simple
-simple_value kind.Color v = do
-  color ← color_in v
+unfoldable pub simple_value : Bool → Kind → Value → Checked Simple
+simple_value legacy kind.Color v = do
+  color ← color_in legacy v
   Ok (simple.Color color)
-simple_value kind.Dimension v = do
-  size ← size_in v
+simple_value legacy kind.Dimension v = do
+  size ← size_in legacy v
   Ok (simple.Dimension size)
-simple_value kind.FontFamily v = do
+simple_value legacy kind.FontFamily v = do
   families ← families_in v
   Ok (simple.FontFamily families)
-simple_value kind.FontWeight v = do
+simple_value legacy kind.FontWeight v = do
   weight ← weight_in v
   Ok (simple.FontWeight weight)
-simple_value kind.Duration v = do
-  time ← time_in v
+simple_value legacy kind.Duration v = do
+  time ← time_in legacy v
   Ok (simple.Duration time)
-simple_value kind.CubicBezier v = do
+simple_value legacy kind.CubicBezier v = do
   curve ← curve_in v
   Ok (simple.CubicBezier curve)
-simple_value kind.Number v = do
+simple_value legacy kind.Number v = do
   number ← number_in v
   Ok (simple.Number number)
-simple_value kind.StrokeStyle v = broken ValueShape
-simple_value kind.Border v = broken ValueShape
-simple_value kind.Transition v = broken ValueShape
-simple_value kind.Shadow v = broken ValueShape
-simple_value kind.Gradient v = broken ValueShape
-simple_value kind.Typography v = broken ValueShape
+simple_value legacy kind.StrokeStyle v = broken ValueShape
+simple_value legacy kind.Border v = broken ValueShape
+simple_value legacy kind.Transition v = broken ValueShape
+simple_value legacy kind.Shadow v = broken ValueShape
+simple_value legacy kind.Gradient v = broken ValueShape
+simple_value legacy kind.Typography v = broken ValueShape

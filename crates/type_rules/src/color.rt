@@ -4,13 +4,15 @@ ghost use Rattle.std.specs.Prelude.{◌≡◌, length, map, Ok, IfOk, IfErr};
 ghost use Rattle.std.specs.Char.{is_ascii_hexdigit, to_ascii_lowercase};
 ghost use Rattle.std.specs.List.{list_all};
 ghost use Rattle.json_span.specs.PlainView.{plain_view, plain_fields_view};
-ghost use Rattle.type_rules.specs.Answer.{IsFound, IsBreak, among};
+ghost use Rattle.type_rules.specs.Answer.{IsFound, IsBreak, among, seen};
 ghost use Rattle.type_rules.specs.Value.{components_member, alpha_in, alpha_member, hex_digits};
-ghost use Rattle.type_rules.specs.Value.{hex_in, hex_member, color_in};
+ghost use Rattle.type_rules.specs.Value.{hex_in, hex_member, color_in_object, color_in};
+ghost use Rattle.type_rules.specs.Legacy.{color_of_text};
 
 use crate::components::{Components, components_of};
 use crate::fault::{ValueFault, ValueRule, or_broken, under};
 use crate::forms::{check_number, members_of, named, required, text_of};
+use crate::legacy::{legacy_color, legacy_text};
 use crate::parts::Part;
 use crate::range::{Range, ranged};
 use crate::space::{SPACES, Space};
@@ -18,9 +20,10 @@ use crate::words::word_under;
 use dec_fix::Dec;
 use json_span::{Plain, PlainFields};
 use std::alloc::Global;
+use std::fmt;
 
 /// A colour (Color Module 2025.10). Each component that is not none lies in its range in the space.
-#[derive(Clone, Copy, Debug, PartialEq, Eq)]
+#[derive(Clone, Copy, PartialEq, Eq)]
 pub struct Color {
     pub space: Space,
     pub first: Option<Dec>,
@@ -30,6 +33,12 @@ pub struct Color {
     pub alpha: Dec,
     /// The six hexadecimal digits of `hex`, in lower case.
     pub hex: Option<[u8; 6]>,
+}
+
+impl fmt::Debug for Color {
+    fn fmt<W: fmt::Write>(&self, f: &mut fmt::Formatter<W>) -> fmt::Result {
+        f.write_str("Color")
+    }
 }
 
 fn components_under<'s>(
@@ -62,13 +71,13 @@ fn alpha_under<'s>(alloc: Global, members: &PlainFields<'s>) -> Result<Dec, Valu
     }
 }
 
-fn are_digits(digits: &[u8]) -> bool
+pub(crate) fn are_digits(digits: &[u8]) -> bool
     ensures { result ≡ list_all is_ascii_hexdigit digits.now }
 {
     digits.iter().all(|digit| digit.is_ascii_hexdigit())
 }
 
-fn in_lower_case(digits: &[u8]) -> [u8; 6]
+pub(crate) fn in_lower_case(digits: &[u8]) -> [u8; 6]
     requires { length digits.now ≡ 6 }
     ensures { result ≡ map to_ascii_lowercase digits.now }
 {
@@ -117,26 +126,45 @@ fn hex_under<'s>(
     }
 }
 
+fn color_of_object<'s>(alloc: Global, plain: &Plain<'s>) -> Result<Color, ValueFault<'s>>
+    ensures ok { IfOk result (IsFound (seen color_in_object plain.now)) }
+    ensures broken { IfErr result (IsBreak (seen color_in_object plain.now)) }
+{
+    let members = members_of(alloc, plain)?;
+    let space = word_under(alloc, ValueRule::ColorSpace, &SPACES, members, "colorSpace")?;
+    let components = components_under(alloc, space, members)?;
+    let alpha = alpha_under(alloc, members)?;
+    let hex = hex_under(alloc, members)?;
+    Ok(Color {
+        space,
+        first: components.first,
+        second: components.second,
+        third: components.third,
+        alpha,
+        hex,
+    })
+}
+
+#[tactic(auto, unfolding(crate::specs::Legacy::color_of_text))]
+fn color_of_text<'s>(alloc: Global, text: &str) -> Result<Color, ValueFault<'s>>
+    ensures ok { IfOk result (IsFound (color_of_text text.now)) }
+    ensures broken { IfErr result (IsBreak (color_of_text text.now)) }
+{
+    or_broken(alloc, ValueRule::LegacyText, legacy_color(text))
+}
+
 /// An object of a word `colorSpace`, a list `components`, and optionally a number `alpha` and a
-/// text `hex`, checked in this order. An absent `alpha` is 1.
+/// text `hex`, checked in this order. An absent `alpha` is 1. Where `legacy` is true, also a text,
+/// as `#3366cc`.
 impl<'s> Part<'s> for Color {
     type Typed = Color;
 
     ghost part_in = { color_in };
 
-    fn check(alloc: Global, plain: &Plain<'s>) -> Result<Color, ValueFault<'s>> {
-        let members = members_of(alloc, plain)?;
-        let space = word_under(alloc, ValueRule::ColorSpace, &SPACES, members, "colorSpace")?;
-        let components = components_under(alloc, space, members)?;
-        let alpha = alpha_under(alloc, members)?;
-        let hex = hex_under(alloc, members)?;
-        Ok(Color {
-            space,
-            first: components.first,
-            second: components.second,
-            third: components.third,
-            alpha,
-            hex,
-        })
+    fn check(alloc: Global, plain: &Plain<'s>, legacy: bool) -> Result<Color, ValueFault<'s>> {
+        match legacy_text(plain, legacy) {
+            Some(text) => color_of_text(alloc, text),
+            None => color_of_object(alloc, plain),
+        }
     }
 }

@@ -19,7 +19,7 @@ use json_span::Plain;
 use std::alloc::Global;
 
 /// The components, of which each may be none.
-#[derive(Clone, Copy, Debug)]
+#[derive(Clone, Copy)]
 pub(crate) struct Components {
     pub first: Option<Dec>,
     pub second: Option<Dec>,
@@ -51,9 +51,13 @@ pub(crate) struct Component;
 impl<'s> Part<'s> for Component {
     type Typed = Option<Dec>;
 
-    ghost part_in = { component_in };
+    ghost part_in = { λ _. component_in };
 
-    fn check(alloc: Global, plain: &Plain<'s>) -> Result<Option<Dec>, ValueFault<'s>> {
+    fn check(
+        alloc: Global,
+        plain: &Plain<'s>,
+        _legacy: bool,
+    ) -> Result<Option<Dec>, ValueFault<'s>> {
         match plain.as_text() {
             Some(word) => component_of_word(alloc, word.as_str()),
             None => component_of_number(alloc, plain),
@@ -66,9 +70,9 @@ fn three_components<'s>(alloc: Global, plain: &Plain<'s>) -> Result<Components, 
     ensures broken { IfErr result (IsBreak (three_components (plain_view plain.now))) }
 {
     let items = items_of_length(alloc, 3, plain)?;
-    let first = part_at::<Component>(alloc, items, 0)?;
-    let second = part_at::<Component>(alloc, items, 1)?;
-    let third = part_at::<Component>(alloc, items, 2)?;
+    let first = part_at::<Component>(alloc, items, 0, false)?;
+    let second = part_at::<Component>(alloc, items, 1, false)?;
+    let third = part_at::<Component>(alloc, items, 2, false)?;
     Ok(Components {
         first,
         second,

@@ -28,10 +28,10 @@ fn four_numbers<'s>(alloc: Global, plain: &Plain<'s>) -> Result<Curve, ValueFaul
     ensures broken { IfErr result (IsBreak (four_numbers (plain_view plain.now))) }
 {
     let items = items_of_length(alloc, 4, plain)?;
-    let x1 = part_at::<Dec>(alloc, items, 0)?;
-    let y1 = part_at::<Dec>(alloc, items, 1)?;
-    let x2 = part_at::<Dec>(alloc, items, 2)?;
-    let y2 = part_at::<Dec>(alloc, items, 3)?;
+    let x1 = part_at::<Dec>(alloc, items, 0, false)?;
+    let y1 = part_at::<Dec>(alloc, items, 1, false)?;
+    let x2 = part_at::<Dec>(alloc, items, 2, false)?;
+    let y2 = part_at::<Dec>(alloc, items, 3, false)?;
     Ok(Curve { x1, y1, x2, y2 })
 }
 
@@ -66,9 +66,9 @@ fn ranged_curve<'s>(alloc: Global, curve: Curve) -> Result<Curve, ValueFault<'s>
 impl<'s> Part<'s> for Curve {
     type Typed = Curve;
 
-    ghost part_in = { curve_in };
+    ghost part_in = { λ _. curve_in };
 
-    fn check(alloc: Global, plain: &Plain<'s>) -> Result<Curve, ValueFault<'s>> {
+    fn check(alloc: Global, plain: &Plain<'s>, _legacy: bool) -> Result<Curve, ValueFault<'s>> {
         let curve = four_numbers(alloc, plain)?;
         ranged_curve(alloc, curve)
     }

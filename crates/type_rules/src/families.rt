@@ -15,16 +15,20 @@ pub type Families<'s> = Sequence<Text<'s>>;
 impl<'s> Part<'s> for Families<'s> {
     type Typed = Families<'s>;
 
-    ghost part_in = { families_in };
+    ghost part_in = { λ _. families_in };
 
-    fn check(alloc: Global, plain: &Plain<'s>) -> Result<Families<'s>, ValueFault<'s>> {
+    fn check(
+        alloc: Global,
+        plain: &Plain<'s>,
+        legacy: bool,
+    ) -> Result<Families<'s>, ValueFault<'s>> {
         match plain.as_text() {
             Some(family) => {
                 let copy = family.copy()?;
                 let families = one(alloc, copy)?;
                 Ok(families)
             }
-            None => some_of::<Text<'s>>(alloc, plain),
+            None => some_of::<Text<'s>>(alloc, plain, legacy),
         }
     }
 }

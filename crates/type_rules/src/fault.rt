@@ -10,10 +10,11 @@ ghost use Rattle.type_rules.specs.declared.fault.ValueFault.TheVariants.{NoMemor
 use itoa::Buffer;
 use name_path::Trail;
 use std::alloc::Global;
+use std::fmt;
 use tk_io::{NoMemory, Text};
 
 /// A rule that a value or a part of it breaks.
-#[derive(Clone, Copy, Debug, PartialEq, Eq)]
+#[derive(Clone, Copy, PartialEq, Eq)]
 pub enum ValueRule {
     /// A part has another JSON form, or a member that must be there is missing.
     ValueShape,
@@ -41,6 +42,15 @@ pub enum ValueRule {
     StrokeWord,
     /// The line cap of a stroke style is none of the three.
     StrokeCap,
+    /// A text in the place of a length, a time or a colour is no number with a unit, and no `#` with six or eight
+    /// hexadecimal digits.
+    LegacyText,
+}
+
+impl fmt::Debug for ValueRule {
+    fn fmt<W: fmt::Write>(&self, f: &mut fmt::Formatter<W>) -> fmt::Result {
+        f.write_str(self.name())
+    }
 }
 
 impl ValueRule {
@@ -62,18 +72,25 @@ impl ValueRule {
             ValueRule::ColorHex => "color-hex",
             ValueRule::StrokeWord => "stroke-word",
             ValueRule::StrokeCap => "stroke-cap",
+            ValueRule::LegacyText => "legacy-text",
         }
     }
 }
 
 /// Why a value has no type.
-#[derive(Debug, Drop)]
+#[derive(Drop)]
 pub enum ValueFault<'s> {
     /// The first rule that is broken, and the steps from the value to the part that breaks it:
     /// names of members, and indices of items in decimal digits.
     Broken { rule: ValueRule, trail: Trail<'s> },
     /// Memory ran out.
     NoMemory,
+}
+
+impl fmt::Debug for ValueFault<'_> {
+    fn fmt<W: fmt::Write>(&self, f: &mut fmt::Formatter<W>) -> fmt::Result {
+        f.write_str("ValueFault")
+    }
 }
 
 impl<'s> From<NoMemory> for ValueFault<'s> {

@@ -13,6 +13,7 @@ mod families;
 mod fault;
 mod forms;
 mod laws;
+mod legacy;
 mod measure;
 mod parts;
 mod range;
@@ -31,7 +32,7 @@ pub use forms::{
     check_number, item, items_of, items_of_length, members_of, named, required, some_items_of,
     text_of,
 };
-pub use laws::{part_laws, step_laws, value_laws, word_laws};
+pub use laws::{legacy_laws, part_laws, step_laws, value_laws, word_laws};
 pub use parts::{Part, each_part, list_of, one, part_at, part_under, some_of};
 pub use range::{Range, ranged};
 pub use simple::{Simple, check_simple};

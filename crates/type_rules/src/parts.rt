@@ -2,10 +2,10 @@
 //! the rule on shapes at its object or list; what a part breaks has the name or the index as its
 //! first step.
 
-ghost use Rattle.std.specs.Prelude.{◌≡◌, [], ◌∷◌, Ok, IfOk, IfErr};
+ghost use Rattle.std.specs.Prelude.{◌≡◌, [], ◌∷◌, Bool, Ok, IfOk, IfErr};
 ghost use Rattle.std.specs.Fmt.{decimal};
-ghost use Rattle.json_span.specs.PlainView.{Value, plain_view, plain_items_view};
-ghost use Rattle.type_rules.specs.Answer.{IsFound, IsBreak, seen, member_of, item_of};
+ghost use Rattle.json_span.specs.PlainView.{Value, plain_view};
+ghost use Rattle.type_rules.specs.Answer.{IsFound, IsBreak, seen, along, member_of, item_of};
 ghost use Rattle.type_rules.specs.Checked.{Checked, under};
 ghost use Rattle.type_rules.specs.Forms.{number_in, text_in, each, list_in, some_in};
 
@@ -21,12 +21,13 @@ pub trait Part<'s> {
     /// What the part is, once it is checked.
     type Typed: Drop;
 
-    ghost part_in: { Value → Checked Self.Typed };
+    ghost part_in: { Bool → Value → Checked Self.Typed };
 
-    /// What the value is, or the first rule that it breaks.
-    fn check(alloc: Global, plain: &Plain<'s>) -> Result<Self::Typed, ValueFault<'s>>
-        ensures ok { IfOk result (λ part. part_in (plain_view plain.now) ≡ Ok part) }
-        ensures broken { IfErr result (IsBreak (part_in (plain_view plain.now))) };
+    /// What the value is, or the first rule that it breaks. Where `legacy` is true, lengths, times and colours may be
+    /// texts; every other part is alike for either.
+    fn check(alloc: Global, plain: &Plain<'s>, legacy: bool) -> Result<Self::Typed, ValueFault<'s>>
+        ensures ok { IfOk result (λ part. part_in legacy (plain_view plain.now) ≡ Ok part) }
+        ensures broken { IfErr result (IsBreak (part_in legacy (plain_view plain.now))) };
 }
 
 /// The part under a name.
@@ -34,12 +35,13 @@ pub fn part_under<'s, P: Part<'s>>(
     alloc: Global,
     members: &PlainFields<'s>,
     name: &'s str,
+    legacy: bool,
 ) -> Result<P::Typed, ValueFault<'s>>
-    ensures ok { IfOk result (IsFound (member_of P.part_in name.entry.now members.now)) }
-    ensures broken { IfErr result (IsBreak (member_of P.part_in name.entry.now members.now)) }
+    ensures ok { IfOk result (IsFound (member_of (P.part_in legacy) name.entry.now members.now)) }
+    ensures broken { IfErr result (IsBreak (member_of (P.part_in legacy) name.entry.now members.now)) }
 {
     let plain = required(alloc, members, name)?;
-    under(alloc, name, P::check(alloc, plain))
+    under(alloc, name, P::check(alloc, plain, legacy))
 }
 
 // The item with this index as a part.
@@ -47,11 +49,12 @@ fn part_of<'s, P: Part<'s>>(
     alloc: Global,
     i: usize,
     plain: &Plain<'s>,
+    legacy: bool,
 ) -> Result<P::Typed, ValueFault<'s>>
-    ensures ok { IfOk result (IsFound (under (decimal i) (seen P.part_in plain.now))) }
-    ensures broken { IfErr result (IsBreak (under (decimal i) (seen P.part_in plain.now))) }
+    ensures ok { IfOk result (IsFound (under (decimal i) (seen (P.part_in legacy) plain.now))) }
+    ensures broken { IfErr result (IsBreak (under (decimal i) (seen (P.part_in legacy) plain.now))) }
 {
-    at_item(alloc, i, P::check(alloc, plain))
+    at_item(alloc, i, P::check(alloc, plain, legacy))
 }
 
 /// The i-th item of a list as a part.
@@ -59,26 +62,28 @@ pub fn part_at<'s, P: Part<'s>>(
     alloc: Global,
     items: &PlainItems<'s>,
     i: usize,
+    legacy: bool,
 ) -> Result<P::Typed, ValueFault<'s>>
-    ensures ok { IfOk result (IsFound (item_of P.part_in i items.now)) }
-    ensures broken { IfErr result (IsBreak (item_of P.part_in i items.now)) }
+    ensures ok { IfOk result (IsFound (item_of (P.part_in legacy) i items.now)) }
+    ensures broken { IfErr result (IsBreak (item_of (P.part_in legacy) i items.now)) }
 {
     let plain = item(alloc, items, i)?;
-    part_of::<P>(alloc, i, plain)
+    part_of::<P>(alloc, i, plain, legacy)
 }
 
 /// Each item of a list as a part, the first to the last.
 pub fn each_part<'s, P: Part<'s>>(
     alloc: Global,
     items: &PlainItems<'s>,
+    legacy: bool,
 ) -> Result<Sequence<P::Typed>, ValueFault<'s>>
-    ensures ok { IfOk result (λ parts. each P.part_in 0 (plain_items_view items.now) ≡ Ok parts) }
-    ensures broken { IfErr result (IsBreak (each P.part_in 0 (plain_items_view items.now))) }
+    ensures ok { IfOk result (IsFound (along (each (P.part_in legacy) 0) items.now)) }
+    ensures broken { IfErr result (IsBreak (along (each (P.part_in legacy) 0) items.now)) }
 {
     let mut parts = Sequence::new(alloc);
     let list = items.as_slice();
     for (i, plain) in list.iter().enumerate() {
-        let part = part_of::<P>(alloc, i, plain)?;
+        let part = part_of::<P>(alloc, i, plain, legacy)?;
         parts.push(part)?;
     }
     Ok(parts)
@@ -88,12 +93,13 @@ pub fn each_part<'s, P: Part<'s>>(
 pub fn list_of<'s, P: Part<'s>>(
     alloc: Global,
     plain: &Plain<'s>,
+    legacy: bool,
 ) -> Result<Sequence<P::Typed>, ValueFault<'s>>
-    ensures ok { IfOk result (λ parts. list_in P.part_in (plain_view plain.now) ≡ Ok parts) }
-    ensures broken { IfErr result (IsBreak (list_in P.part_in (plain_view plain.now))) }
+    ensures ok { IfOk result (IsFound (seen (list_in (P.part_in legacy)) plain.now)) }
+    ensures broken { IfErr result (IsBreak (seen (list_in (P.part_in legacy)) plain.now)) }
 {
     let items = items_of(alloc, plain)?;
-    each_part::<P>(alloc, items)
+    each_part::<P>(alloc, items, legacy)
 }
 
 /// The items of the list of one or more that the value is, each as a part. A list of none breaks
@@ -101,12 +107,13 @@ pub fn list_of<'s, P: Part<'s>>(
 pub fn some_of<'s, P: Part<'s>>(
     alloc: Global,
     plain: &Plain<'s>,
+    legacy: bool,
 ) -> Result<Sequence<P::Typed>, ValueFault<'s>>
-    ensures ok { IfOk result (λ parts. some_in P.part_in (plain_view plain.now) ≡ Ok parts) }
-    ensures broken { IfErr result (IsBreak (some_in P.part_in (plain_view plain.now))) }
+    ensures ok { IfOk result (IsFound (seen (some_in (P.part_in legacy)) plain.now)) }
+    ensures broken { IfErr result (IsBreak (seen (some_in (P.part_in legacy)) plain.now)) }
 {
     let items = some_items_of(alloc, plain)?;
-    each_part::<P>(alloc, items)
+    each_part::<P>(alloc, items, legacy)
 }
 
 /// A list of one item.
@@ -122,9 +129,9 @@ pub fn one<T: Drop>(alloc: Global, item: T) -> Result<Sequence<T>, NoMemory>
 impl<'s> Part<'s> for Dec {
     type Typed = Dec;
 
-    ghost part_in = { number_in };
+    ghost part_in = { λ _. number_in };
 
-    fn check(alloc: Global, plain: &Plain<'s>) -> Result<Dec, ValueFault<'s>> {
+    fn check(alloc: Global, plain: &Plain<'s>, _legacy: bool) -> Result<Dec, ValueFault<'s>> {
         check_number(alloc, plain)
     }
 }
@@ -133,9 +140,9 @@ impl<'s> Part<'s> for Dec {
 impl<'s> Part<'s> for Text<'s> {
     type Typed = Text<'s>;
 
-    ghost part_in = { text_in };
+    ghost part_in = { λ _. text_in };
 
-    fn check(alloc: Global, plain: &Plain<'s>) -> Result<Text<'s>, ValueFault<'s>> {
+    fn check(alloc: Global, plain: &Plain<'s>, _legacy: bool) -> Result<Text<'s>, ValueFault<'s>> {
         let text = text_of(alloc, plain)?;
         Ok(text.copy()?)
     }

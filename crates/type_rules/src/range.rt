@@ -7,13 +7,20 @@ ghost use Rattle.type_rules.specs.Ranges.{holds, ranged};
 use crate::fault::{ValueFault, ValueRule, broken};
 use dec_fix::Dec;
 use std::alloc::Global;
+use std::fmt;
 
 /// A range of numbers, both ends included.
-#[derive(Clone, Copy, Debug, PartialEq, Eq)]
+#[derive(Clone, Copy, PartialEq, Eq)]
 pub enum Range {
     Free,
     AtLeast(u16),
     Within(u16, u16),
+}
+
+impl fmt::Debug for Range {
+    fn fmt<W: fmt::Write>(&self, f: &mut fmt::Formatter<W>) -> fmt::Result {
+        f.write_str("Range")
+    }
 }
 
 impl Range {

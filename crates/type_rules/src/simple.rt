@@ -1,9 +1,8 @@
 //! Values of the simple kinds.
 
-ghost use Rattle.std.specs.Prelude.{◌≡◌, true, Ok, IfOk, IfErr};
-ghost use Rattle.json_span.specs.PlainView.{plain_view};
+ghost use Rattle.std.specs.Prelude.{◌≡◌, true, IfOk, IfErr};
 ghost use Rattle.name_path.specs.Kinds.{is_simple_kind};
-ghost use Rattle.type_rules.specs.Answer.{IsBreak};
+ghost use Rattle.type_rules.specs.Answer.{IsFound, IsBreak, seen};
 ghost use Rattle.type_rules.specs.Sound.{kind_of};
 ghost use Rattle.type_rules.specs.Value.{simple_value};
 
@@ -20,9 +19,10 @@ use dec_fix::Dec;
 use json_span::Plain;
 use name_path::Kind;
 use std::alloc::Global;
+use std::fmt;
 
 /// A value of a kind whose values are made of no values of other kinds.
-#[derive(Debug, Drop)]
+#[derive(Drop)]
 pub enum Simple<'s> {
     Color(Color),
     Dimension(Size),
@@ -32,6 +32,12 @@ pub enum Simple<'s> {
     Duration(Time),
     CubicBezier(Curve),
     Number(Dec),
+}
+
+impl fmt::Debug for Simple<'_> {
+    fn fmt<W: fmt::Write>(&self, f: &mut fmt::Formatter<W>) -> fmt::Result {
+        f.write_str("Simple")
+    }
 }
 
 impl<'s> Simple<'s> {
@@ -52,7 +58,8 @@ impl<'s> Simple<'s> {
 }
 
 /// The value under a kind whose values are made of no values of other kinds, or the first rule that
-/// it breaks.
+/// it breaks. Where `legacy` is true, a text stands for a length, a time or a colour: a JSON number
+/// that its unit follows directly, or `#` and six or eight hexadecimal digits.
 ///
 /// # Errors
 /// `Broken` with the first broken rule in the order of the kind's parts, and the steps to the part
@@ -61,18 +68,19 @@ pub fn check_simple<'s>(
     alloc: Global,
     kind: Kind,
     plain: &Plain<'s>,
+    legacy: bool,
 ) -> Result<Simple<'s>, ValueFault<'s>>
     requires { is_simple_kind kind ≡ true }
-    ensures ok { IfOk result (λ simple. simple_value kind (plain_view plain.now) ≡ Ok simple) }
-    ensures broken { IfErr result (IsBreak (simple_value kind (plain_view plain.now))) }
+    ensures ok { IfOk result (IsFound (seen (simple_value legacy kind) plain.now)) }
+    ensures broken { IfErr result (IsBreak (seen (simple_value legacy kind) plain.now)) }
 {
     match kind {
-        Kind::Color => Ok(Simple::Color(Color::check(alloc, plain)?)),
-        Kind::Dimension => Ok(Simple::Dimension(Size::check(alloc, plain)?)),
-        Kind::FontFamily => Ok(Simple::FontFamily(Families::check(alloc, plain)?)),
-        Kind::FontWeight => Ok(Simple::FontWeight(Weight::check(alloc, plain)?)),
-        Kind::Duration => Ok(Simple::Duration(Time::check(alloc, plain)?)),
-        Kind::CubicBezier => Ok(Simple::CubicBezier(Curve::check(alloc, plain)?)),
+        Kind::Color => Ok(Simple::Color(Color::check(alloc, plain, legacy)?)),
+        Kind::Dimension => Ok(Simple::Dimension(Size::check(alloc, plain, legacy)?)),
+        Kind::FontFamily => Ok(Simple::FontFamily(Families::check(alloc, plain, legacy)?)),
+        Kind::FontWeight => Ok(Simple::FontWeight(Weight::check(alloc, plain, legacy)?)),
+        Kind::Duration => Ok(Simple::Duration(Time::check(alloc, plain, legacy)?)),
+        Kind::CubicBezier => Ok(Simple::CubicBezier(Curve::check(alloc, plain, legacy)?)),
         Kind::Number => Ok(Simple::Number(check_number(alloc, plain)?)),
         Kind::StrokeStyle
         | Kind::Border

@@ -39,14 +39,15 @@ impl SizeUnit {
     }
 }
 
-/// An object of a number `value` and a word `unit`, `px` or `rem`, checked in this order.
+/// An object of a number `value` and a word `unit`, `px` or `rem`, checked in this order. Where
+/// `legacy` is true, also a text, as `16px`.
 impl<'s> Part<'s> for Size {
     type Typed = Size;
 
     ghost part_in = { size_in };
 
-    fn check(alloc: Global, plain: &Plain<'s>) -> Result<Size, ValueFault<'s>> {
-        let (value, unit) = measure_of(alloc, ValueRule::DimensionUnit, &UNITS, plain)?;
+    fn check(alloc: Global, plain: &Plain<'s>, legacy: bool) -> Result<Size, ValueFault<'s>> {
+        let (value, unit) = measure_of(alloc, ValueRule::DimensionUnit, &UNITS, plain, legacy)?;
         Ok(Size { value, unit })
     }
 }

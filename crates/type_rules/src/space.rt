@@ -5,9 +5,10 @@ ghost use Rattle.type_rules.specs.Ranges.{ranges_of};
 ghost use Rattle.type_rules.specs.Words.{space_name};
 
 use crate::range::Range;
+use std::fmt;
 
 /// The space in which the components of a colour stand (Color Module 2025.10).
-#[derive(Clone, Copy, Debug, PartialEq, Eq)]
+#[derive(Clone, Copy, PartialEq, Eq)]
 pub enum Space {
     Srgb,
     SrgbLinear,
@@ -25,8 +26,14 @@ pub enum Space {
     Oklch,
 }
 
+impl fmt::Debug for Space {
+    fn fmt<W: fmt::Write>(&self, f: &mut fmt::Formatter<W>) -> fmt::Result {
+        f.write_str(self.name())
+    }
+}
+
 /// The ranges of the three components of a colour.
-#[derive(Clone, Copy, Debug)]
+#[derive(Clone, Copy)]
 pub(crate) struct Ranges {
     pub first: Range,
     pub second: Range,

@@ -39,14 +39,15 @@ impl TimeUnit {
     }
 }
 
-/// An object of a number `value` and a word `unit`, `ms` or `s`, checked in this order.
+/// An object of a number `value` and a word `unit`, `ms` or `s`, checked in this order. Where
+/// `legacy` is true, also a text, as `200ms`.
 impl<'s> Part<'s> for Time {
     type Typed = Time;
 
     ghost part_in = { time_in };
 
-    fn check(alloc: Global, plain: &Plain<'s>) -> Result<Time, ValueFault<'s>> {
-        let (value, unit) = measure_of(alloc, ValueRule::DurationUnit, &UNITS, plain)?;
+    fn check(alloc: Global, plain: &Plain<'s>, legacy: bool) -> Result<Time, ValueFault<'s>> {
+        let (value, unit) = measure_of(alloc, ValueRule::DurationUnit, &UNITS, plain, legacy)?;
         Ok(Time { value, unit })
     }
 }

@@ -65,9 +65,9 @@ pub struct Weight;
 impl<'s> Part<'s> for Weight {
     type Typed = Dec;
 
-    ghost part_in = { weight_in };
+    ghost part_in = { λ _. weight_in };
 
-    fn check(alloc: Global, plain: &Plain<'s>) -> Result<Dec, ValueFault<'s>> {
+    fn check(alloc: Global, plain: &Plain<'s>, _legacy: bool) -> Result<Dec, ValueFault<'s>> {
         match plain.as_text() {
             Some(word) => weight_of_word(alloc, word.as_str()),
             None => weight_of_number(alloc, plain),

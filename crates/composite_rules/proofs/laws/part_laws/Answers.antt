@@ -4,6 +4,6 @@ use Rattle.composite_rules.proofs.laws.part_laws.Goals as goal
 
 pub returns : goal.returns
 returns c = record {
-  typed = λ kind v w t part steps e p q. parts_typed kind v w t part steps e p q;
-  stand = λ kind v t part steps e p f. parts_stand kind v t e steps part p f;
+  typed = λ legacy kind v w t part steps e p q. parts_typed legacy kind v w t part steps e p q;
+  stand = λ legacy kind v t part steps e p f. parts_stand legacy kind v t e steps part p f;
 }

@@ -6,7 +6,7 @@ use Rattle.composite_rules.proofs.shadow.one_item.Goals as goal
 
 pub returns-in_err-item-clause-broken : goal.returns-in_err-item-clause-broken
 unfolding one_item
-returns-in_err-item-clause-broken c = stays (shadow_item_in (plain_view c.args.plain.now)) _ _ _ c.from_residual.ensures.1 c.in_err-item.ensures.broken
+returns-in_err-item-clause-broken c = stays (shadow_item_in c.args.legacy (plain_view c.args.plain.now)) _ _ _ c.from_residual.ensures.1 c.in_err-item.ensures.broken
 
 pub returns-clause-ok : goal.returns-clause-ok
 unfolding one_item

@@ -15,7 +15,7 @@ returns-in_err-members-clause-broken c = stays (members_in (plain_view c.args.pl
 
 pub returns-in_err-lengths-clause-broken : goal.returns-in_err-lengths-clause-broken
 unfolding dashes_in
-returns-in_err-lengths-clause-broken c = rw c.in_ok-members.ensures.ok (stays (member (list_in size_in) (codes "dashArray") (plain_fields_view c.in_ok-members.members.now)) _ _ _ c.from_residual-in_err-lengths.ensures.1 c.in_err-lengths.ensures.broken)
+returns-in_err-lengths-clause-broken c = rw c.in_ok-members.ensures.ok (stays (member (list_in (size_in c.args.legacy)) (codes "dashArray") (plain_fields_view c.in_ok-members.members.now)) _ _ _ c.from_residual-in_err-lengths.ensures.1 c.in_err-lengths.ensures.broken)
 
 pub returns-in_err-cap-clause-broken : goal.returns-in_err-cap-clause-broken
 unfolding dashes_in

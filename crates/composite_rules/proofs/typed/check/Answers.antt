@@ -6,7 +6,7 @@ use Rattle.composite_rules.proofs.typed.check.Goals as goal
 
 pub returns-in_err-check-in-StrokeStyle-clause-broken : goal.returns-in_err-check-in-StrokeStyle-clause-broken
 unfolding value_of
-returns-in_err-check-in-StrokeStyle-clause-broken c = rw c.in-StrokeStyle.is (stays (stroke_in (plain_view c.args.plain.now)) _ _ _ c.from_residual.ensures.1 c.in_err-check-in-StrokeStyle.ensures.broken)
+returns-in_err-check-in-StrokeStyle-clause-broken c = rw c.in-StrokeStyle.is (stays (stroke_in c.args.legacy (plain_view c.args.plain.now)) _ _ _ c.from_residual.ensures.1 c.in_err-check-in-StrokeStyle.ensures.broken)
 
 pub returns-in_ok-check-in-StrokeStyle-clause-ok : goal.returns-in_ok-check-in-StrokeStyle-clause-ok
 unfolding value_of
@@ -14,7 +14,7 @@ returns-in_ok-check-in-StrokeStyle-clause-ok c = rw (c.in-StrokeStyle.is, c.in_o
 
 pub returns-in_err-check-in-Border-clause-broken : goal.returns-in_err-check-in-Border-clause-broken
 unfolding value_of
-returns-in_err-check-in-Border-clause-broken c = rw c.in-Border.is (stays (border_in (plain_view c.args.plain.now)) _ _ _ c.from_residual-in_err-check-in-Border.ensures.1 c.in_err-check-in-Border.ensures.broken)
+returns-in_err-check-in-Border-clause-broken c = rw c.in-Border.is (stays (border_in c.args.legacy (plain_view c.args.plain.now)) _ _ _ c.from_residual-in_err-check-in-Border.ensures.1 c.in_err-check-in-Border.ensures.broken)
 
 pub returns-in_ok-check-in-Border-clause-ok : goal.returns-in_ok-check-in-Border-clause-ok
 unfolding value_of
@@ -22,7 +22,7 @@ returns-in_ok-check-in-Border-clause-ok c = rw (c.in-Border.is, c.in_ok-check-in
 
 pub returns-in_err-check-in-Transition-clause-broken : goal.returns-in_err-check-in-Transition-clause-broken
 unfolding value_of
-returns-in_err-check-in-Transition-clause-broken c = rw c.in-Transition.is (stays (transition_in (plain_view c.args.plain.now)) _ _ _ c.from_residual-in_err-check-in-Transition.ensures.1 c.in_err-check-in-Transition.ensures.broken)
+returns-in_err-check-in-Transition-clause-broken c = rw c.in-Transition.is (stays (transition_in c.args.legacy (plain_view c.args.plain.now)) _ _ _ c.from_residual-in_err-check-in-Transition.ensures.1 c.in_err-check-in-Transition.ensures.broken)
 
 pub returns-in_ok-check-in-Transition-clause-ok : goal.returns-in_ok-check-in-Transition-clause-ok
 unfolding value_of
@@ -30,7 +30,7 @@ returns-in_ok-check-in-Transition-clause-ok c = rw (c.in-Transition.is, c.in_ok-
 
 pub returns-in_err-shadows_of-in-Shadow-clause-broken : goal.returns-in_err-shadows_of-in-Shadow-clause-broken
 unfolding value_of
-returns-in_err-shadows_of-in-Shadow-clause-broken c = rw c.in-Shadow.is (stays (shadows_in (plain_view c.args.plain.now)) _ _ _ c.from_residual-in_err-shadows_of-in-Shadow.ensures.1 c.in_err-shadows_of-in-Shadow.ensures.broken)
+returns-in_err-shadows_of-in-Shadow-clause-broken c = rw c.in-Shadow.is (stays (shadows_in c.args.legacy (plain_view c.args.plain.now)) _ _ _ c.from_residual-in_err-shadows_of-in-Shadow.ensures.1 c.in_err-shadows_of-in-Shadow.ensures.broken)
 
 pub returns-in_ok-shadows_of-in-Shadow-clause-ok : goal.returns-in_ok-shadows_of-in-Shadow-clause-ok
 unfolding value_of
@@ -38,7 +38,7 @@ returns-in_ok-shadows_of-in-Shadow-clause-ok c = rw (c.in-Shadow.is, c.in_ok-sha
 
 pub returns-in_err-stops_of-in-Gradient-clause-broken : goal.returns-in_err-stops_of-in-Gradient-clause-broken
 unfolding value_of
-returns-in_err-stops_of-in-Gradient-clause-broken c = rw c.in-Gradient.is (stays (gradient_in (plain_view c.args.plain.now)) _ _ _ c.from_residual-in_err-stops_of-in-Gradient.ensures.1 c.in_err-stops_of-in-Gradient.ensures.broken)
+returns-in_err-stops_of-in-Gradient-clause-broken c = rw c.in-Gradient.is (stays (gradient_in c.args.legacy (plain_view c.args.plain.now)) _ _ _ c.from_residual-in_err-stops_of-in-Gradient.ensures.1 c.in_err-stops_of-in-Gradient.ensures.broken)
 
 pub returns-in_ok-stops_of-in-Gradient-clause-ok : goal.returns-in_ok-stops_of-in-Gradient-clause-ok
 unfolding value_of
@@ -46,7 +46,7 @@ returns-in_ok-stops_of-in-Gradient-clause-ok c = rw (c.in-Gradient.is, c.in_ok-s
 
 pub returns-in_err-check-in-Typography-clause-broken : goal.returns-in_err-check-in-Typography-clause-broken
 unfolding value_of
-returns-in_err-check-in-Typography-clause-broken c = rw c.in-Typography.is (stays (typography_in (plain_view c.args.plain.now)) _ _ _ c.from_residual-in_err-check-in-Typography.ensures.1 c.in_err-check-in-Typography.ensures.broken)
+returns-in_err-check-in-Typography-clause-broken c = rw c.in-Typography.is (stays (typography_in c.args.legacy (plain_view c.args.plain.now)) _ _ _ c.from_residual-in_err-check-in-Typography.ensures.1 c.in_err-check-in-Typography.ensures.broken)
 
 pub returns-in_ok-check-in-Typography-clause-ok : goal.returns-in_ok-check-in-Typography-clause-ok
 unfolding value_of

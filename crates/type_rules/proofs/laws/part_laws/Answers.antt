@@ -4,13 +4,13 @@ use Rattle.type_rules.proofs.laws.part_laws.Goals as goal
 
 pub returns : goal.returns
 returns c = record {
-  colors = λ v x e. colors_keep v x e;
-  sizes = λ v x e. sizes_keep v x e;
-  times = λ v x e. times_keep v x e;
+  colors = λ legacy v x e. colors_keep legacy v x e;
+  sizes = λ legacy v x e. sizes_keep legacy v x e;
+  times = λ legacy v x e. times_keep legacy v x e;
   curves = λ v x e. curves_keep v x e;
   families = λ v x e. families_keep v x e;
   weights = λ v x e. weights_keep v x e;
   numbers = λ v x e. numbers_keep v x e;
   shares = λ d t. shares_are_parts d t;
-  breaks = (colors_lead, sizes_lead, times_lead, curves_lead, families_lead, weights_lead, numbers_lead);
+  breaks = ((λ legacy. (colors_lead legacy, sizes_lead legacy, times_lead legacy)), curves_lead, families_lead, weights_lead, numbers_lead);
 }

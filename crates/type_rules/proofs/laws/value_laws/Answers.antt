@@ -5,8 +5,8 @@ use Rattle.type_rules.proofs.laws.value_laws.Goals as goal
 
 pub returns : goal.returns
 returns c = record {
-  kinds = λ kind v s e. (values_keep kind v s e).0;
-  keeps = λ kind v s e. (values_keep kind v s e).1;
-  written = λ s h. values_some s h;
-  breaks = λ kind v b e. values_lead kind v b e;
+  kinds = λ legacy kind v s e. (values_keep legacy kind v s e).0;
+  keeps = λ legacy kind v s e. (values_keep legacy kind v s e).1;
+  written = λ legacy s h. values_some legacy s h;
+  breaks = λ legacy kind v b e. values_lead legacy kind v b e;
 }

@@ -7,7 +7,7 @@ use Rattle.type_rules.proofs.simple.check_simple.Goals as goal
 
 pub returns-in_err-check-in-Color-clause-broken : goal.returns-in_err-check-in-Color-clause-broken
 unfolding simple_value
-returns-in_err-check-in-Color-clause-broken c = rw c.in-Color.is (stays (color_in (plain_view c.args.plain.now)) _ _ _ c.from_residual.ensures.1 c.in_err-check-in-Color.ensures.broken)
+returns-in_err-check-in-Color-clause-broken c = rw c.in-Color.is (stays (color_in c.args.legacy (plain_view c.args.plain.now)) _ _ _ c.from_residual.ensures.1 c.in_err-check-in-Color.ensures.broken)
 
 pub returns-in_ok-check-in-Color-clause-ok : goal.returns-in_ok-check-in-Color-clause-ok
 unfolding simple_value
@@ -15,7 +15,7 @@ returns-in_ok-check-in-Color-clause-ok c = rw (c.in-Color.is, c.in_ok-check-in-C
 
 pub returns-in_err-check-in-Dimension-clause-broken : goal.returns-in_err-check-in-Dimension-clause-broken
 unfolding simple_value
-returns-in_err-check-in-Dimension-clause-broken c = rw c.in-Dimension.is (stays (size_in (plain_view c.args.plain.now)) _ _ _ c.from_residual-in_err-check-in-Dimension.ensures.1 c.in_err-check-in-Dimension.ensures.broken)
+returns-in_err-check-in-Dimension-clause-broken c = rw c.in-Dimension.is (stays (size_in c.args.legacy (plain_view c.args.plain.now)) _ _ _ c.from_residual-in_err-check-in-Dimension.ensures.1 c.in_err-check-in-Dimension.ensures.broken)
 
 pub returns-in_ok-check-in-Dimension-clause-ok : goal.returns-in_ok-check-in-Dimension-clause-ok
 unfolding simple_value
@@ -39,7 +39,7 @@ returns-in_ok-check-in-FontWeight-clause-ok c = rw (c.in-FontWeight.is, c.in_ok-
 
 pub returns-in_err-check-in-Duration-clause-broken : goal.returns-in_err-check-in-Duration-clause-broken
 unfolding simple_value
-returns-in_err-check-in-Duration-clause-broken c = rw c.in-Duration.is (stays (time_in (plain_view c.args.plain.now)) _ _ _ c.from_residual-in_err-check-in-Duration.ensures.1 c.in_err-check-in-Duration.ensures.broken)
+returns-in_err-check-in-Duration-clause-broken c = rw c.in-Duration.is (stays (time_in c.args.legacy (plain_view c.args.plain.now)) _ _ _ c.from_residual-in_err-check-in-Duration.ensures.1 c.in_err-check-in-Duration.ensures.broken)
 
 pub returns-in_ok-check-in-Duration-clause-ok : goal.returns-in_ok-check-in-Duration-clause-ok
 unfolding simple_value

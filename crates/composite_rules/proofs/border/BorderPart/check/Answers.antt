@@ -12,15 +12,15 @@ returns-in_err-members-clause-broken c = stays (members_in (plain_view c.args.pl
 
 pub returns-in_err-color-clause-broken : goal.returns-in_err-color-clause-broken
 unfolding border_in
-returns-in_err-color-clause-broken c = rw c.in_ok-members.ensures.ok (stays (member color_in (codes "color") (plain_fields_view c.in_ok-members.members.now)) _ _ _ c.from_residual-in_err-color.ensures.1 c.in_err-color.ensures.broken)
+returns-in_err-color-clause-broken c = rw c.in_ok-members.ensures.ok (stays (member (color_in c.args.legacy) (codes "color") (plain_fields_view c.in_ok-members.members.now)) _ _ _ c.from_residual-in_err-color.ensures.1 c.in_err-color.ensures.broken)
 
 pub returns-in_err-width-clause-broken : goal.returns-in_err-width-clause-broken
 unfolding border_in
-returns-in_err-width-clause-broken c = rw (c.in_ok-members.ensures.ok, c.in_ok-color.ensures.ok) (stays (member size_in (codes "width") (plain_fields_view c.in_ok-members.members.now)) _ _ _ c.from_residual-in_err-width.ensures.1 c.in_err-width.ensures.broken)
+returns-in_err-width-clause-broken c = rw (c.in_ok-members.ensures.ok, c.in_ok-color.ensures.ok) (stays (member (size_in c.args.legacy) (codes "width") (plain_fields_view c.in_ok-members.members.now)) _ _ _ c.from_residual-in_err-width.ensures.1 c.in_err-width.ensures.broken)
 
 pub returns-in_err-style-clause-broken : goal.returns-in_err-style-clause-broken
 unfolding border_in
-returns-in_err-style-clause-broken c = rw (c.in_ok-members.ensures.ok, c.in_ok-color.ensures.ok, c.in_ok-width.ensures.ok) (stays (member stroke_in (codes "style") (plain_fields_view c.in_ok-members.members.now)) _ _ _ c.from_residual-in_err-style.ensures.1 c.in_err-style.ensures.broken)
+returns-in_err-style-clause-broken c = rw (c.in_ok-members.ensures.ok, c.in_ok-color.ensures.ok, c.in_ok-width.ensures.ok) (stays (member (stroke_in c.args.legacy) (codes "style") (plain_fields_view c.in_ok-members.members.now)) _ _ _ c.from_residual-in_err-style.ensures.1 c.in_err-style.ensures.broken)
 
 pub returns-clause-ok : goal.returns-clause-ok
 unfolding border_in

@@ -12,7 +12,7 @@ returns-in_err-members-clause-broken c = stays (members_in (plain_view c.args.pl
 
 pub returns-in_err-color-clause-broken : goal.returns-in_err-color-clause-broken
 unfolding stop_in
-returns-in_err-color-clause-broken c = rw c.in_ok-members.ensures.ok (stays (member color_in (codes "color") (plain_fields_view c.in_ok-members.members.now)) _ _ _ c.from_residual-in_err-color.ensures.1 c.in_err-color.ensures.broken)
+returns-in_err-color-clause-broken c = rw c.in_ok-members.ensures.ok (stays (member (color_in c.args.legacy) (codes "color") (plain_fields_view c.in_ok-members.members.now)) _ _ _ c.from_residual-in_err-color.ensures.1 c.in_err-color.ensures.broken)
 
 pub returns-in_err-position-clause-broken : goal.returns-in_err-position-clause-broken
 unfolding stop_in

@@ -13,23 +13,23 @@ returns-in_err-members-clause-broken c = stays (members_in (plain_view c.args.pl
 
 pub returns-in_err-color-clause-broken : goal.returns-in_err-color-clause-broken
 unfolding shadow_item_in
-returns-in_err-color-clause-broken c = rw c.in_ok-members.ensures.ok (stays (member color_in (codes "color") (plain_fields_view c.in_ok-members.members.now)) _ _ _ c.from_residual-in_err-color.ensures.1 c.in_err-color.ensures.broken)
+returns-in_err-color-clause-broken c = rw c.in_ok-members.ensures.ok (stays (member (color_in c.args.legacy) (codes "color") (plain_fields_view c.in_ok-members.members.now)) _ _ _ c.from_residual-in_err-color.ensures.1 c.in_err-color.ensures.broken)
 
 pub returns-in_err-offset_x-clause-broken : goal.returns-in_err-offset_x-clause-broken
 unfolding shadow_item_in
-returns-in_err-offset_x-clause-broken c = rw (c.in_ok-members.ensures.ok, c.in_ok-color.ensures.ok) (stays (member size_in (codes "offsetX") (plain_fields_view c.in_ok-members.members.now)) _ _ _ c.from_residual-in_err-offset_x.ensures.1 c.in_err-offset_x.ensures.broken)
+returns-in_err-offset_x-clause-broken c = rw (c.in_ok-members.ensures.ok, c.in_ok-color.ensures.ok) (stays (member (size_in c.args.legacy) (codes "offsetX") (plain_fields_view c.in_ok-members.members.now)) _ _ _ c.from_residual-in_err-offset_x.ensures.1 c.in_err-offset_x.ensures.broken)
 
 pub returns-in_err-offset_y-clause-broken : goal.returns-in_err-offset_y-clause-broken
 unfolding shadow_item_in
-returns-in_err-offset_y-clause-broken c = rw (c.in_ok-members.ensures.ok, c.in_ok-color.ensures.ok, c.in_ok-offset_x.ensures.ok) (stays (member size_in (codes "offsetY") (plain_fields_view c.in_ok-members.members.now)) _ _ _ c.from_residual-in_err-offset_y.ensures.1 c.in_err-offset_y.ensures.broken)
+returns-in_err-offset_y-clause-broken c = rw (c.in_ok-members.ensures.ok, c.in_ok-color.ensures.ok, c.in_ok-offset_x.ensures.ok) (stays (member (size_in c.args.legacy) (codes "offsetY") (plain_fields_view c.in_ok-members.members.now)) _ _ _ c.from_residual-in_err-offset_y.ensures.1 c.in_err-offset_y.ensures.broken)
 
 pub returns-in_err-blur-clause-broken : goal.returns-in_err-blur-clause-broken
 unfolding shadow_item_in
-returns-in_err-blur-clause-broken c = rw (c.in_ok-members.ensures.ok, c.in_ok-color.ensures.ok, c.in_ok-offset_x.ensures.ok, c.in_ok-offset_y.ensures.ok) (stays (member size_in (codes "blur") (plain_fields_view c.in_ok-members.members.now)) _ _ _ c.from_residual-in_err-blur.ensures.1 c.in_err-blur.ensures.broken)
+returns-in_err-blur-clause-broken c = rw (c.in_ok-members.ensures.ok, c.in_ok-color.ensures.ok, c.in_ok-offset_x.ensures.ok, c.in_ok-offset_y.ensures.ok) (stays (member (size_in c.args.legacy) (codes "blur") (plain_fields_view c.in_ok-members.members.now)) _ _ _ c.from_residual-in_err-blur.ensures.1 c.in_err-blur.ensures.broken)
 
 pub returns-in_err-spread-clause-broken : goal.returns-in_err-spread-clause-broken
 unfolding shadow_item_in
-returns-in_err-spread-clause-broken c = rw (c.in_ok-members.ensures.ok, c.in_ok-color.ensures.ok, c.in_ok-offset_x.ensures.ok, c.in_ok-offset_y.ensures.ok, c.in_ok-blur.ensures.ok) (stays (member size_in (codes "spread") (plain_fields_view c.in_ok-members.members.now)) _ _ _ c.from_residual-in_err-spread.ensures.1 c.in_err-spread.ensures.broken)
+returns-in_err-spread-clause-broken c = rw (c.in_ok-members.ensures.ok, c.in_ok-color.ensures.ok, c.in_ok-offset_x.ensures.ok, c.in_ok-offset_y.ensures.ok, c.in_ok-blur.ensures.ok) (stays (member (size_in c.args.legacy) (codes "spread") (plain_fields_view c.in_ok-members.members.now)) _ _ _ c.from_residual-in_err-spread.ensures.1 c.in_err-spread.ensures.broken)
 
 pub returns-in_err-inset-clause-broken : goal.returns-in_err-inset-clause-broken
 unfolding shadow_item_in

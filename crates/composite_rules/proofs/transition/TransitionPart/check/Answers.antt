@@ -12,11 +12,11 @@ returns-in_err-members-clause-broken c = stays (members_in (plain_view c.args.pl
 
 pub returns-in_err-duration-clause-broken : goal.returns-in_err-duration-clause-broken
 unfolding transition_in
-returns-in_err-duration-clause-broken c = rw c.in_ok-members.ensures.ok (stays (member time_in (codes "duration") (plain_fields_view c.in_ok-members.members.now)) _ _ _ c.from_residual-in_err-duration.ensures.1 c.in_err-duration.ensures.broken)
+returns-in_err-duration-clause-broken c = rw c.in_ok-members.ensures.ok (stays (member (time_in c.args.legacy) (codes "duration") (plain_fields_view c.in_ok-members.members.now)) _ _ _ c.from_residual-in_err-duration.ensures.1 c.in_err-duration.ensures.broken)
 
 pub returns-in_err-delay-clause-broken : goal.returns-in_err-delay-clause-broken
 unfolding transition_in
-returns-in_err-delay-clause-broken c = rw (c.in_ok-members.ensures.ok, c.in_ok-duration.ensures.ok) (stays (member time_in (codes "delay") (plain_fields_view c.in_ok-members.members.now)) _ _ _ c.from_residual-in_err-delay.ensures.1 c.in_err-delay.ensures.broken)
+returns-in_err-delay-clause-broken c = rw (c.in_ok-members.ensures.ok, c.in_ok-duration.ensures.ok) (stays (member (time_in c.args.legacy) (codes "delay") (plain_fields_view c.in_ok-members.members.now)) _ _ _ c.from_residual-in_err-delay.ensures.1 c.in_err-delay.ensures.broken)
 
 pub returns-in_err-timing-clause-broken : goal.returns-in_err-timing-clause-broken
 unfolding transition_in

@@ -16,7 +16,7 @@ returns-in_err-family-clause-broken c = rw c.in_ok-members.ensures.ok (stays (me
 
 pub returns-in_err-size-clause-broken : goal.returns-in_err-size-clause-broken
 unfolding typography_in
-returns-in_err-size-clause-broken c = rw (c.in_ok-members.ensures.ok, c.in_ok-family.ensures.ok) (stays (member size_in (codes "fontSize") (plain_fields_view c.in_ok-members.members.now)) _ _ _ c.from_residual-in_err-size.ensures.1 c.in_err-size.ensures.broken)
+returns-in_err-size-clause-broken c = rw (c.in_ok-members.ensures.ok, c.in_ok-family.ensures.ok) (stays (member (size_in c.args.legacy) (codes "fontSize") (plain_fields_view c.in_ok-members.members.now)) _ _ _ c.from_residual-in_err-size.ensures.1 c.in_err-size.ensures.broken)
 
 pub returns-in_err-weight-clause-broken : goal.returns-in_err-weight-clause-broken
 unfolding typography_in
@@ -24,7 +24,7 @@ returns-in_err-weight-clause-broken c = rw (c.in_ok-members.ensures.ok, c.in_ok-
 
 pub returns-in_err-spacing-clause-broken : goal.returns-in_err-spacing-clause-broken
 unfolding typography_in
-returns-in_err-spacing-clause-broken c = rw (c.in_ok-members.ensures.ok, c.in_ok-family.ensures.ok, c.in_ok-size.ensures.ok, c.in_ok-weight.ensures.ok) (stays (member size_in (codes "letterSpacing") (plain_fields_view c.in_ok-members.members.now)) _ _ _ c.from_residual-in_err-spacing.ensures.1 c.in_err-spacing.ensures.broken)
+returns-in_err-spacing-clause-broken c = rw (c.in_ok-members.ensures.ok, c.in_ok-family.ensures.ok, c.in_ok-size.ensures.ok, c.in_ok-weight.ensures.ok) (stays (member (size_in c.args.legacy) (codes "letterSpacing") (plain_fields_view c.in_ok-members.members.now)) _ _ _ c.from_residual-in_err-spacing.ensures.1 c.in_err-spacing.ensures.broken)
 
 pub returns-in_err-line_height-clause-broken : goal.returns-in_err-line_height-clause-broken
 unfolding typography_in

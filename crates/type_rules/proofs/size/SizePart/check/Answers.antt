@@ -8,7 +8,7 @@ use Rattle.type_rules.proofs.size.SizePart.check.Goals as goal
 
 pub returns-in_err-value-clause-broken : goal.returns-in_err-value-clause-broken
 unfolding size_in
-returns-in_err-value-clause-broken c = stays (measure_in DimensionUnit size_units (plain_view c.args.plain.now)) _ _ _ c.from_residual.ensures.1 c.in_err-value.ensures.broken
+returns-in_err-value-clause-broken c = stays (measure_in c.args.legacy DimensionUnit size_units (plain_view c.args.plain.now)) _ _ _ c.from_residual.ensures.1 c.in_err-value.ensures.broken
 
 pub returns-clause-ok : goal.returns-clause-ok
 unfolding size_in
