@@ -16,14 +16,14 @@ use transforms::{Config, scale_rem};
 use type_rules::{Color, Simple, Size, SizeUnit, Space, Time, TimeUnit};
 
 /// The unit of a length.
-#[derive(Clone, Copy, Debug)]
+#[derive(Clone, Copy)]
 pub(crate) enum DimenUnit {
     Dp,
     Sp,
 }
 
 /// What an element holds.
-#[derive(Clone, Copy, Debug)]
+#[derive(Clone, Copy)]
 pub(crate) enum Content<'a> {
     /// The bytes of alpha, red, green and blue.
     Color(u8, u8, u8, u8),

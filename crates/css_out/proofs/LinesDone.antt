@@ -20,10 +20,10 @@ pub alone_done : (l : Line) (name : List ℕ) (ps : List Piece) → l.text ≡ [
 alone_done l name ps none =
     line_done l name ps ∙ ap (λ t. t ++ line_text (declared name ps)) none ∙ sym (append-nil (line_text (declared name ps)))
 
--- five texts, one after the other
-pub five_texts : (t u v w x y a b c d e : List ℕ) → t ≡ [] → u ≡ t ++ a → v ≡ u ++ b → w ≡ v ++ c → x ≡ w ++ d → y ≡ x ++ e → y ≡ a ++ (b ++ (c ++ (d ++ (e ++ []))))
-five_texts t u v w x y a b c d e h i j k l m = rw (m, l, k, j, i, h, append-nil e) (simp append_assoc)
+-- five texts, and five names, one after the other
+pub five_texts : (t u v w x y a b c d e : List ℕ) → u ≡ t ++ a → v ≡ u ++ b → w ≡ v ++ c → x ≡ w ++ d → y ≡ x ++ e → y ≡ t ++ (a ++ (b ++ (c ++ (d ++ (e ++ [])))))
+five_texts t u v w x y a b c d e i j k l m = rw (m, l, k, j, i, append-nil e) (simp append_assoc)
 
-pub five_names : (t u v w x y : List (List ℕ)) (a b c d e : List ℕ) → t ≡ [] → u ≡ t ++ a ∷ [] → v ≡ u ++ b ∷ [] → w ≡ v ++ c ∷ [] → x ≡ w ++ d ∷ [] → y ≡ x ++ e ∷ []
-    → y ≡ a ∷ b ∷ c ∷ d ∷ e ∷ []
-five_names t u v w x y a b c d e h i j k l m = rw (m, l, k, j, i, h) refl
+pub five_names : (t u v w x y : List (List ℕ)) (a b c d e : List ℕ) → u ≡ t ++ a ∷ [] → v ≡ u ++ b ∷ [] → w ≡ v ++ c ∷ [] → x ≡ w ++ d ∷ [] → y ≡ x ++ e ∷ []
+    → y ≡ t ++ (a ∷ b ∷ c ∷ d ∷ e ∷ [])
+five_names t u v w x y a b c d e i j k l m = rw (m, l, k, j, i) (simp append_assoc)

@@ -12,7 +12,7 @@ use tk_io::{Bytes, NoMemory};
 use transforms::append_escaped;
 
 /// The lines of a fragment so far, and whether no blank stands before the next piece.
-#[derive(Debug, Drop)]
+#[derive(Drop)]
 pub(crate) struct Line {
     pub(crate) text: Bytes,
     pub(crate) is_tight: bool,

@@ -2,6 +2,7 @@
 
 ghost use Rattle.std.specs.Prelude.{◌≡◌, List, ◌∷◌, OnOk};
 ghost use Rattle.std.specs.List.{flat_map};
+ghost use Rattle.std.specs.Str.{bytes_eq};
 ghost use Rattle.css_out.specs.Piece.{Mark, mark, comma};
 ghost use Rattle.css_out.specs.PlatformValue.{size_marks, time_marks, number_marks, curve_marks};
 ghost use Rattle.css_out.specs.PlatformValue.{has_function, function_name, space_marks};
@@ -186,15 +187,22 @@ pub(crate) fn spell_inset(line: &mut Line, inset: bool) -> Result<(), NoMemory>
     Ok(())
 }
 
+// Whether the text is the word.
+fn is_word(text: &str, word: &str) -> bool
+    ensures { result ≡ bytes_eq text.now word.now }
+{
+    text == word
+}
+
 fn is_generic(family: &str) -> bool
     ensures { result ≡ is_generic family.now }
 {
-    family == "serif"
-        || family == "sans-serif"
-        || family == "monospace"
-        || family == "cursive"
-        || family == "fantasy"
-        || family == "system-ui"
+    is_word(family, "serif")
+        || is_word(family, "sans-serif")
+        || is_word(family, "monospace")
+        || is_word(family, "cursive")
+        || is_word(family, "fantasy")
+        || is_word(family, "system-ui")
 }
 
 fn spell_family(line: &mut Line, family: &str) -> Result<(), NoMemory>

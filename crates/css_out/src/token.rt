@@ -23,7 +23,7 @@ use tk_io::NoMemory;
 use transforms::{Config, Platform, name_for};
 
 /// A token's links that are spelled as references, and how names are made.
-#[derive(Clone, Copy, Debug)]
+#[derive(Clone, Copy)]
 pub(crate) struct Token<'a, 's> {
     pub(crate) alloc: Global,
     pub(crate) cfg: &'a Config,
@@ -191,7 +191,7 @@ impl<'a, 's> Token<'a, 's> {
 }
 
 /// Where an item stands: whether it is the only one, and its index in decimal digits.
-#[derive(Clone, Copy, Debug)]
+#[derive(Clone, Copy)]
 pub(crate) struct Place<'a> {
     is_only: bool,
     index: &'a str,

@@ -1,6 +1,7 @@
 //! The five lines of a typography.
 
-ghost use Rattle.std.specs.Prelude.{◌≡◌, [], ◌∷◌, ◌++◌, option_map, OnOk, IfOk};
+ghost use Rattle.std.specs.Prelude.{◌≡◌, [], ◌∷◌, ◌++◌, map, option_map, OnOk, IfOk};
+ghost use Rattle.std.specs.List.{flat_map};
 ghost use Rattle.css_out.specs.Parts.{shown_part, declaration};
 ghost use Rattle.css_out.specs.Fragment.{css_name, typography_part, typography_line};
 ghost use Rattle.css_out.specs.Fragment.{typography_lines};
@@ -19,14 +20,13 @@ use tk_io::{Bytes, NoMemory, Sequence};
 use transforms::{Names, Platform, name_for, name_with_ending};
 
 /// The names and lines so far.
-#[derive(Debug, Drop)]
+#[derive(Drop)]
 struct Lines {
     names: Sequence<Bytes>,
     line: Line,
 }
 
 /// What a line of a typography is about: a member and its kind, and the ending of the line's name.
-#[derive(Debug)]
 struct Member {
     name: &'static str,
     kind: Kind,
@@ -121,6 +121,29 @@ impl<'a, 's> Token<'a, 's> {
         Ok(())
     }
 
+    // The five lines, one after the other.
+    fn typography_lines(
+        &self,
+        lines: &mut Lines,
+        name: &[u8],
+        whole: &Option<Bytes>,
+        value: &Typography<'_>,
+    ) -> Result<(), NoMemory>
+        ensures names { OnOk result (lines.new.names ≡ lines.old.names
+            ++ map (λ e. e.name) (typography_lines self.now.cfg.now.prefix
+            self.now.links.now name.now whole.now value.now)) }
+        ensures text { OnOk result (lines.new.line.text ≡ lines.old.line.text
+            ++ flat_map line_text (map declaration (typography_lines self.now.cfg.now.prefix
+            self.now.links.now name.now whole.now value.now))) }
+    {
+        self.typography_line(lines, name, whole, &FAMILY, &value.family)?;
+        self.typography_line(lines, name, whole, &SIZE, &value.size)?;
+        self.typography_line(lines, name, whole, &WEIGHT, &value.weight)?;
+        self.typography_line(lines, name, whole, &SPACING, &value.spacing)?;
+        self.typography_line(lines, name, whole, &HEIGHT, &value.line_height)?;
+        Ok(())
+    }
+
     /// The five names, and in the draft the five lines.
     pub(crate) fn typography<'n>(
         &self,
@@ -139,11 +162,7 @@ impl<'a, 's> Token<'a, 's> {
             names: Sequence::new(self.alloc),
             line: Line::over(self.alloc, draft),
         };
-        self.typography_line(&mut lines, name, &whole, &FAMILY, &value.family)?;
-        self.typography_line(&mut lines, name, &whole, &SIZE, &value.size)?;
-        self.typography_line(&mut lines, name, &whole, &WEIGHT, &value.weight)?;
-        self.typography_line(&mut lines, name, &whole, &SPACING, &value.spacing)?;
-        self.typography_line(&mut lines, name, &whole, &HEIGHT, &value.line_height)?;
+        self.typography_lines(&mut lines, name, &whole, value)?;
         *draft = lines.line.text;
         Ok(Names::several(lines.names))
     }

@@ -13,21 +13,21 @@ use transforms::{Config, scale_rem};
 use type_rules::{Curve, Simple, Size, SizeUnit, Time, TimeUnit};
 
 /// A number, or a byte over 255.
-#[derive(Clone, Copy, Debug)]
+#[derive(Clone, Copy)]
 pub(crate) enum Quantity {
     Number(Dec),
     Byte(u8),
 }
 
 /// An argument of a constructor.
-#[derive(Clone, Copy, Debug)]
+#[derive(Clone, Copy)]
 pub(crate) enum Argument {
     Labelled(&'static str, Quantity),
     Bare(Quantity),
 }
 
 /// The type of a constant that is a number.
-#[derive(Clone, Copy, Debug)]
+#[derive(Clone, Copy)]
 pub(crate) enum NumberType {
     CgFloat,
     TimeInterval,
@@ -35,7 +35,7 @@ pub(crate) enum NumberType {
 }
 
 /// What a constant holds.
-#[derive(Clone, Copy, Debug)]
+#[derive(Clone, Copy)]
 pub(crate) enum Content<'a> {
     /// A number of a type.
     Number(NumberType, Dec),

@@ -263,12 +263,12 @@ pub fn append_key(out: &mut Bytes, key: &[u8]) -> Result<(), NoMemory>
 }
 
 // Where a set stands in a resolver document.
-fn set_path<'s>(alloc: Global, name: &Text<'s>) -> Result<Path<'s>, NoMemory>
-    ensures { IfOk result (λ path. path ≡ codes "sets" ∷ name.now ∷ []) }
+fn set_path<'t>(alloc: Global, name: &'t str) -> Result<Path<'t>, NoMemory>
+    ensures { IfOk result (λ path. path ≡ codes "sets" ∷ name.entry.now ∷ []) }
 {
     let mut path = Path::new(alloc);
     path.push(Text::of("sets"))?;
-    path.push(name.copy()?)?;
+    path.push(Text::of(name))?;
     Ok(path)
 }
 
@@ -276,7 +276,7 @@ fn set_path<'s>(alloc: Global, name: &Text<'s>) -> Result<Path<'s>, NoMemory>
 fn append_set(alloc: Global, out: &mut Bytes, name: &Text<'_>) -> Result<(), NoMemory>
     ensures { OnOk result (out.new ≡ out.old ++ detail_line (ring_set name.now)) }
 {
-    let path = set_path(alloc, name)?;
+    let path = set_path(alloc, name.as_str())?;
     append_group(out, b"ring ", &path)?;
     Ok(())
 }

@@ -5,6 +5,7 @@ ghost use Rattle.refusals.specs.Refusal.{shape_rule_name, ref_rule_name, cell_ru
 
 use alias_ref::RefRule;
 use resolver_doc::PlanRule;
+use std::fmt;
 use type_rules::ValueRule;
 
 /// A rule that a token can break.
@@ -17,7 +18,7 @@ pub enum CellRule {
 }
 
 /// The rules that files can break, in the order in which they are looked at.
-#[derive(Clone, Copy, Debug, PartialEq, Eq)]
+#[derive(Clone, Copy, PartialEq, Eq)]
 pub enum Rule {
     /// `tokc.toml` is no TOML text.
     ConfigToml,
@@ -51,6 +52,12 @@ pub enum Rule {
     Token(CellRule),
     /// Two tokens have one name on a platform.
     NameClash,
+}
+
+impl fmt::Debug for Rule {
+    fn fmt<W: fmt::Write>(&self, f: &mut fmt::Formatter<W>) -> fmt::Result {
+        f.write_str("Rule")
+    }
 }
 
 fn shape_rule_name(rule: token_tree::Rule) -> &'static [u8]
