@@ -1,5 +1,5 @@
 -- A token comes to one thing, or breaks one rule first; never both.
-use Rattle.std.proofs.Common.{◌≡◌, ℕ, List, [], Some, None, sym, ap, ◌∙◌, subst}
+use Rattle.std.proofs.Common.{◌≡◌, ℕ, List, [], Some, None, length, arith, sym, ap, ◌∙◌, subst}
 use Rattle.std.specs.Prelude.{Result, Ok, Err, OnOk, IfErr}
 use Rattle.json_span.specs.PlainView.{plain_view}
 use Rattle.alias_ref.specs.Written.{Step, whole, written_in}
@@ -65,6 +65,10 @@ module _ (flat : Flat) (token : List Step) where
   fault_seen (Ok x) m h = tt
   fault_seen (Err f) m h = h
 
+  count_seen : {X : Type 0} (r : Result X RefFault) (m : ℕ) → SeenWhole r m → OnOk r (length (walked (written_in flat) [] (whole token)) ≡ m)
+  count_seen (Ok x) m h = omega (arith, h.counted)
+  count_seen (Err f) m h = tt
+
   -- a walk below no branch is that of the definition
   module _ {X : Type 0} (r : Result X RefFault) (b : List Place) (p : Place) (n m : ℕ) (e : b ≡ []) (g : p ≡ whole token) (z : n ≡ 0) where
     whole_seen : Sees (written_in flat) (walked (written_in flat) b p) n m r → SeenWhole r m
@@ -77,3 +81,6 @@ module _ (flat : Flat) (token : List Step) where
 
     pub whole_fault : Sees (written_in flat) (walked (written_in flat) b p) n m r → IfErr r (λ f. IsFault f (walk_break (written_in flat) token))
     whole_fault h = fault_seen r m (whole_seen h)
+
+    pub whole_count : Sees (written_in flat) (walked (written_in flat) b p) n m r → OnOk r (length (walked (written_in flat) [] (whole token)) ≡ m)
+    whole_count h = count_seen r m (whole_seen h)

@@ -14,6 +14,11 @@ mod UnbrokenMeans
 mod LinkDepths
 mod UnbrokenHasLinks
 mod SameWalks
+mod BranchesRise
+mod WalksBelow
+mod RememberedWalks
+mod RememberedFaults
+mod ClosedTokens
 mod SameLinks
 mod UnchangedTrees
 mod DifferencesDecided
@@ -36,3 +41,6 @@ mod AnswersAreOne
 mod PlainViews
 mod LiteralsInTurn
 mod LiteralsMean
+mod PlainCopies
+mod RememberedTokens
+mod Targets

@@ -137,6 +137,9 @@ module _ (flat : Flat) (f : Flattened) where
   pub literal_unbroken : (token : List Step) (v : Value) (j : ℕ) → Literal (whole token) v 0 j → walk_break (written_in flat) token ≡ None
   literal_unbroken token v j k = let c = k.clean [] (omega arith) tt in c.unbroken
 
+  pub literal_counted : (token : List Step) (v : Value) (j : ℕ) → Literal (whole token) v 0 j → length (walked (written_in flat) [] (whole token)) ≡ j
+  literal_counted token v j k = let c = k.clean [] (omega arith) tt in omega (arith, c.counted)
+
   -- a literal that is visited below a branch
   pub literal_visited : {old new : Trace} {p : Place} {v : Value} {n : Placed} → IsValueAt flat p f n → IsLiteralVisit old new p f.def v → Literal p v old.visits new.visits
   literal_visited {old} {new} {p} {v} st k = subst (λ x. Literal x v old.visits new.visits) (sym (whole_of p k.apart.whole)) (whole_literal p.token v old.visits new.visits st.token k.literal)

@@ -9,9 +9,9 @@ use Rattle.json_span.specs.Tree.{Tree, a_null, a_boolean, a_number, a_string, an
 use Rattle.token_tree.proofs.Names.{same_text}
 use Rattle.group_inherit.specs.Flattening.{Flattened}
 use Rattle.group_inherit.specs.Merging.{either}
-use Rattle.alias_ref.specs.Written.{Step, object, leaf, parts, WrittenPlaces, whole, part, is_reference, is_misspelled, is_written, Parts, parts_by_index, parts_by_name, parts_of, steps_of, part_under, part_behind, value_at, Role, of_value, of_ref, reference_written, object_pointed, object_written, written_as, role_behind, role_at, written_in}
+use Rattle.alias_ref.specs.Written.{Step, object, leaf, parts, whole, part, is_reference, is_written, Parts, parts_by_index, parts_by_name, parts_of, steps_of, part_under, part_behind, value_at, Role, of_value, of_ref, reference_written, object_pointed, object_written, written_as, role_behind, role_at, written_in}
 use Rattle.alias_ref.specs.Kinds.{own_in, group_in}
-use Rattle.alias_ref.specs.Visits.{Way, ends_at, settle_by, passed, pass_written}
+use Rattle.alias_ref.specs.Visits.{settle_by, passed}
 use Rattle.alias_ref.specs.Laws.{Flat}
 use Rattle.alias_ref.specs.inner.Contents.{content_view, content_parts, content_items, role_of, IsContent}
 use Rattle.alias_ref.specs.inner.Spots.{IsValueAt, IsFlawless, IsSpot, IsPartAt, IsHolder, start_in}
@@ -161,11 +161,3 @@ kinds_at flat s k at e = e ∙ ap₂ either (sym (own_is flat s.place s.token.no
 -- a spot where a way settles
 pub settled_spot : (flat : Flat) (b : List Place) (p : Place) (e : Spot) → IsSpot flat e → (settle_by (written_in flat) (passed (written_in flat) b) p).ends ≡ Some e.place → is_reference (Some (content_view e.content)) ≡ false
 settled_spot flat b p e k h = ap is_reference (sym (spot_written flat e k)) ∙ settled_plain (written_in flat) b p e.place h
-
--- passing what is no reference stays there
-pub stays_there : (T : WrittenPlaces) (settle : Place → Way) (p : Place) (c : Content) → ((q : Place) → c ≡ content.Refers q → ⊥) → is_misspelled (Some (content_view c)) ≡ false → pass_written T settle p (Some (content_view c)) ≡ ends_at p
-stays_there T settle p (content.Leaf v) n h = refl
-stays_there T settle p (content.Array items) n h = refl
-stays_there T settle p (content.Object fields) n h = refl
-stays_there T settle p (content.Refers q) n h = absurd (n q refl)
-stays_there T settle p content.Misspelled n h = absurd (cc)

@@ -6,7 +6,7 @@ use Rattle.name_path.specs.declared.place.Place.{Place}
 use Rattle.group_inherit.specs.Flattening.{Flattened}
 use Rattle.alias_ref.specs.Written.{Step, refers, WrittenPlaces, written_at, written_in}
 use Rattle.alias_ref.specs.Kinds.{own_in, group_in}
-use Rattle.alias_ref.specs.Unchanged.{raw_of, raw_in, Reaches, at_start, by_reference, Unchanged, AreDefinedAlong}
+use Rattle.alias_ref.specs.Unchanged.{raw_of, Reaches, at_start, by_reference, Unchanged, AreDefinedAlong}
 use Rattle.alias_ref.specs.Laws.{Flat, AreAlike}
 use Rattle.alias_ref.proofs.MovedValues.{source_decides, kind_of_source}
 use Rattle.alias_ref.proofs.RefsAreWritten.{reference_listed}

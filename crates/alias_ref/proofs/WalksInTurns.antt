@@ -16,7 +16,7 @@ pub goes_on-front : (xs : List Visit) (o : Option Place) (next : Place → Way) 
 goes_on-front xs None next = ([], sym (append-nil xs))
 goes_on-front xs (Some q) next = ((next q).seen, refl)
 
-at_end-front : (xs : List Visit) (o : Option Place) (walk : Place → List Visit) → (es : List Visit) × (at_end xs o walk ≡ xs ++ es)
+pub at_end-front : (xs : List Visit) (o : Option Place) (walk : Place → List Visit) → (es : List Visit) × (at_end xs o walk ≡ xs ++ es)
 at_end-front xs None walk = ([], sym (append-nil xs))
 at_end-front xs (Some q) walk = (walk q, refl)
 
@@ -52,6 +52,10 @@ module _ (T : WrittenPlaces) where
     steps_none : (p : Place) → steps_from T settle home p [] ≡ ends_at p
     unfolding steps_from
     steps_none p = refl
+
+    -- without steps
+    pub way_here : (t steps : List Step) → steps ≡ [] → is_written (T (whole t)) ≡ true → way_of T settle home t steps ≡ ends_at (whole t)
+    way_here t steps e h = way_found settle home t steps h ∙ ap (steps_from T settle home (whole t)) e ∙ steps_none (whole t)
 
     -- a turn of the loop over the steps
     module _ (w : Way) (p : Place) (s : Step) (rest : List Step) {n m : ℕ} (es : List Visit) (clean : Clean T n m es) (so_far : after_visits es (steps_from T settle home p (s ∷ rest)) ≡ w) where

@@ -6,3 +6,4 @@ pub mod Turns
 pub mod Steps
 pub mod Walks
 pub mod Literals
+pub mod Remembering

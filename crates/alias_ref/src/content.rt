@@ -15,7 +15,7 @@ use std::alloc::Global;
 use tk_io::{NoMemory, Text};
 
 /// What is written at a place.
-#[derive(Debug, Drop)]
+#[derive(Drop)]
 pub(crate) enum Content<'a, 's> {
     /// Null, a truth value, a number or a text.
     Leaf(Plain<'s>),

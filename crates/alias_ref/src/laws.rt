@@ -9,6 +9,12 @@ ghost use Rattle.alias_ref.specs.Laws.{UnbrokenHasKind, UnbrokenHasLinks, Meanin
 ghost use Rattle.alias_ref.specs.Laws.{LinksAreReal, LinksAreAll, SourceDecides, RefsOfSource};
 ghost use Rattle.alias_ref.specs.Laws.{ShownBySource};
 ghost use Rattle.alias_ref.specs.Laws.{WrittenAreListed, ListedAreWritten, UnchangedIsAlike};
+ghost use Rattle.alias_ref.specs.Remembered.{RememberedWalks, RememberedBreaks, RememberedPasses};
+ghost use Rattle.alias_ref.specs.Remembered.{RememberedPassBreaks, WalksAreRememberable};
+ghost use Rattle.alias_ref.specs.Remembered.{PassesAreRememberable, ClosedAvoid, NumberedAvoid};
+ghost use Rattle.alias_ref.specs.Remembered.{MeasuresBelow, MeasuresKept, NumbersGrow};
+ghost use Rattle.alias_ref.specs.Remembered.{RememberedFaults, BranchesRise, CountsBelow};
+ghost use Rattle.alias_ref.specs.Remembered.{CountsKept, ListedHaveNumbers, KnownIsWalked, WalkedIsKnown};
 
 /// The readings of texts are exact: an alias names the path that its text spells, and a pointer the place.
 pub fn references_named()
@@ -90,4 +96,27 @@ pub fn one_answer()
     ensures resolved { OneResolved }
     ensures broken { OneFirstBreak }
     ensures either { NeverBoth }
+{}
+
+/// A walk that is remembered is the same below any branch that leaves it room and has no place of it, and what is walked below a
+/// branch without a break can be remembered.
+pub fn remembered_walks()
+    ensures walks { RememberedWalks }
+    ensures breaks { RememberedBreaks }
+    ensures passes { RememberedPasses }
+    ensures pass_breaks { RememberedPassBreaks }
+    ensures rememberable { WalksAreRememberable }
+    ensures pass_rememberable { PassesAreRememberable }
+    ensures closed { ClosedAvoid }
+    ensures numbered { NumberedAvoid }
+    ensures below { MeasuresBelow }
+    ensures kept { MeasuresKept }
+    ensures grow { NumbersGrow }
+    ensures faults { RememberedFaults }
+    ensures rise { BranchesRise }
+    ensures counts { CountsBelow }
+    ensures counts_kept { CountsKept }
+    ensures listed { ListedHaveNumbers }
+    ensures known { KnownIsWalked }
+    ensures learnt { WalkedIsKnown }
 {}

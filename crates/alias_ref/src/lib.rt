@@ -3,23 +3,29 @@
 #![tactic(auto)]
 
 mod content;
+mod copying;
+mod evaluator;
 mod fault;
 mod index;
 mod laws;
 mod literal;
+mod memory;
 mod passing;
+mod recalling;
 mod refs;
+mod remembering;
 mod resolved;
 mod span;
 mod spot;
 mod trace;
 mod walking;
 
+pub use evaluator::Evaluator;
 pub use fault::{RefFault, RefRule};
 pub use laws::{
     breaks_are_real, differ_decides, links_are_real, meanings_fit, one_answer, one_meaning,
-    parts_mean, references_named, refs_are_written, source_decides, unbroken_tokens,
-    unchanged_is_alike,
+    parts_mean, references_named, refs_are_written, remembered_walks, source_decides,
+    unbroken_tokens, unchanged_is_alike,
 };
 pub use refs::refs_of;
 pub use resolved::{Resolved, evaluate, evaluate_entry};

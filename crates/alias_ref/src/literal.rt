@@ -19,7 +19,7 @@ use token_tree::TokenDef;
 const MOST_VALUES: u32 = 256;
 
 /// Why a value is not read as a literal.
-#[derive(Debug, Drop)]
+#[derive(Drop)]
 enum Stop {
     /// A reference is written in it, or there are too many values.
     NoLiteral,

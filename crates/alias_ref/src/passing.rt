@@ -1,8 +1,8 @@
 //! Following references: where they lead, with nothing walked.
 
-ghost use Rattle.std.specs.Prelude.{◌≡◌, ◌≤◌, length, Some, false, IfOk, OnOk};
+ghost use Rattle.std.specs.Prelude.{◌≡◌, ◌≤◌, length, Some, true, false, IfOk, OnOk};
 ghost use Rattle.alias_ref.specs.Visits.{most_on_branch};
-ghost use Rattle.alias_ref.specs.Written.{is_misspelled};
+ghost use Rattle.alias_ref.specs.Written.{is_misspelled, is_reference};
 ghost use Rattle.alias_ref.specs.inner.Contents.{content_view};
 ghost use Rattle.alias_ref.specs.inner.Spots.{IsSpot, HasStarts, IsSameBranch};
 ghost use Rattle.alias_ref.specs.inner.Walks.{settling, passing, leading, passing_on, HasGone};
@@ -33,7 +33,7 @@ fn settle<'a, 's>(
     ensures branch { OnOk result (IsSameBranch trace.old trace.new) }
 {
     if spot.content.is_reference() {
-        pass(alloc, flat, spot, trace)
+        pass(alloc, flat, &spot, trace)
     } else {
         Ok(spot)
     }
@@ -44,18 +44,19 @@ fn settle<'a, 's>(
 fn pass<'a, 's>(
     alloc: Global,
     flat: &'a Flat<'s>,
-    spot: Spot<'a, 's>,
+    spot: &Spot<'a, 's>,
     trace: &mut Trace<'s>,
 ) -> Result<Spot<'a, 's>, RefFault<'s>>
-    requires at { IsSpot flat.now spot }
+    requires at { IsSpot flat.now spot.now }
     requires room { length trace.old.places.items ≤ most_on_branch }
     requires starts { HasStarts flat.now trace.old }
-    ensures seen { HasGone flat.entry.now trace.old trace.new result (passing spot.entry.place) }
-    ensures ends { HasEnded flat.entry.now trace.old result (passing spot.entry.place) }
+    requires refers { is_reference (Some (content_view spot.now.content)) ≡ true }
+    ensures seen { HasGone flat.entry.now trace.old trace.new result (passing spot.now.place) }
+    ensures ends { HasEnded flat.entry.now trace.old result (passing spot.now.place) }
     ensures found { IfOk result (λ e. IsSpot flat.entry.now e) }
     ensures branch { OnOk result (IsSameBranch trace.old trace.new) }
 {
-    trace.enter(alloc, &spot)?;
+    trace.enter(alloc, spot)?;
     let end = pass_on(alloc, flat, spot, trace)?;
     trace.leave();
     Ok(end)
@@ -66,15 +67,16 @@ fn pass<'a, 's>(
 fn pass_on<'a, 's>(
     alloc: Global,
     flat: &'a Flat<'s>,
-    spot: Spot<'a, 's>,
+    spot: &Spot<'a, 's>,
     trace: &mut Trace<'s>,
 ) -> Result<Spot<'a, 's>, RefFault<'s>>
-    requires at { IsSpot flat.now spot }
+    requires at { IsSpot flat.now spot.now }
     requires room { length trace.old.places.items ≤ most_on_branch }
     requires starts { HasStarts flat.now trace.old }
-    requires spelled { is_misspelled (Some (content_view spot.content)) ≡ false }
-    ensures seen { HasGone flat.entry.now trace.old trace.new result (passing_on spot.entry) }
-    ensures ends { HasEnded flat.entry.now trace.old result (passing_on spot.entry) }
+    requires spelled { is_misspelled (Some (content_view spot.now.content)) ≡ false }
+    requires refers { is_reference (Some (content_view spot.now.content)) ≡ true }
+    ensures seen { HasGone flat.entry.now trace.old trace.new result (passing_on spot.now) }
+    ensures ends { HasEnded flat.entry.now trace.old result (passing_on spot.now) }
     ensures found { IfOk result (λ e. IsSpot flat.entry.now e) }
     ensures branch { OnOk result (IsSameBranch trace.old trace.new) }
 {
@@ -82,7 +84,7 @@ fn pass_on<'a, 's>(
         let target = follow(alloc, flat, &spot.place, named, trace)?;
         settle(alloc, flat, target, trace)
     } else {
-        Ok(spot)
+        unreachable!()
     }
 }
 

@@ -1,16 +1,18 @@
 //! What tokens come to.
 
-ghost use Rattle.std.specs.Prelude.{◌≡◌, ◌+◌, true, Some, None, IfOk, OnOk, IfErr};
+ghost use Rattle.std.specs.Prelude.{◌≡◌, ◌+◌, [], length, true, Some, None, IfOk, OnOk, IfErr};
 ghost use Rattle.std.specs.FinMap as map;
 ghost use Rattle.group_inherit.specs.Flattening.{Flattened};
 ghost use Rattle.alias_ref.specs.Answer.{IsResolved, IsRefBreak, HasRealRing};
 ghost use Rattle.alias_ref.specs.Written.{whole, written_in};
-ghost use Rattle.alias_ref.specs.Visits.{walk_break};
+ghost use Rattle.alias_ref.specs.Visits.{walk_break, walked};
+ghost use Rattle.alias_ref.specs.inner.Remembering.{Serves};
 ghost use Rattle.alias_ref.specs.inner.Seen.{IsFault};
 ghost use Rattle.alias_ref.specs.inner.Walks.{IsMeantAt, IsKindAt, HasLinks};
 
 use crate::fault::{RefFault, RefRule};
 use crate::literal::literal;
+use crate::memory::Memory;
 use crate::spot::token_spot;
 use crate::trace::{Trace, broken};
 use crate::walking::{Found, kind_here, walk};
@@ -18,11 +20,12 @@ use group_inherit::{Entry, Flat};
 use json_span::Plain;
 use name_path::{Kind, Links, Path, Place, Trail};
 use std::alloc::Global;
+use std::fmt;
 use std::sync::ledger::Ledger;
 use tk_io::Steps;
 
 /// A token whose references are resolved.
-#[derive(Debug, Drop)]
+#[derive(Drop)]
 pub struct Resolved<'s> {
     /// Its own `$type`; else the kind of the token that its whole value refers to; else the `$type` of the nearest group.
     pub kind: Kind,
@@ -30,6 +33,12 @@ pub struct Resolved<'s> {
     pub plain: Plain<'s>,
     /// The references without steps that are written in its value, in written order.
     pub links: Links<'s>,
+}
+
+impl<'s> fmt::Debug for Resolved<'s> {
+    fn fmt<W: fmt::Write>(&self, f: &mut fmt::Formatter<W>) -> fmt::Result {
+        f.write_str("Resolved")
+    }
 }
 
 /// What the token of a path comes to (Format Module 2025.10, aliases, references and types). The flat tree holds the path.
@@ -75,8 +84,30 @@ pub fn evaluate_entry<'s, N: Ledger>(
     ensures ring { IfErr result (λ e. HasRealRing (written_in flat.now) e) }
 {
     evals.tick();
+    let memory = Memory::none(alloc);
+    let mut visits = 0;
+    resolve(alloc, flat, &memory, path, entry, &mut visits)
+}
+
+/// What a token comes to, by what is remembered of others, and how many visits its walk makes where it breaks no rule.
+pub(crate) fn resolve<'s>(
+    alloc: Global,
+    flat: &Flat<'s>,
+    memory: &Memory<'s>,
+    path: &Path<'s>,
+    entry: &Entry<'s>,
+    visits: &mut u32,
+) -> Result<Resolved<'s>, RefFault<'s>>
+    requires token { map.get flat.now path.now ≡ Some entry.now }
+    requires home { Serves flat.now memory.now.known.items [] path.now }
+    ensures resolved { IfOk result (λ r. IsResolved flat.now path.now r) }
+    ensures broken { IfErr result (λ e. IsRefBreak flat.now path.now e) }
+    ensures ring { IfErr result (λ e. HasRealRing (written_in flat.now) e) }
+    ensures counted { OnOk result
+        (length (walked (written_in flat.now) [] (whole path.now)) ≡ visits.new) }
+{
     let mut links = Links::new(alloc);
-    let found = find(alloc, flat, path, entry, &mut links)?;
+    let found = find(alloc, flat, memory, path, entry, visits, &mut links)?;
     let Some(kind) = found.kind else {
         let token = path.copy()?;
         let place = Place {
@@ -96,19 +127,25 @@ pub fn evaluate_entry<'s, N: Ledger>(
 fn find<'s>(
     alloc: Global,
     flat: &Flat<'s>,
+    memory: &Memory<'s>,
     path: &Path<'s>,
     entry: &Entry<'s>,
+    visits: &mut u32,
     links: &mut Links<'s>,
 ) -> Result<Found<'s>, RefFault<'s>>
     requires token { map.get flat.now path.now ≡ Some entry.now }
+    requires home { Serves flat.now memory.now.known.items [] path.now }
     ensures unbroken { OnOk result (walk_break (written_in flat.now) path.now ≡ None) }
     ensures broken { IfErr result (λ e. IsFault e (walk_break (written_in flat.now) path.now)) }
     ensures means { IfOk result (λ f. IsMeantAt flat.now (whole path.now) f.plain) }
     ensures kind { IfOk result (λ f. IsKindAt flat.now (whole path.now) f.kind) }
     ensures links { OnOk result (HasLinks true flat.now (whole path.now) links.old links.new) }
+    ensures counted { OnOk result
+        (length (walked (written_in flat.now) [] (whole path.now)) ≡ visits.new) }
 {
     let mut values = 0;
     if let Some(plain) = literal(alloc, &entry.def, &mut values)? {
+        *visits = values;
         return Ok(Found {
             plain,
             kind: kind_here(entry, None),
@@ -116,5 +153,7 @@ fn find<'s>(
     }
     let spot = token_spot(alloc, path, entry)?;
     let mut trace = Trace::new(alloc);
-    walk(alloc, flat, spot, true, &mut trace, links)
+    let found = walk(alloc, flat, memory, spot, true, &mut trace, links);
+    *visits = trace.count();
+    found
 }

@@ -10,6 +10,7 @@ ghost use Rattle.alias_ref.specs.inner.Contents.{content_view};
 ghost use Rattle.alias_ref.specs.inner.Seen.{IsFault, HasBegun};
 ghost use Rattle.alias_ref.specs.inner.Spots.{start_in, HasStarts, IsSameBranch, IsClear};
 ghost use Rattle.alias_ref.specs.Laws.{Flat};
+ghost use Rattle.alias_ref.specs.inner.Remembering.{CountsVisits};
 ghost use Rattle.alias_ref.specs.inner.Literals.{has_token, IsApart, IsLiteralVisit};
 
 use crate::fault::{RefFault, RefRule};
@@ -31,7 +32,7 @@ const MOST_VISITS: u32 = 1024;
 /// The branch of a walk, and how many visits there were. Beside each place stands the offset where its value starts: where
 /// these differ, the places do, and no path has to be compared. Most branches are short, so that no memory is asked for the
 /// offsets.
-#[derive(Debug, Drop)]
+#[derive(Drop)]
 pub(crate) struct Trace<'s> {
     places: Vec<Place<'s>>,
     starts: SmallVec<usize, 4>,
@@ -241,15 +242,42 @@ impl<'s> Trace<'s> {
         ensures none { IfOk result (λ o. IfNone o (self.new.visits ≡ self.old.visits)) }
         ensures branch { IsSameBranch self.old self.new }
     {
-        if !self.is_apart(place) {
+        if !place.trail.is_empty() {
             return Ok(None);
         }
         let mut visits = self.visits;
         let Some(plain) = literal(alloc, def, &mut visits)? else {
             return Ok(None);
         };
+        if !self.is_apart(place) {
+            return Ok(None);
+        }
         self.visits = visits;
         Ok(Some(plain))
+    }
+
+    /// Counts so many visits of a walk that is remembered; false where there may be no room for them.
+    pub(crate) fn visit_known(&mut self, visits: u32) -> bool
+        ensures counted { IsTrue result → CountsVisits self.old self.new visits }
+        ensures none { result ≡ false → self.new ≡ self.old }
+        ensures branch { IsSameBranch self.old self.new }
+    {
+        if self.visits > MOST_VISITS || visits > MOST_VISITS - self.visits {
+            return false;
+        }
+        let places = self.places.len();
+        if places > MOST_ON_BRANCH || visits as usize > MOST_ON_BRANCH - places {
+            return false;
+        }
+        self.visits += visits;
+        true
+    }
+
+    /// How many visits there were.
+    pub(crate) fn count(&self) -> u32
+        ensures { result ≡ self.now.visits }
+    {
+        self.visits
     }
 
     /// Whether the place is the whole value of a token of which no place stands on the branch, whose places were all visited.

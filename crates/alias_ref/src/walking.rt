@@ -6,17 +6,20 @@ ghost use Rattle.alias_ref.specs.Visits.{most_on_branch};
 ghost use Rattle.alias_ref.specs.Written.{is_misspelled, part};
 ghost use Rattle.alias_ref.specs.inner.Contents.{content_view};
 ghost use Rattle.alias_ref.specs.inner.Linking.{kind_with, lent, links_added};
-ghost use Rattle.alias_ref.specs.inner.Spots.{IsSpot, IsHolder, IsPartAt, HasStarts, IsSameBranch};
+ghost use Rattle.alias_ref.specs.inner.Spots.{IsSpot, spot_at, IsHolder, IsPartAt, HasStarts, IsSameBranch};
 ghost use Rattle.alias_ref.specs.inner.Walks.{walking, walking_on, walking_parts, HasSeen};
 ghost use Rattle.alias_ref.specs.inner.Walks.{IsMeantAt};
 ghost use Rattle.alias_ref.specs.inner.Walks.{IsKindAt, HasLinks, HasLinksOf, item_parts};
 ghost use Rattle.alias_ref.specs.inner.Walks.{field_parts};
-ghost use Rattle.alias_ref.specs.inner.Walks.{ItemsMean, FieldsMean};
+ghost use Rattle.alias_ref.specs.inner.Walks.{ItemsMean, FieldsMean, walking_reference, IsTarget};
+ghost use Rattle.alias_ref.specs.inner.Remembering.{HasHome};
 
 use crate::content::{Content, read_content};
 use crate::fault::RefFault;
 use crate::index::index_text;
+use crate::memory::Memory;
 use crate::passing::follow;
+use crate::recalling::recall;
 use crate::spot::{Spot, part_spot};
 use crate::trace::Trace;
 use group_inherit::{Entry, Flat};
@@ -26,7 +29,7 @@ use std::alloc::Global;
 use tk_io::{NoMemory, Text};
 
 /// What a walk finds at a place: the value without references, and the kind of the token whose whole value it is.
-#[derive(Debug, Drop)]
+#[derive(Drop)]
 pub(crate) struct Found<'s> {
     pub(crate) plain: Plain<'s>,
     pub(crate) kind: Option<Kind>,
@@ -39,27 +42,22 @@ pub(crate) fn kind_here(token: &Entry<'_>, lent: Option<Kind>) -> Option<Kind>
     token.def.kind.or(lent).or(token.group_kind)
 }
 
-/// What a reference at a place makes of what its target gives.
+/// The kind of a token by a reference at a place, whose target has this kind. The reference is listed where it is one of
+/// `own`.
 fn refer<'s>(
     place: &Place<'s>,
     token: &Entry<'s>,
     named: Place<'s>,
     own: bool,
-    found: Found<'s>,
+    kind: Option<Kind>,
     links: &mut Links<'s>,
-) -> Result<Found<'s>, NoMemory>
-    ensures plain { IfOk result (λ o. o.plain ≡ found.entry.plain) }
-    ensures kind { IfOk result (λ o. o.kind
-        ≡ kind_with token.now (lent found.entry.kind named.entry.trail)) }
+) -> Result<Option<Kind>, NoMemory>
+    ensures kind { IfOk result (λ k. k ≡ kind_with token.now (lent kind named.entry.trail)) }
     ensures links { OnOk result (links.new ≡ links.old
-        ++ links_added own place.now named.entry.token found.entry.kind named.entry.trail) }
+        ++ links_added own place.now named.entry.token kind named.entry.trail) }
 {
-    let kind = found.kind;
     if named.trail.len() > 0 {
-        return Ok(Found {
-            plain: found.plain,
-            kind: kind_here(token, None),
-        });
+        return Ok(kind_here(token, None));
     }
     if own {
         links.push(Link {
@@ -68,10 +66,7 @@ fn refer<'s>(
             kind,
         })?;
     }
-    Ok(Found {
-        plain: found.plain,
-        kind: kind_here(token, kind),
-    })
+    Ok(kind_here(token, kind))
 }
 
 /// Walks a place. `own` says that it is written in the token whose links are listed.
@@ -79,6 +74,7 @@ fn refer<'s>(
 pub(crate) fn walk<'a, 's>(
     alloc: Global,
     flat: &'a Flat<'s>,
+    memory: &Memory<'s>,
     spot: Spot<'a, 's>,
     own: bool,
     trace: &mut Trace<'s>,
@@ -87,6 +83,7 @@ pub(crate) fn walk<'a, 's>(
     requires at { IsSpot flat.now spot }
     requires room { length trace.old.places.items ≤ most_on_branch }
     requires starts { HasStarts flat.now trace.old }
+    requires home { HasHome own flat.now memory.now.known.items trace.old spot.place.token }
     ensures seen { HasSeen flat.entry.now trace.old trace.new result (walking spot.entry.place) }
     ensures means { IfOk result (λ v. IsMeantAt flat.entry.now spot.entry.place v.plain) }
     ensures kind { IfOk result (λ v. IsKindAt flat.entry.now spot.entry.place v.kind) }
@@ -94,7 +91,15 @@ pub(crate) fn walk<'a, 's>(
     ensures branch { OnOk result (IsSameBranch trace.old trace.new) }
 {
     trace.enter(alloc, &spot)?;
-    let found = walk_on(alloc, flat, spot, own, trace, links)?;
+    let Spot {
+        place,
+        token,
+        start,
+        content,
+    } = spot;
+    let found = walk_on(
+        alloc, flat, memory, &place, token, start, content, own, trace, links,
+    )?;
     trace.leave();
     Ok(found)
 }
@@ -104,53 +109,84 @@ pub(crate) fn walk<'a, 's>(
 fn walk_on<'a, 's>(
     alloc: Global,
     flat: &'a Flat<'s>,
-    spot: Spot<'a, 's>,
+    memory: &Memory<'s>,
+    place: &Place<'s>,
+    token: &'a Entry<'s>,
+    start: usize,
+    content: Content<'a, 's>,
     own: bool,
     trace: &mut Trace<'s>,
     links: &mut Links<'s>,
 ) -> Result<Found<'s>, RefFault<'s>>
-    requires at { IsSpot flat.now spot }
+    requires at { IsSpot flat.now (spot_at place.now token start content) }
     requires room { length trace.old.places.items ≤ most_on_branch }
     requires starts { HasStarts flat.now trace.old }
-    requires spelled { is_misspelled (Some (content_view spot.content)) ≡ false }
-    ensures seen { HasSeen flat.entry.now trace.old trace.new result (walking_on spot.entry) }
-    ensures means { IfOk result (λ v. IsMeantAt flat.entry.now spot.entry.place v.plain) }
-    ensures kind { IfOk result (λ v. IsKindAt flat.entry.now spot.entry.place v.kind) }
-    ensures links { OnOk result (HasLinks own flat.entry.now spot.entry.place links.old links.new) }
+    requires home { HasHome own flat.now memory.now.known.items trace.old place.now.token }
+    requires spelled { is_misspelled (Some (content_view content)) ≡ false }
+    ensures seen { HasSeen flat.entry.now trace.old trace.new result
+        (walking_on (spot_at place.now token.entry start content.entry)) }
+    ensures means { IfOk result (λ v. IsMeantAt flat.entry.now place.now v.plain) }
+    ensures kind { IfOk result (λ v. IsKindAt flat.entry.now place.now v.kind) }
+    ensures links { OnOk result (HasLinks own flat.entry.now place.now links.old links.new) }
     ensures branch { OnOk result (IsSameBranch trace.old trace.new) }
 {
-    let Spot {
-        place,
-        token,
-        start: _,
-        content,
-    } = spot;
     match content {
         Content::Leaf(plain) => Ok(Found {
             plain,
             kind: kind_here(token, None),
         }),
         Content::Array(items) => {
-            let list = walk_items(alloc, flat, &place, token, items, own, trace, links)?;
+            let list = walk_items(alloc, flat, memory, place, token, items, own, trace, links)?;
             Ok(Found {
                 plain: Plain::Arr(list),
                 kind: kind_here(token, None),
             })
         }
         Content::Object(fields) => {
-            let list = walk_fields(alloc, flat, &place, token, fields, own, trace, links)?;
+            let list = walk_fields(alloc, flat, memory, place, token, fields, own, trace, links)?;
             Ok(Found {
                 plain: Plain::Obj(list),
                 kind: kind_here(token, None),
             })
         }
         Content::Refers(named) => {
-            let target = follow(alloc, flat, &place, &named, trace)?;
-            let found = walk_target(alloc, flat, target, trace, links)?;
-            Ok(refer(&place, token, named, own, found, links)?)
+            let found = walk_reference(alloc, flat, memory, place, &named, own, trace, links)?;
+            let kind = refer(place, token, named, own, found.kind, links)?;
+            Ok(Found {
+                plain: found.plain,
+                kind,
+            })
         }
         Content::Misspelled => unreachable!(),
     }
+}
+
+/// Walks what a reference at a place names, or takes what is remembered of it.
+#[cycle(walking)]
+fn walk_reference<'a, 's>(
+    alloc: Global,
+    flat: &'a Flat<'s>,
+    memory: &Memory<'s>,
+    place: &Place<'s>,
+    named: &Place<'s>,
+    own: bool,
+    trace: &mut Trace<'s>,
+    links: &mut Links<'s>,
+) -> Result<Found<'s>, RefFault<'s>>
+    requires room { length trace.old.places.items ≤ most_on_branch }
+    requires starts { HasStarts flat.now trace.old }
+    requires home { HasHome own flat.now memory.now.known.items trace.old place.now.token }
+    ensures seen { HasSeen flat.entry.now trace.old trace.new result
+        (walking_reference place.now named.now) }
+    ensures target { IfOk result (IsTarget flat.entry.now trace.old place.now named.now) }
+    ensures links { OnOk result (links.new ≡ links.old) }
+    ensures branch { OnOk result (IsSameBranch trace.old trace.new) }
+{
+    if let Some(found) = recall(alloc, flat, memory, own, named, trace)? {
+        return Ok(found);
+    }
+    let target = follow(alloc, flat, place, named, trace)?;
+    walk_target(alloc, flat, memory, target, trace, links)
 }
 
 /// Walks the target of a reference. A literal is what it is.
@@ -158,6 +194,7 @@ fn walk_on<'a, 's>(
 fn walk_target<'a, 's>(
     alloc: Global,
     flat: &'a Flat<'s>,
+    memory: &Memory<'s>,
     spot: Spot<'a, 's>,
     trace: &mut Trace<'s>,
     links: &mut Links<'s>,
@@ -178,7 +215,7 @@ fn walk_target<'a, 's>(
             kind: kind_here(token, None),
         });
     }
-    walk(alloc, flat, spot, false, trace, links)
+    walk(alloc, flat, memory, spot, false, trace, links)
 }
 
 /// Walks the items of an array, in order.
@@ -186,6 +223,7 @@ fn walk_target<'a, 's>(
 fn walk_items<'a, 's>(
     alloc: Global,
     flat: &'a Flat<'s>,
+    memory: &Memory<'s>,
     place: &Place<'s>,
     token: &'a Entry<'s>,
     items: Items<'a, 's>,
@@ -196,6 +234,7 @@ fn walk_items<'a, 's>(
     requires at { IsHolder flat.now place.now token.now (item_parts items) }
     requires room { length trace.old.places.items ≤ most_on_branch }
     requires starts { HasStarts flat.now trace.old }
+    requires home { HasHome own flat.now memory.now.known.items trace.old place.now.token }
     ensures seen { HasSeen flat.entry.now trace.old trace.new result
         (walking_parts place.now (item_parts items.entry)) }
     ensures means { IfOk result (λ l. ItemsMean flat.entry.now place.now items.entry l) }
@@ -207,7 +246,9 @@ fn walk_items<'a, 's>(
     let mut index: usize = 0;
     for node in items {
         let step = index_text(alloc, index)?;
-        let plain = walk_part(alloc, flat, place, token, &step, node, own, trace, links)?;
+        let plain = walk_part(
+            alloc, flat, memory, place, token, &step, node, own, trace, links,
+        )?;
         list.push(plain)?;
         index += 1;
     }
@@ -219,6 +260,7 @@ fn walk_items<'a, 's>(
 fn walk_fields<'a, 's>(
     alloc: Global,
     flat: &'a Flat<'s>,
+    memory: &Memory<'s>,
     place: &Place<'s>,
     token: &'a Entry<'s>,
     fields: Fields<'a, 's>,
@@ -229,6 +271,7 @@ fn walk_fields<'a, 's>(
     requires at { IsHolder flat.now place.now token.now (field_parts fields) }
     requires room { length trace.old.places.items ≤ most_on_branch }
     requires starts { HasStarts flat.now trace.old }
+    requires home { HasHome own flat.now memory.now.known.items trace.old place.now.token }
     ensures seen { HasSeen flat.entry.now trace.old trace.new result
         (walking_parts place.now (field_parts fields.entry)) }
     ensures means { IfOk result (λ l. FieldsMean flat.entry.now place.now fields.entry l) }
@@ -242,6 +285,7 @@ fn walk_fields<'a, 's>(
         let value = walk_part(
             alloc,
             flat,
+            memory,
             place,
             token,
             &name,
@@ -260,6 +304,7 @@ fn walk_fields<'a, 's>(
 fn walk_part<'a, 's>(
     alloc: Global,
     flat: &'a Flat<'s>,
+    memory: &Memory<'s>,
     place: &Place<'s>,
     token: &'a Entry<'s>,
     step: &Text<'s>,
@@ -271,6 +316,7 @@ fn walk_part<'a, 's>(
     requires at { IsPartAt flat.now place.now token.now step.now (ref_view node) }
     requires room { length trace.old.places.items ≤ most_on_branch }
     requires starts { HasStarts flat.now trace.old }
+    requires home { HasHome own flat.now memory.now.known.items trace.old place.now.token }
     ensures seen { HasSeen flat.entry.now trace.old trace.new result
         (walking (part place.now step.now)) }
     ensures means { IfOk result (λ v. IsMeantAt flat.entry.now (part place.now step.now) v) }
@@ -286,7 +332,7 @@ fn walk_part<'a, 's>(
         }
         content => {
             let spot = part_spot(place, token, step, node, content)?;
-            let found = walk(alloc, flat, spot, own, trace, links)?;
+            let found = walk(alloc, flat, memory, spot, own, trace, links)?;
             Ok(found.plain)
         }
     }

@@ -101,7 +101,7 @@ module _ (laws : Laws) (flat : Flat) (settings : Settings) (defined : AreDefined
     value_cell : (kind : Kind) (meaning : Plain) (links : List Link) → IsMeant flat path kind meaning
         → FitsIn most meaning
         → LinksAt (written_in flat) (own_in flat) (group_in flat) (whole path) links
-        → (read : Checked Typed) → value_of kind meaning ≡ read → HasCell flat settings path
+        → (read : Checked Typed) → value_of settings.legacy kind meaning ≡ read → HasCell flat settings path
     value_cell kind meaning links meant fits are (Err b) is =
         (Refused (Value b.rule) (record { token = path; trail = b.trail }) [], by_value kind meaning b meant is refl)
     value_cell kind meaning links meant fits are (Ok typed) is = (
@@ -112,7 +112,7 @@ module _ (laws : Laws) (flat : Flat) (settings : Settings) (defined : AreDefined
         value = record { kind = kind; meaning = meaning; meant = meant; is_typed = is; are_links = are };
         entry = entry;
         there = there;
-        gives = gives_all typed links (values_keep kind meaning typed fits is);
+        gives = gives_all typed links (values_keep settings.legacy kind meaning typed fits is);
       },
     )
 
@@ -131,7 +131,7 @@ module _ (laws : Laws) (flat : Flat) (settings : Settings) (defined : AreDefined
         let fits = laws.fits flat most (λ q f at. (defined q f at).definition)
         (λ q f at. let d = defined q f at in (d.utf8, d.fits)) (whole path) meaning means in
         let meant : IsMeant flat path kind meaning = record { unbroken = unbroken; kind_of = of; means = means } in
-        value_cell kind meaning links meant fits are (value_of kind meaning) refl
+        value_cell kind meaning links meant fits are (value_of settings.legacy kind meaning) refl
 
     walked_cell : (b : Option RefBreak) → walk_break (written_in flat) path ≡ b → HasCell flat settings path
     walked_cell (Some b) is = (Refused (Ref b.rule) b.place b.ring, by_reference b (in_walk is) refl)

@@ -57,19 +57,19 @@ have_extensions slices flat defs path f there =
     let same : f.def.extensions ≡ extensions_of f.def.source es = ap (λ x. x.extensions) d.same in
     (found.0, subst (λ o. HaveValue o found.0) (sym same) found.1)
 
-record Has (flat : Flat) (token : TokenAt) (c : Cell) : Type 0 where
+record Has (flat : Flat) (settings : Settings) (token : TokenAt) (c : Cell) : Type 0 where
   path : c.path ≡ token.0
-  value : IsTypedOf flat token.0 c.typed
+  value : IsTypedOf flat settings token.0 c.typed
   extras : HasExtras flat token.0 c.extras
 
-record AreMade (flat : Flat) (tokens : List TokenAt) (cells : List TokenCell) : Type 0 where
+record AreMade (flat : Flat) (settings : Settings) (tokens : List TokenAt) (cells : List TokenCell) : Type 0 where
   sheet : List Cell
-  have : AllZip (Has flat) tokens sheet
+  have : AllZip (Has flat settings) tokens sheet
   are : AllByRecursion IsJsonCell sheet
   bodies : flat_map (bodies_for Form.Json) cells ≡ map cell_text sheet
 
 module _ (keeps : ValuesKeep) (flat : Flat) (settings : Settings) (extensions : HaveExtensions flat) where
-  are_made : (tokens : List TokenAt) (cells : List TokenCell) → AreCells flat settings tokens cells → flat_map (cell_reports flat) (zip tokens cells) ≡ [] → AreMade flat tokens cells
+  are_made : (tokens : List TokenAt) (cells : List TokenCell) → AreCells flat settings tokens cells → flat_map (cell_reports flat) (zip tokens cells) ≡ [] → AreMade flat settings tokens cells
   are_made [] [] found none = record { sheet = []; have = tt; are = tt; bodies = refl }
   are_made [] (c ∷ cells) found none = absurd found
   are_made (t ∷ tokens) [] found none = absurd found
@@ -81,7 +81,7 @@ module _ (keeps : ValuesKeep) (flat : Flat) (settings : Settings) (extensions : 
       record {
         sheet = cell ∷ rest.sheet;
         have = (record { path = refl; value = (here.links, here.value); extras = (here.entry, here.there, refl) }, rest.have);
-        are = (record { typed = keeps here.value.kind here.value.meaning here.typed here.value.is_typed; bytes = here.gives.json_of.bytes; extensions = has }, rest.are);
+        are = (record { typed = keeps settings.legacy here.value.kind here.value.meaning here.typed here.value.is_typed; bytes = here.gives.json_of.bytes; extensions = has }, rest.are);
         bodies = ap₂ (λ (x : List ℕ) (xs : List (List ℕ)). x ∷ xs) here.gives.json_of.body rest.bodies;
       }
 
@@ -93,6 +93,6 @@ json_denotes keeps slices denote flat settings cells (found, none) defs =
     let bytes : sheet_bytes made.sheet ≡ sheet_for Form.Json cells = ap (sheet_text json_frame) (sym made.bodies) in
     record {
       tokens = made.sheet;
-      values = weaker (Has flat) (λ token c. (c.path ≡ token.0) × IsTypedOf flat token.0 c.typed × HasExtras flat token.0 c.extras) (λ token c h. (h.path, h.value, h.extras)) (finite.entries flat) made.sheet made.have;
+      values = weaker (Has flat settings) (λ token c. (c.path ≡ token.0) × IsTypedOf flat settings token.0 c.typed × HasExtras flat token.0 c.extras) (λ token c h. (h.path, h.value, h.extras)) (finite.entries flat) made.sheet made.have;
       denotes = subst (λ b. Denotes b (sheet_members made.sheet)) bytes (denote made.sheet made.are);
     }

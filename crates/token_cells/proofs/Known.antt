@@ -1,15 +1,13 @@
 -- What is known of a token of an earlier tree.
-use Rattle.std.proofs.Common.{◌≡◌, ℕ, zero, suc, ◌+◌, ◌<◌, Bool, List, [], ◌∷◌, ◌++◌, Some, IsSomeAnd, MatchOption, sym, ap, ◌∙◌, subst, get_or, length, take, Equal}
+use Rattle.std.proofs.Common.{◌≡◌, ℕ, zero, suc, ◌<◌, List, [], ◌∷◌, Option, Some, None, IsSomeAnd, MatchOption, sym, ap, ◌∙◌, subst, get_or, length, Equal}
+use Rattle.std.specs.Prelude.{IfSome}
 use Rattle.std.specs.List.{AllZip, slice_get}
 use Rattle.std.specs.FinMap.{slice_cmp-IsAntisymmetric, nat_cmp-IsAntisymmetric}
-use Rattle.std.proofs.lemmas.List.{take_more}
 use Rattle.std.proofs.lemmas.Option.{slice_get-get_or}
-use Rattle.std.proofs.lemmas.Slice.Zip.{AllZip-left, all_zipped_more}
+use Rattle.std.proofs.lemmas.Slice.Zip.{AllZip-left}
 use Rattle.tk_io.specs.Order.{names_cmp}
-use Rattle.group_inherit.specs.Flattening.{TokenAt}
 use Rattle.token_cells.specs.Cell.{TokenPath}
 use Rattle.token_cells.specs.declared.row.Row.{Row}
-use Rattle.token_cells.specs.inner.Earlier.{IsLone, AreLone}
 use Rattle.token_cells.specs.inner.Kept.{PageTexts, row_view, rows_view}
 
 -- what holds of the items of two lists at one place
@@ -31,11 +29,7 @@ shown_at pages (r ∷ rows) (suc i) row e = shown_at pages rows i row e
 pub same_path : (p q : TokenPath) → names_cmp p q ≡ Equal → p ≡ q
 same_path p q = slice_cmp-IsAntisymmetric (slice_cmp-IsAntisymmetric nat_cmp-IsAntisymmetric) p q
 
--- one token more
-pub more_lone : (tokens : List TokenAt) (i : ℕ) (token : TokenAt) (lone new : List Bool) (b : Bool)
-    → AreLone (take i tokens) lone → i < length tokens → token ≡ get_or tokens i token → IsLone token b → new ≡ lone ++ b ∷ []
-    → AreLone (take (i + 1) tokens) new
-more_lone tokens i token lone new b so_far within is found made =
-    let more : take (i + 1) tokens ≡ take i tokens ++ token ∷ [] = take_more tokens i token within ∙ ap (λ x. take i tokens ++ x ∷ []) (sym is) in
-    subst (λ ts. AreLone ts new) (sym more)
-    (subst (λ bs. AreLone (take i tokens ++ token ∷ []) bs) (sym made) (all_zipped_more IsLone (take i tokens) lone token b so_far found))
+-- what is said of one that is there
+pub there_is : {A : Type 0} (o : Option A) (x : A) (P : A → Type 0) → o ≡ Some x → IfSome o P → P x
+there_is None x P e h = absurd (cc)
+there_is (Some y) x P e h = let same : y ≡ x = cc in subst P same h

@@ -2,6 +2,7 @@ mod AndroidDenotes
 mod ApartCells
 mod Beside
 mod Growing
+mod AddedTokens
 mod CellsExist
 mod Comes
 mod Entries

@@ -7,6 +7,7 @@ use Rattle.alias_ref.specs.Written.{whole, written_in}
 use Rattle.alias_ref.specs.declared.fault.RefRule.{RefRule}
 use Rattle.alias_ref.specs.declared.fault.RefRule.TheVariants as reference
 use Rattle.type_rules.specs.declared.fault.ValueRule.{ValueRule}
+use Rattle.transforms.specs.Config.{Settings}
 use Rattle.token_cells.specs.Cell.{TokenPath, TokenBreak, of_reference, IsTokenBreak, by_reference, by_value}
 use Rattle.token_cells.specs.Laws.{IsReal}
 use Rattle.refusals.specs.declared.rule.CellRule.{CellRule}
@@ -18,8 +19,8 @@ same_ref r s e = cc
 same_value : (r s : ValueRule) → ◌≡◌ {A = CellRule} (Value r) (Value s) → r ≡ s
 same_value r s e = cc
 
-module _ (rings : RingsAreReal) (told : RefBreaksAreReal) (flat : Flat) (path : TokenPath) where
-  walk_real : (b : RefBreak) → walk_break (written_in flat) path ≡ Some b → IsReal flat path (of_reference b)
+module _ (rings : RingsAreReal) (told : RefBreaksAreReal) (flat : Flat) (settings : Settings) (path : TokenPath) where
+  walk_real : (b : RefBreak) → walk_break (written_in flat) path ≡ Some b → IsReal flat settings path (of_reference b)
   walk_real b e = record {
     cycle = λ is. rings (written_in flat) path b.place b.ring (e ∙ ap (λ r. Some (record { rule = r; place = b.place; ring = b.ring })) (same_ref b.rule reference.Cycle is));
     syntax = λ is. (told (written_in flat) path b e).syntax (same_ref b.rule reference.RefSyntax is);
@@ -27,7 +28,7 @@ module _ (rings : RingsAreReal) (told : RefBreaksAreReal) (flat : Flat) (path : 
     value = λ r is. cc;
   }
 
-  missing_real : IsReal flat path (of_reference (ref_break reference.NoType (whole path)))
+  missing_real : IsReal flat settings path (of_reference (ref_break reference.NoType (whole path)))
   missing_real = record {
     cycle = λ is. cc;
     syntax = λ is. cc;
@@ -35,13 +36,13 @@ module _ (rings : RingsAreReal) (told : RefBreaksAreReal) (flat : Flat) (path : 
     value = λ r is. cc;
   }
 
-  ref_real : (b : RefBreak) → IsFirstBreak flat path b → IsReal flat path (of_reference b)
+  ref_real : (b : RefBreak) → IsFirstBreak flat path b → IsReal flat settings path (of_reference b)
   ref_real b (in_walk e) = walk_real b e
-  ref_real b (kind_missing u k is) = subst (λ x. IsReal flat path (of_reference x)) (sym is) missing_real
+  ref_real b (kind_missing u k is) = subst (λ x. IsReal flat settings path (of_reference x)) (sym is) missing_real
 
-  pub break_real : (t : TokenBreak) → IsTokenBreak flat path t → IsReal flat path t
-  break_real t (by_reference b is e) = subst (IsReal flat path) (sym e) (ref_real b is)
-  break_real t (by_value kind meaning b meant found e) = subst (IsReal flat path) (sym e) (record {
+  pub break_real : (t : TokenBreak) → IsTokenBreak flat settings path t → IsReal flat settings path t
+  break_real t (by_reference b is e) = subst (IsReal flat settings path) (sym e) (ref_real b is)
+  break_real t (by_value kind meaning b meant found e) = subst (IsReal flat settings path) (sym e) (record {
     cycle = λ is. cc;
     syntax = λ is. cc;
     target = λ is. cc;

@@ -86,7 +86,7 @@ nil_second (x ∷ xs) ys e = absurd (nil_cons x xs e)
 
 pub record Has (flat : Flat) (settings : Settings) (token : TokenAt) (c : Cell) : Type 0 where
   pub path : c.path ≡ token.0
-  pub value : IsValueOf flat token.0 c.typed c.links
+  pub value : IsValueOf flat settings token.0 c.typed c.links
   pub room : HasRoom c.typed
   pub named : IsTokenPath token.0 → is_property (cell_name settings c) ≡ true
 
@@ -233,10 +233,10 @@ module _ (laws : Laws) (flat : Flat) (settings : Settings) (sheet : List Cell) (
         let to = target_cell.2 in
         let steps : s.steps ≡ l.trail = sym s.trail in
         let found : type_plain_at h.value.meaning l.trail ≡ Some meaning.0 = sym (same_part h.value.meaning l.trail) ∙ (ap (plain_at h.value.meaning) (sym steps) ∙ meaning.1) in
-        let checks : value_of (kind_of part) meaning.0 ≡ Ok part = laws.typed h.value.kind h.value.meaning meaning.0 c.typed part l.trail h.value.is_typed found at in
+        let checks : value_of settings.legacy (kind_of part) meaning.0 ≡ Ok part = laws.typed settings.legacy h.value.kind h.value.meaning meaning.0 c.typed part l.trail h.value.is_typed found at in
         let one : to.value.meaning ≡ meaning.0 = laws.meaning T (whole l.target) to.value.meaning meaning.0 to.value.meant.means target_means.0 in
         let kind : to.value.kind ≡ kind_of part = some_kind to.value.kind (kind_of part) (laws.kind T (own_in flat) (group_in flat) l.target (Some to.value.kind) l.kind to.value.meant.kind_of s.kind ∙ kinded) in
-        ok_same (value_of to.value.kind to.value.meaning) target_cell.0.typed part to.value.is_typed (ap₂ (λ x y. value_of x y) kind one ∙ checks)
+        ok_same (value_of settings.legacy to.value.kind to.value.meaning) target_cell.0.typed part to.value.is_typed (ap₂ (λ x y. value_of settings.legacy x y) kind one ∙ checks)
 
     target : Target k c l
     target = (s.less, s.deep, target_cell.0, target_cell.1, record { target = target_cell.2.path; same = same }, ((l.target, target_there.0), target_token, target_cell.2, s.behind))
@@ -269,7 +269,7 @@ module _ (laws : Laws) (flat : Flat) (settings : Settings) (sheet : List Cell) (
 
   pub is_sheet : ((token : TokenAt) → In token (finite.entries flat) → IsTokenPath token.0) → AllPairs ShareNoName (map (cell_names settings) sheet) → IsSheet settings sheet
   is_sheet paths apart = record {
-    typed = λ c i. let (token, j, h) = left_of (Has flat settings) (finite.entries flat) sheet c have i in laws.keeps h.value.kind h.value.meaning c.typed h.value.is_typed;
+    typed = λ c i. let (token, j, h) = left_of (Has flat settings) (finite.entries flat) sheet c have i in laws.keeps settings.legacy h.value.kind h.value.meaning c.typed h.value.is_typed;
     room = λ c i. let (token, j, h) = left_of (Has flat settings) (finite.entries flat) sheet c have i in h.room;
     named = λ c i. let (token, j, h) = left_of (Has flat settings) (finite.entries flat) sheet c have i in h.named (paths token j);
     apart = apart;
@@ -289,7 +289,7 @@ sheet_denotes laws flat settings cells found none paths =
     let bytes : sheet_bytes settings made.sheet ≡ sheet_for Form.Css cells = ap (sheet_text css_frame) (sym made.bodies) in
     record {
       tokens = made.sheet;
-      values = weaker (Has flat settings) (λ token c. (c.path ≡ token.0) × IsValueOf flat token.0 c.typed c.links) (λ token c h. (h.path, h.value)) (finite.entries flat) made.sheet made.have;
+      values = weaker (Has flat settings) (λ token c. (c.path ≡ token.0) × IsValueOf flat settings token.0 c.typed c.links) (λ token c h. (h.path, h.value)) (finite.entries flat) made.sheet made.have;
       denotes = subst (λ b. Denotes b (sheet_values settings made.sheet)) bytes (laws.denote settings made.sheet sheet);
       references = laws.references settings made.sheet sheet;
     }

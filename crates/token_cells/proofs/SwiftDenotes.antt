@@ -27,7 +27,7 @@ use Rattle.token_cells.proofs.Beside.{nil_cons, left_of, weaker, named_by, added
 -- a token and what it has
 record Has (flat : Flat) (settings : Settings) (token : TokenAt) (c : Cell) : Type 0 where
   path : c.path ≡ token.0
-  value : IsTypedOf flat token.0 c.typed
+  value : IsTypedOf flat settings token.0 c.typed
   named : IsTokenPath token.0 → is_identifier (swift_name settings c.path) ≡ true
 
 record AreMade (flat : Flat) (settings : Settings) (tokens : List TokenAt) (cells : List TokenCell) : Type 0 where
@@ -63,13 +63,13 @@ swift_denotes keeps names_apart denote flat settings cells base (found, none) pa
     let at : (c : Cell) → In c made.sheet → (t : TokenAt) × In t (finite.entries flat) × Has flat settings t c = λ c i. left_of (Has flat settings) (finite.entries flat) made.sheet c made.have i in
     let sheet : IsSheet settings made.sheet = record {
       base = base;
-      typed = λ c i. let (t, j, h) = at c i in let v = h.value.1 in keeps v.kind v.meaning c.typed v.is_typed;
+      typed = λ c i. let (t, j, h) = at c i in let v = h.value.1 in keeps settings.legacy v.kind v.meaning c.typed v.is_typed;
       named = λ c i. let (t, j, h) = at c i in h.named (paths t j);
       apart = apart;
     } in
     let bytes : sheet_bytes settings made.sheet ≡ sheet_for Form.Swift cells = ap (sheet_text swift_frame) (sym made.bodies) in
     record {
       tokens = made.sheet;
-      values = weaker (Has flat settings) (λ token c. (c.path ≡ token.0) × IsTypedOf flat token.0 c.typed) (λ token c h. (h.path, h.value)) (finite.entries flat) made.sheet made.have;
+      values = weaker (Has flat settings) (λ token c. (c.path ≡ token.0) × IsTypedOf flat settings token.0 c.typed) (λ token c h. (h.path, h.value)) (finite.entries flat) made.sheet made.have;
       denotes = subst (λ b. Denotes b (sheet_values settings made.sheet)) bytes (denote settings made.sheet sheet);
     }

@@ -35,9 +35,9 @@ module _ (alike : UnchangedIsAlike) (shown : ShownBySource) where
     broken b (in_walk e) = in_walk (sym same.broken ∙ e)
     broken b (kind_missing u n is) = kind_missing (sym same.broken ∙ u) ((same.kind None).0 n) is
 
-    breaks : (t : TokenBreak) → IsTokenBreak old path t → IsTokenBreak new path t
-    breaks t (by_reference b is e) = by_reference b (broken b is) e
-    breaks t (by_value k v b m r e) = by_value k v b (meant k v m) r e
+    breaks : (settings : Settings) (t : TokenBreak) → IsTokenBreak old settings path t → IsTokenBreak new settings path t
+    breaks settings t (by_reference b is e) = by_reference b (broken b is) e
+    breaks settings t (by_value k v b m r e) = by_value k v b (meant k v m) r e
 
     still_there : (f : Flattened) → finite.get old path ≡ Some f → (g : Flattened) × (finite.get new path ≡ Some g) × (raw_of f ≡ raw_of g)
     still_there f e = go (finite.get new path) refl (sym (ap (option_map raw_of) e) ∙ un path at_start)
@@ -53,7 +53,7 @@ module _ (alike : UnchangedIsAlike) (shown : ShownBySource) where
         ap₂ (λ d x. shown_extras d x (either f.def.deprecated f.group_mark)) s.description s.extensions ∙ ap (shown_extras g.def.description g.def.extensions) mark
 
     pub same_cell : (settings : Settings) (c : TokenCell) → IsCell old settings path c → IsCell new settings path c
-    same_cell settings (Refused rule place ring) h = breaks (token_break rule place ring) h
+    same_cell settings (Refused rule place ring) h = breaks settings (token_break rule place ring) h
     same_cell settings (Made css android ios json) h =
         let g = still_there h.entry h.there in
         record {

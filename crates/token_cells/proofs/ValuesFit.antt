@@ -139,39 +139,39 @@ families_read : (n : ℕ) (v : Value) (fs : List (List ℕ)) → FitsIn n v → 
 unfolding read_families
 families_read n v fs h e = families_by n (plain_string_in v) v fs h refl e
 
-simple_read : (n : ℕ) (k : Kind) (v : Value) (s : Simple) → FitsIn n v → simple_value k v ≡ Ok s
+simple_read : (legacy : Bool) (n : ℕ) (k : Kind) (v : Value) (s : Simple) → FitsIn n v → simple_value legacy k v ≡ Ok s
     → AreTexts (simple_families s)
 unfolding simple_value
-simple_read n kind.Color v s h e =
-    made (color_in v) _ s e (λ x g e2. found (λ z. AreTexts (simple_families z)) (simple.Color x) s e2 refl)
-simple_read n kind.Dimension v s h e =
-    made (size_in v) _ s e (λ x g e2. found (λ z. AreTexts (simple_families z)) (simple.Dimension x) s e2 refl)
-simple_read n kind.FontFamily v s h e =
+simple_read legacy n kind.Color v s h e =
+    made (color_in legacy v) _ s e (λ x g e2. found (λ z. AreTexts (simple_families z)) (simple.Color x) s e2 refl)
+simple_read legacy n kind.Dimension v s h e =
+    made (size_in legacy v) _ s e (λ x g e2. found (λ z. AreTexts (simple_families z)) (simple.Dimension x) s e2 refl)
+simple_read legacy n kind.FontFamily v s h e =
     made (read_families v) _ s e (λ x g e2.
     found (λ z. AreTexts (simple_families z)) (simple.FontFamily x) s e2 (families_read n v x h g))
-simple_read n kind.FontWeight v s h e =
+simple_read legacy n kind.FontWeight v s h e =
     made (weight_in v) _ s e (λ x g e2. found (λ z. AreTexts (simple_families z)) (simple.FontWeight x) s e2 refl)
-simple_read n kind.Duration v s h e =
-    made (time_in v) _ s e (λ x g e2. found (λ z. AreTexts (simple_families z)) (simple.Duration x) s e2 refl)
-simple_read n kind.CubicBezier v s h e =
+simple_read legacy n kind.Duration v s h e =
+    made (time_in legacy v) _ s e (λ x g e2. found (λ z. AreTexts (simple_families z)) (simple.Duration x) s e2 refl)
+simple_read legacy n kind.CubicBezier v s h e =
     made (curve_in v) _ s e (λ x g e2. found (λ z. AreTexts (simple_families z)) (simple.CubicBezier x) s e2 refl)
-simple_read n kind.Number v s h e =
+simple_read legacy n kind.Number v s h e =
     made (number_in v) _ s e (λ x g e2. found (λ z. AreTexts (simple_families z)) (simple.Number x) s e2 refl)
-simple_read n kind.StrokeStyle v s h e = absurd (let k : ⊥ = cc in k)
-simple_read n kind.Border v s h e = absurd (let k : ⊥ = cc in k)
-simple_read n kind.Transition v s h e = absurd (let k : ⊥ = cc in k)
-simple_read n kind.Shadow v s h e = absurd (let k : ⊥ = cc in k)
-simple_read n kind.Gradient v s h e = absurd (let k : ⊥ = cc in k)
-simple_read n kind.Typography v s h e = absurd (let k : ⊥ = cc in k)
+simple_read legacy n kind.StrokeStyle v s h e = absurd (let k : ⊥ = cc in k)
+simple_read legacy n kind.Border v s h e = absurd (let k : ⊥ = cc in k)
+simple_read legacy n kind.Transition v s h e = absurd (let k : ⊥ = cc in k)
+simple_read legacy n kind.Shadow v s h e = absurd (let k : ⊥ = cc in k)
+simple_read legacy n kind.Gradient v s h e = absurd (let k : ⊥ = cc in k)
+simple_read legacy n kind.Typography v s h e = absurd (let k : ⊥ = cc in k)
 
-typography_read : (n : ℕ) (v : Value) (t : Typography) → FitsIn n v → typography_in v ≡ Ok t → AreTexts t.family
+typography_read : (legacy : Bool) (n : ℕ) (v : Value) (t : Typography) → FitsIn n v → typography_in legacy v ≡ Ok t → AreTexts t.family
 unfolding typography_in
-typography_read n v t h e =
+typography_read legacy n v t h e =
     made (members_in v) _ t e (λ es i e1.
     made (member read_families (codes "fontFamily") es) _ t e1 (λ family f e2.
-    made (member size_in (codes "fontSize") es) _ t e2 (λ size s e3.
+    made (member (size_in legacy) (codes "fontSize") es) _ t e2 (λ size s e3.
     made (member weight_in (codes "fontWeight") es) _ t e3 (λ weight w e4.
-    made (member size_in (codes "letterSpacing") es) _ t e4 (λ spacing p e5.
+    made (member (size_in legacy) (codes "letterSpacing") es) _ t e4 (λ spacing p e5.
     made (member number_in (codes "lineHeight") es) _ t e5 (λ line_height l e6.
     let read : Typography = record {
       family = family;
@@ -189,64 +189,64 @@ typography_read n v t h e =
 abbrev pub most : ℕ
 most = 2 ^ 64
 
-one_few : (v : Value) (items : List ShadowItem) → one_item v ≡ Ok items → length items ≤ most
+one_few : (legacy : Bool) (v : Value) (items : List ShadowItem) → one_item legacy v ≡ Ok items → length items ≤ most
 unfolding one_item
-one_few v items e =
-    made (shadow_item_in v) _ items e (λ item g e2. found (λ z. length z ≤ most) (item ∷ []) items e2 (omega arith))
+one_few legacy v items e =
+    made (shadow_item_in legacy v) _ items e (λ item g e2. found (λ z. length z ≤ most) (item ∷ []) items e2 (omega arith))
 
-unless_few : (o : Option Value) (v : Value) (items : List ShadowItem) → unless_zero o (one_item v) ≡ Ok items
+unless_few : (legacy : Bool) (o : Option Value) (v : Value) (items : List ShadowItem) → unless_zero o (one_item legacy v) ≡ Ok items
     → length items ≤ most
-unless_few (Some zero) v items e = absurd (let k : ⊥ = cc in k)
-unless_few None v items e = one_few v items e
+unless_few legacy (Some zero) v items e = absurd (let k : ⊥ = cc in k)
+unless_few legacy None v items e = one_few legacy v items e
 
-shadows_by : (o : Option (List Value)) (v : Value) (items : List ShadowItem) → FitsIn most v
-    → if_list o (some_in shadow_item_in v) (one_shadow v) ≡ Ok items → length items ≤ most
+shadows_by : (legacy : Bool) (o : Option (List Value)) (v : Value) (items : List ShadowItem) → FitsIn most v
+    → if_list o (some_in (shadow_item_in legacy) v) (one_shadow legacy v) ≡ Ok items → length items ≤ most
 unfolding one_shadow
-shadows_by (Some vs) v items h e = some_few most shadow_item_in v items h e
-shadows_by None v items h e = made (members_in v) _ items e (λ es g e2. unless_few (named (codes "0") es) v items e2)
+shadows_by legacy (Some vs) v items h e = some_few most (shadow_item_in legacy) v items h e
+shadows_by legacy None v items h e = made (members_in v) _ items e (λ es g e2. unless_few legacy (named (codes "0") es) v items e2)
 
-shadows_few : (v : Value) (items : List ShadowItem) → FitsIn most v → shadows_in v ≡ Ok items → length items ≤ most
+shadows_few : (legacy : Bool) (v : Value) (items : List ShadowItem) → FitsIn most v → shadows_in legacy v ≡ Ok items → length items ≤ most
 unfolding shadows_in
-shadows_few v items h e = shadows_by (plain_array_in v) v items h e
+shadows_few legacy v items h e = shadows_by legacy (plain_array_in v) v items h e
 
-gradients_few : (v : Value) (stops : List ColorStop) → FitsIn most v → gradient_in v ≡ Ok stops → length stops ≤ most
+gradients_few : (legacy : Bool) (v : Value) (stops : List ColorStop) → FitsIn most v → gradient_in legacy v ≡ Ok stops → length stops ≤ most
 unfolding gradient_in
-gradients_few v stops h e = some_few most stop_in v stops h e
+gradients_few legacy v stops h e = some_few most (stop_in legacy) v stops h e
 
 -- What a value keeps to: its lists have no more items than memory has places, and its families are of bytes.
 pub record Keeps (t : Typed) : Type 0 where
   pub room : HasRoom t
   pub families : AreTexts (typed_families t)
 
-simple_keeps : (k : Kind) (v : Value) (t : Typed) → FitsIn most v → simple_in k v ≡ Ok t → Keeps t
+simple_keeps : (legacy : Bool) (k : Kind) (v : Value) (t : Typed) → FitsIn most v → simple_in legacy k v ≡ Ok t → Keeps t
 unfolding simple_in
-simple_keeps k v t h e =
-    made (simple_value k v) _ t e (λ s g e2.
-    found Keeps (typed.Simple s) t e2 (record { room = tt; families = simple_read most k v s h g }))
+simple_keeps legacy k v t h e =
+    made (simple_value legacy k v) _ t e (λ s g e2.
+    found Keeps (typed.Simple s) t e2 (record { room = tt; families = simple_read legacy most k v s h g }))
 
 -- what a fitting meaning is read as keeps to that
-pub values_keep : (k : Kind) (v : Value) (t : Typed) → FitsIn most v → value_of k v ≡ Ok t → Keeps t
+pub values_keep : (legacy : Bool) (k : Kind) (v : Value) (t : Typed) → FitsIn most v → value_of legacy k v ≡ Ok t → Keeps t
 unfolding value_of
-values_keep kind.Color v t h e = simple_keeps kind.Color v t h e
-values_keep kind.Dimension v t h e = simple_keeps kind.Dimension v t h e
-values_keep kind.FontFamily v t h e = simple_keeps kind.FontFamily v t h e
-values_keep kind.FontWeight v t h e = simple_keeps kind.FontWeight v t h e
-values_keep kind.Duration v t h e = simple_keeps kind.Duration v t h e
-values_keep kind.CubicBezier v t h e = simple_keeps kind.CubicBezier v t h e
-values_keep kind.Number v t h e = simple_keeps kind.Number v t h e
-values_keep kind.StrokeStyle v t h e =
-    made (stroke_in v) _ t e (λ x g e2. found Keeps (typed.StrokeStyle x) t e2 (record { room = tt; families = refl }))
-values_keep kind.Border v t h e =
-    made (border_in v) _ t e (λ x g e2. found Keeps (typed.Border x) t e2 (record { room = tt; families = refl }))
-values_keep kind.Transition v t h e =
-    made (transition_in v) _ t e (λ x g e2.
+values_keep legacy kind.Color v t h e = simple_keeps legacy kind.Color v t h e
+values_keep legacy kind.Dimension v t h e = simple_keeps legacy kind.Dimension v t h e
+values_keep legacy kind.FontFamily v t h e = simple_keeps legacy kind.FontFamily v t h e
+values_keep legacy kind.FontWeight v t h e = simple_keeps legacy kind.FontWeight v t h e
+values_keep legacy kind.Duration v t h e = simple_keeps legacy kind.Duration v t h e
+values_keep legacy kind.CubicBezier v t h e = simple_keeps legacy kind.CubicBezier v t h e
+values_keep legacy kind.Number v t h e = simple_keeps legacy kind.Number v t h e
+values_keep legacy kind.StrokeStyle v t h e =
+    made (stroke_in legacy v) _ t e (λ x g e2. found Keeps (typed.StrokeStyle x) t e2 (record { room = tt; families = refl }))
+values_keep legacy kind.Border v t h e =
+    made (border_in legacy v) _ t e (λ x g e2. found Keeps (typed.Border x) t e2 (record { room = tt; families = refl }))
+values_keep legacy kind.Transition v t h e =
+    made (transition_in legacy v) _ t e (λ x g e2.
     found Keeps (typed.Transition x) t e2 (record { room = tt; families = refl }))
-values_keep kind.Shadow v t h e =
-    made (shadows_in v) _ t e (λ x g e2.
-    found Keeps (typed.Shadow x) t e2 (record { room = shadows_few v x h g; families = refl }))
-values_keep kind.Gradient v t h e =
-    made (gradient_in v) _ t e (λ x g e2.
-    found Keeps (typed.Gradient x) t e2 (record { room = gradients_few v x h g; families = refl }))
-values_keep kind.Typography v t h e =
-    made (typography_in v) _ t e (λ x g e2.
-    found Keeps (typed.Typography x) t e2 (record { room = tt; families = typography_read most v x h g }))
+values_keep legacy kind.Shadow v t h e =
+    made (shadows_in legacy v) _ t e (λ x g e2.
+    found Keeps (typed.Shadow x) t e2 (record { room = shadows_few legacy v x h g; families = refl }))
+values_keep legacy kind.Gradient v t h e =
+    made (gradient_in legacy v) _ t e (λ x g e2.
+    found Keeps (typed.Gradient x) t e2 (record { room = gradients_few legacy v x h g; families = refl }))
+values_keep legacy kind.Typography v t h e =
+    made (typography_in legacy v) _ t e (λ x g e2.
+    found Keeps (typed.Typography x) t e2 (record { room = tt; families = typography_read legacy most v x h g }))

@@ -46,11 +46,11 @@ pub record IsMeant (flat : Flat) (path : TokenPath) (kind : Kind) (meaning : Pla
 
 -- The token has this value: what its whole value means, read under its kind. These are the references without steps
 -- that are written in it.
-pub record IsValueOf (flat : Flat) (path : TokenPath) (typed : Typed) (links : List Link) : Type 0 where
+pub record IsValueOf (flat : Flat) (settings : Settings) (path : TokenPath) (typed : Typed) (links : List Link) : Type 0 where
   pub kind : Kind
   pub meaning : Plain
   pub meant : IsMeant flat path kind meaning
-  pub is_typed : value_of kind meaning ≡ Ok typed
+  pub is_typed : value_of settings.legacy kind meaning ≡ Ok typed
   pub are_links : LinksAt (written_in flat) (own_in flat) (group_in flat) (whole path) links
 
 -- A rule that a token breaks, the place where it does, which may stand in another token, and the places of a ring.
@@ -69,10 +69,10 @@ abbrev pub of_value : TokenPath → ValueBreak → TokenBreak
 of_value path b = token_break (Value b.rule) (record { token = path; trail = b.trail }) []
 
 -- The first rule that a token breaks: that of its references, then that its kind is missing, then that of its value.
-pub data IsTokenBreak (flat : Flat) (path : TokenPath) : TokenBreak → Type 0 where
-  by_reference : {t : TokenBreak} (b : RefBreak) → IsFirstBreak flat path b → t ≡ of_reference b → IsTokenBreak flat path t
+pub data IsTokenBreak (flat : Flat) (settings : Settings) (path : TokenPath) : TokenBreak → Type 0 where
+  by_reference : {t : TokenBreak} (b : RefBreak) → IsFirstBreak flat path b → t ≡ of_reference b → IsTokenBreak flat settings path t
   by_value : {t : TokenBreak} (kind : Kind) (meaning : Plain) (b : ValueBreak) → IsMeant flat path kind meaning
-      → value_of kind meaning ≡ Err b → t ≡ of_value path b → IsTokenBreak flat path t
+      → value_of settings.legacy kind meaning ≡ Err b → t ≡ of_value path b → IsTokenBreak flat settings path t
 
 -- What the token of a value gives to a style sheet: the names of its values, and its lines. The lists of the value
 -- have no more items than memory has places, and a path of the Format Module has a name of CSS.
@@ -123,14 +123,14 @@ pub record GivesAll (settings : Settings) (path : TokenPath) (entry : Flattened)
 pub record IsMade (flat : Flat) (settings : Settings) (path : TokenPath) (css android ios json : Frag) : Type 0 where
   pub typed : Typed
   pub links : List Link
-  pub value : IsValueOf flat path typed links
+  pub value : IsValueOf flat settings path typed links
   pub entry : Flattened
   pub there : finite.get flat path ≡ Some entry
   pub gives : GivesAll settings path entry typed links css android ios json
 
 -- What a token comes to: the first rule that it breaks, or what it gives to each platform.
 abbrev pub IsCell : Flat → Settings → TokenPath → TokenCell → Type 0
-IsCell flat settings path (Refused rule place ring) = IsTokenBreak flat path (token_break rule place ring)
+IsCell flat settings path (Refused rule place ring) = IsTokenBreak flat settings path (token_break rule place ring)
 IsCell flat settings path (Made css android ios json) = IsMade flat settings path css android ios json
 
 -- those of the tokens, in their order

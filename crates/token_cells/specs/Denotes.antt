@@ -20,7 +20,7 @@ use Rattle.token_cells.specs.TokenCell.{TokenCell}
 -- it for a part is one of a token with the part's value.
 pub record SheetDenotes (flat : Flat) (settings : Settings) (bytes : List ℕ) : Type 0 where
   pub tokens : List Cell
-  pub values : AllZip (λ token c. (c.path ≡ token.0) × IsValueOf flat token.0 c.typed c.links) (finite.entries flat) tokens
+  pub values : AllZip (λ token c. (c.path ≡ token.0) × IsValueOf flat settings token.0 c.typed c.links) (finite.entries flat) tokens
   pub denotes : Denotes bytes (sheet_values settings tokens)
   pub references : Each tokens (λ c. AllByRecursion (λ e. AllByRecursion (Refers settings tokens c) e.parts)
       (cell_entries settings c))

@@ -22,25 +22,26 @@ use Rattle.token_cells.specs.TokenCell.{TokenCell}
 use Rattle.refusals.specs.declared.rule.CellRule.TheVariants.{Ref, Value}
 
 -- the token means a value that breaks the rule at this place of the token
-pub record BreaksValue (flat : Flat) (path : TokenPath) (r : ValueRule) (place : Place) : Type 0 where
+pub record BreaksValue (flat : Flat) (settings : Settings) (path : TokenPath) (r : ValueRule) (place : Place) : Type 0 where
   pub kind : Kind
   pub meaning : Plain
   pub meant : IsMeant flat path kind meaning
   pub token : place.token ≡ path
-  pub broken : value_of kind meaning ≡ Err (record { rule = r; trail = place.trail })
+  pub broken : value_of settings.legacy kind meaning ≡ Err (record { rule = r; trail = place.trail })
 
 -- What is told of a token's break holds. A ring is one: its places differ, each asks for the next, and the last for
 -- the first. A wrong spelling stands at the place, a reference whose target is lost stands there and leads nowhere,
 -- and a rule of values is broken there by what the token means.
-pub record IsReal (flat : Flat) (path : TokenPath) (b : TokenBreak) : Type 0 where
+pub record IsReal (flat : Flat) (settings : Settings) (path : TokenPath) (b : TokenBreak) : Type 0 where
   pub cycle : b.rule ≡ Ref reference.Cycle → IsRingOfPlaces (written_in flat) b.ring
   pub syntax : b.rule ≡ Ref reference.RefSyntax → written_in flat b.place ≡ Some misspelled
   pub target : b.rule ≡ Ref reference.RefTarget
       → (is_reference (written_in flat b.place) ≡ true) × ((q : Place) → Leads (written_in flat) b.place q → ⊥)
-  pub value : (r : ValueRule) → b.rule ≡ Value r → BreaksValue flat path r b.place
+  pub value : (r : ValueRule) → b.rule ≡ Value r → BreaksValue flat settings path r b.place
 
 abbrev pub BreaksAreReal : Type 0
-BreaksAreReal = (flat : Flat) (path : TokenPath) (b : TokenBreak) → IsTokenBreak flat path b → IsReal flat path b
+BreaksAreReal = (flat : Flat) (settings : Settings) (path : TokenPath) (b : TokenBreak) → IsTokenBreak flat settings path b
+    → IsReal flat settings path b
 
 -- tokens of a flat tree come to one list of cells
 abbrev pub OneCells : Type 0

@@ -21,19 +21,19 @@ use Rattle.token_cells.specs.declared.format.Format.TheVariants.{Android, Swift,
 use Rattle.token_cells.specs.TokenCell.{TokenCell}
 
 -- the token's whole value means this, read under its kind
-abbrev pub IsTypedOf : Flat → TokenPath → Typed → Type 0
-IsTypedOf flat path typed = (links : List Link) × IsValueOf flat path typed links
+abbrev pub IsTypedOf : Flat → Settings → TokenPath → Typed → Type 0
+IsTypedOf flat settings path typed = (links : List Link) × IsValueOf flat settings path typed links
 
 -- The bytes are read as a resource file, or a file of Swift constants, whose names have exactly the values that the
 -- tokens of the flat tree have.
 pub record AndroidDenotes (flat : Flat) (settings : Settings) (bytes : List ℕ) : Type 0 where
   pub tokens : List android.Cell
-  pub values : AllZip (λ token c. (c.path ≡ token.0) × IsTypedOf flat token.0 c.typed) (finite.entries flat) tokens
+  pub values : AllZip (λ token c. (c.path ≡ token.0) × IsTypedOf flat settings token.0 c.typed) (finite.entries flat) tokens
   pub denotes : android.Denotes bytes (android.sheet_values settings tokens)
 
 pub record SwiftDenotes (flat : Flat) (settings : Settings) (bytes : List ℕ) : Type 0 where
   pub tokens : List swift.Cell
-  pub values : AllZip (λ token c. (c.path ≡ token.0) × IsTypedOf flat token.0 c.typed) (finite.entries flat) tokens
+  pub values : AllZip (λ token c. (c.path ≡ token.0) × IsTypedOf flat settings token.0 c.typed) (finite.entries flat) tokens
   pub denotes : swift.Denotes bytes (swift.sheet_values settings tokens)
 
 -- what is said of the token that stands at the path
@@ -42,9 +42,9 @@ HasExtras flat path extras = (f : Flattened) × (finite.get flat path ≡ Some f
 
 -- The bytes are read as one object, whose members are those of the tokens: the type, the value, and what else is said
 -- of them.
-pub record JsonDenotes (flat : Flat) (bytes : List ℕ) : Type 0 where
+pub record JsonDenotes (flat : Flat) (settings : Settings) (bytes : List ℕ) : Type 0 where
   pub tokens : List json.Cell
-  pub values : AllZip (λ token c. (c.path ≡ token.0) × IsTypedOf flat token.0 c.typed × HasExtras flat token.0 c.extras)
+  pub values : AllZip (λ token c. (c.path ≡ token.0) × IsTypedOf flat settings token.0 c.typed × HasExtras flat token.0 c.extras)
       (finite.entries flat) tokens
   pub denotes : json.Denotes bytes (json.sheet_members tokens)
 
@@ -68,4 +68,4 @@ SwiftCellsDenote = (flat : Flat) (settings : Settings) (cells : List TokenCell) 
 
 abbrev pub JsonCellsDenote : Type 0
 JsonCellsDenote = (flat : Flat) (settings : Settings) (cells : List TokenCell) → AreUnbroken flat settings cells
-    → AreDefinitions flat → JsonDenotes flat (sheet_for Json cells)
+    → AreDefinitions flat → JsonDenotes flat settings (sheet_for Json cells)

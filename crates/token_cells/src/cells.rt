@@ -1,23 +1,18 @@
 //! What all tokens of a flat tree come to.
 
-ghost use Rattle.std.specs.Prelude.{◌≡◌, ◌+◌, ◌≤◌, List, Some, IfOk, IfSome, OnOk, length};
+ghost use Rattle.std.specs.Prelude.{◌≡◌, ◌+◌, ◌≤◌, List, IfOk, OnOk, length};
 ghost use Rattle.std.specs.FinMap as map;
-ghost use Rattle.token_cells.specs.Cell.{AreCells, IsCell};
+ghost use Rattle.token_cells.specs.Cell.{AreCells};
 ghost use Rattle.token_cells.specs.TokenCell.{TokenCell};
-ghost use Rattle.token_cells.specs.inner.Earlier.{IsKeptCell, IsLone};
 ghost use Rattle.token_cells.specs.inner.Growing.{AreSheets, AreShown, HoldAll};
-ghost use Rattle.token_cells.specs.inner.Kept.{kept_view, open_texts, rows_view, texts_of};
-ghost use Rattle.token_cells.specs.inner.Making.{ComesTo};
+ghost use Rattle.token_cells.specs.inner.Kept.{open_texts, rows_view, texts_of};
 
-use crate::drafts::Drafts;
 use crate::earlier::Earlier;
 use crate::evaluated::Evaluated;
-use crate::keeping::Kept;
+use crate::gathering::grown;
 use crate::pages::{OpenPages, Pages};
 use crate::row::Row;
-use crate::token_cell::row_of_entry;
-use group_inherit::{Entry, Flat};
-use name_path::Path;
+use group_inherit::Flat;
 use std::alloc::Global;
 use std::marker::Model;
 use std::sync::ledger::Ledger;
@@ -67,40 +62,6 @@ impl<'s> Cells<'s> {
     }
 }
 
-/// What a token comes to, and whether it is known to name no other.
-#[derive(Drop)]
-struct Answer<'s> {
-    row: Row<'s>,
-    lone: bool,
-}
-
-// What a token of the flat tree comes to. It is one step.
-fn token_answer<'s, N: Ledger>(
-    alloc: Global,
-    drafts: &mut Drafts,
-    pages: &mut OpenPages,
-    flat: &Flat<'s>,
-    token: &(Path<'s>, Entry<'s>),
-    cfg: &Config,
-    kept: Option<Kept<'_, 's>>,
-    evals: &mut Steps<N>,
-) -> Result<Answer<'s>, NoMemory>
-    requires token { map.get flat.now token.now.0 ≡ Some token.now.1 }
-    requires kept { IfSome kept (λ k. IsKeptCell cfg.now token.now (kept_view k)) }
-    ensures step { evals.new ≡ evals.old + 1 }
-    ensures row { IfOk result (λ a.
-        ComesTo (IsCell flat.now cfg.now token.now.0) pages.old pages.new a.row) }
-    ensures lone { IfOk result (λ a. IsLone token.now a.lone) }
-{
-    if let Some(kept) = kept {
-        evals.tick();
-        let row = kept.add_to(pages)?;
-        return Ok(Answer { row, lone: true });
-    }
-    let row = row_of_entry(alloc, drafts, pages, flat, &token.0, &token.1, cfg, evals)?;
-    Ok(Answer { row, lone: false })
-}
-
 /// What each token of the flat tree comes to, in path order, and the files that they give. Each token is one step. A token
 /// that stands as it stood in the earlier tree and names no other is neither evaluated nor spelled again.
 pub fn cells_of<'s, N: Ledger>(
@@ -117,27 +78,6 @@ pub fn cells_of<'s, N: Ledger>(
     // Where memory runs out, some tokens are not evaluated.
     ensures at_most { evals.new ≤ evals.old + length (map.entries flat.entry) }
 {
-    let tokens = flat.as_slice();
-    let mut at = 0;
-    let mut pages = OpenPages::new(alloc, tokens.len())?;
-    let mut rows = Vec::with_capacity(alloc, tokens.len())?;
-    let mut lone = Vec::new(alloc);
-    let mut drafts = Drafts::new(alloc);
-    for token in tokens {
-        let kept = earlier.cell(alloc, cfg, &mut at, token)?;
-        let Answer { row, lone: is_lone } = token_answer(
-            alloc,
-            &mut drafts,
-            &mut pages,
-            &flat,
-            token,
-            cfg,
-            kept,
-            evals,
-        )?;
-        rows.push(row)?;
-        lone.push(is_lone)?;
-    }
-    let cells = Cells::new(pages, rows)?;
-    Ok(Evaluated::new(flat, cells, lone))
+    let growing = grown(alloc, &flat, cfg, earlier, evals)?;
+    growing.end(flat, cfg)
 }

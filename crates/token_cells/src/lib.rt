@@ -7,6 +7,7 @@ mod drafts;
 mod earlier;
 mod evaluated;
 mod format;
+mod gathering;
 mod keeping;
 mod laws;
 mod names;

@@ -2,14 +2,17 @@
 
 ghost use Rattle.std.specs.Prelude.{◌≡◌, ◌+◌, [], ◌∷◌, Ok, Some, IfOk, unwrap_or, option_map};
 ghost use Rattle.std.specs.FinMap as map;
+ghost use Rattle.std.specs.List.{slice_get};
 ghost use Rattle.json_span.specs.PlainView.{plain_view};
 ghost use Rattle.group_inherit.specs.Flattening.{Flattened};
 ghost use Rattle.group_inherit.specs.Merging.{either};
 ghost use Rattle.json_out.specs.Properties.{extras_view};
-ghost use Rattle.alias_ref.specs.Answer.{IsResolved};
+ghost use Rattle.alias_ref.specs.Answer.{IsResolved, IsRefBreak};
 ghost use Rattle.composite_rules.specs.Value.{value_of};
 ghost use Rattle.alias_ref.specs.Laws.{Flat as FlatTree};
-ghost use Rattle.token_cells.specs.Cell.{IsCell, extras_of};
+ghost use Rattle.transforms.specs.Config.{Settings};
+ghost use Rattle.token_cells.specs.Cell.{IsCell, TokenPath, extras_of};
+ghost use Rattle.token_cells.specs.declared.pages.OpenPages.{OpenPages};
 ghost use Rattle.token_cells.specs.TokenCell.{TokenCell, Refused};
 ghost use Rattle.token_cells.specs.inner.Kept.{PageTexts, row_view};
 ghost use Rattle.token_cells.specs.inner.Making.{IsMadeOf, ComesTo};
@@ -19,7 +22,7 @@ use crate::cells::Cells;
 use crate::drafts::Drafts;
 use crate::pages::OpenPages;
 use crate::row::{Fragments, Refusal, Row};
-use alias_ref::{RefFault, Resolved, evaluate_entry};
+use alias_ref::{Evaluator, RefFault, Resolved, evaluate_entry};
 use composite_rules::{Typed, check, value_laws};
 use group_inherit::{Entry, Flat};
 use json_out::Extras;
@@ -105,7 +108,8 @@ fn made<'s>(
     typed: &Typed<'s>,
     cfg: &Config,
 ) -> Result<Row<'s>, NoMemory>
-    requires { value_of resolved.now.kind (plain_view resolved.now.plain) ≡ Ok typed.now }
+    requires { value_of cfg.now.legacy resolved.now.kind (plain_view resolved.now.plain)
+        ≡ Ok typed.now }
     ensures { IfOk result (ComesTo
         (IsMadeOf cfg.now path.now entry.now resolved.now.links typed.now)
         pages.old pages.new) }
@@ -172,18 +176,55 @@ fn resolved_row<'s>(
         → IsResolved flat path.now resolved.now
         → IfOk result (ComesTo (IsCell flat cfg.now path.now) pages.old pages.new) }
 {
-    match check(alloc, resolved.kind, &resolved.plain) {
+    match check(alloc, resolved.kind, &resolved.plain, cfg.legacy) {
         Ok(typed) => made(alloc, drafts, pages, path, entry, resolved, &typed, cfg),
         Err(ValueFault::Broken { rule, trail }) => refused_value(alloc, path, rule, trail),
         Err(ValueFault::NoMemory) => Err(NoMemory),
     }
 }
 
-/// What a token comes to that is at hand: the flat tree holds it under the path. What it gives is added to the pages; its
-/// lines are made in the drafts, whatever they hold. Else as [`cell`].
-pub(crate) fn row_of_entry<'s, N: Ledger>(
+// The row of a token whose references break a rule.
+fn fault_row<'s>(alloc: Global, fault: RefFault<'s>) -> Result<Row<'s>, NoMemory>
+    ensures { (flat : FlatTree) (settings : Settings) (path : TokenPath) (pages : OpenPages)
+        → IsRefBreak flat path fault.entry
+        → IfOk result (ComesTo (IsCell flat settings path) pages pages) }
+{
+    match fault {
+        RefFault::Broken { rule, place, ring } => {
+            let rule = CellRule::Ref(rule);
+            refused(alloc, Refusal { rule, place, ring })
+        }
+        RefFault::NoMemory => Err(NoMemory),
+    }
+}
+
+/// What the i-th token of the flat tree comes to. What it gives is added to the pages; its lines are made in the drafts,
+/// whatever they hold. Else as [`cell`].
+pub(crate) fn evaluated_row<'s, N: Ledger>(
     alloc: Global,
     drafts: &mut Drafts,
+    pages: &mut OpenPages,
+    evaluator: &mut Evaluator<'_, 's>,
+    i: usize,
+    token: &(Path<'s>, Entry<'s>),
+    cfg: &Config,
+    evals: &mut Steps<N>,
+) -> Result<Row<'s>, NoMemory>
+    requires token { slice_get (map.entries evaluator.old) i ≡ Some token.now }
+    ensures tree { evaluator.new ≡ evaluator.old }
+    ensures step { evals.new ≡ evals.old + 1 }
+    ensures row { IfOk result
+        (ComesTo (IsCell evaluator.old cfg.now token.now.0) pages.old pages.new) }
+{
+    match evaluator.evaluate(alloc, i, token, evals) {
+        Ok(resolved) => resolved_row(alloc, drafts, pages, &token.0, &token.1, &resolved, cfg),
+        Err(fault) => fault_row(alloc, fault),
+    }
+}
+
+// What a token comes to that is at hand: the flat tree holds it under the path.
+fn row_of_entry<'s, N: Ledger>(
+    alloc: Global,
     pages: &mut OpenPages,
     flat: &Flat<'s>,
     path: &Path<'s>,
@@ -195,13 +236,10 @@ pub(crate) fn row_of_entry<'s, N: Ledger>(
     ensures step { evals.new ≡ evals.old + 1 }
     ensures row { IfOk result (ComesTo (IsCell flat.now cfg.now path.now) pages.old pages.new) }
 {
+    let mut drafts = Drafts::new(alloc);
     match evaluate_entry(alloc, flat, path, entry, evals) {
-        Ok(resolved) => resolved_row(alloc, drafts, pages, path, entry, &resolved, cfg),
-        Err(RefFault::Broken { rule, place, ring }) => {
-            let rule = CellRule::Ref(rule);
-            refused(alloc, Refusal { rule, place, ring })
-        }
-        Err(RefFault::NoMemory) => Err(NoMemory),
+        Ok(resolved) => resolved_row(alloc, &mut drafts, pages, path, entry, &resolved, cfg),
+        Err(fault) => fault_row(alloc, fault),
     }
 }
 
@@ -226,18 +264,8 @@ pub fn cell<'s, N: Ledger>(
         evals.tick();
         return Err(NoMemory);
     };
-    let mut drafts = Drafts::new(alloc);
     let mut rows = Vec::new(alloc);
-    let row = row_of_entry(
-        alloc,
-        &mut drafts,
-        &mut pages,
-        flat,
-        path,
-        entry,
-        cfg,
-        evals,
-    )?;
+    let row = row_of_entry(alloc, &mut pages, flat, path, entry, cfg, evals)?;
     rows.push(row)?;
     Cells::new(pages, rows)
 }

@@ -1,5 +1,6 @@
 -- Where a walk stands, and what its trace holds.
 use Rattle.std.specs.Prelude.{◌≡◌, ℕ, ◌<◌, ◌^◌, Contains, List, ◌++◌, length, map, Bool, true, false, Some, None, option_map, option_and_then, unwrap_or}
+use Rattle.std.specs.Borrow.{Bor}
 use Rattle.std.specs.FinMap as flat_map
 use Rattle.name_path.specs.declared.link.Link.{Link}
 use Rattle.name_path.specs.declared.place.Place.{Place}
@@ -11,6 +12,7 @@ use Rattle.alias_ref.specs.Visits.{most_on_branch, most_visits}
 use Rattle.alias_ref.specs.Kinds.{Kinds, LinksAt, LinksEach}
 use Rattle.alias_ref.specs.Laws.{Flat}
 use Rattle.alias_ref.specs.inner.Contents.{IsContent}
+use Rattle.alias_ref.specs.declared.content.Content.{Content}
 use Rattle.alias_ref.specs.declared.spot.Spot.{Spot}
 use Rattle.alias_ref.specs.declared.trace.Trace.{Trace}
 
@@ -53,6 +55,10 @@ pub record IsSpot (flat : Flat) (s : Spot) : Type 0 where
   pub start : s.start ≡ start_of value
   pub content : IsContent s.content (role_at s.token.now.def.by_ref s.place.trail) (tree_of value)
   pub sound : IsFlawless value
+
+-- the spot of a place whose token, start and content are at hand
+abbrev pub spot_at : Place → Bor Flattened → ℕ → Content → Spot
+spot_at p f n c = record { place = p; token = f; start = n; content = c }
 
 -- the value is the part after a step of what is written at the place
 pub record IsPartAt (flat : Flat) (p : Place) (f : Flattened) (s : Step) (m : Placed) : Type 0 where

@@ -10,7 +10,7 @@ use Rattle.json_span.specs.declared.items.Items.{Items}
 use Rattle.json_span.specs.declared.plain.Plain.{Plain}
 use Rattle.json_span.specs.declared.plain.PlainFields.{PlainFields}
 use Rattle.json_span.specs.declared.plain.PlainItems.{PlainItems}
-use Rattle.alias_ref.specs.Written.{WrittenPlaces, Parts, parts_by_index, parts_by_name, steps_of, written_in}
+use Rattle.alias_ref.specs.Written.{refers, WrittenPlaces, Parts, parts_by_index, parts_by_name, steps_of, written_in}
 use Rattle.alias_ref.specs.Meaning.{Means, EachMeans}
 use Rattle.alias_ref.specs.Visits.{Visit, Way, way_of, settle_by, pass_written, passed, visits_each, walk_written, walked}
 use Rattle.alias_ref.specs.Kinds.{KindOf, own_in, group_in}
@@ -18,6 +18,7 @@ use Rattle.alias_ref.specs.Laws.{Flat}
 use Rattle.alias_ref.specs.declared.fault.RefFault.{RefFault}
 use Rattle.alias_ref.specs.declared.spot.Spot.{Spot}
 use Rattle.alias_ref.specs.declared.trace.Trace.{Trace}
+use Rattle.alias_ref.specs.declared.walking.Found.{Found}
 use Rattle.alias_ref.specs.inner.Contents.{content_view}
 use Rattle.alias_ref.specs.inner.Seen.{Sees}
 use Rattle.alias_ref.specs.inner.Spots.{HasGrown, HasGrownEach}
@@ -49,6 +50,9 @@ walking p T b = walked T b p
 abbrev pub walking_on : Spot → Visiting
 walking_on s T b = walk_written T (settle_by T (passed T b)) (walked T b) s.place (Some (content_view s.content))
 
+abbrev pub walking_reference : Place → Place → Visiting
+walking_reference home named T b = walk_written T (settle_by T (passed T b)) (walked T b) home (Some (refers named.token named.trail))
+
 abbrev pub walking_parts : Place → Parts → Visiting
 walking_parts p ps T b = visits_each (walked T b) p (steps_of ps)
 
@@ -72,6 +76,13 @@ IsKindAt flat p k = p.trail ≡ [] → KindOf (written_in flat) (own_in flat) (g
 
 abbrev pub HasLinks : Bool → Flat → Place → List Link → List Link → Type 0
 HasLinks own flat p old new = HasGrown own (written_in flat) (own_in flat) (group_in flat) p old new
+
+-- what was found where a reference ends
+pub record IsTarget (flat : Flat) (old : Trace) (home named : Place) (found : Found) : Type 0 where
+  pub place : Place
+  pub ends : (leading home named (written_in flat) old.places.items).ends ≡ Some place
+  pub means : IsMeantAt flat place found.plain
+  pub kind : IsKindAt flat place found.kind
 
 -- and at its parts
 abbrev pub item_parts : Items → Parts

@@ -9,7 +9,7 @@ use Rattle.alias_ref.specs.inner.Contents.{content_view}
 use Rattle.alias_ref.specs.inner.Seen.{Clean, Sees, IsFault}
 use Rattle.alias_ref.specs.inner.Spots.{IsSpot, start_in}
 use Rattle.alias_ref.proofs.FirstBreaks.{clean_nil, clean_append, enters, passed-fault}
-use Rattle.alias_ref.proofs.SpotsStand.{spot_written, spot_start, spot_whole, spot_no_part, items_fit, settled_spot, stays_there}
+use Rattle.alias_ref.proofs.SpotsStand.{spot_written, spot_start, spot_whole, spot_no_part, items_fit, settled_spot}
 use Rattle.alias_ref.proofs.TracesGrow.{spot_own, starts_more, same_then, none_case, some_case, not_there, drop_all}
 use Rattle.alias_ref.proofs.WalksInTurns.{way_lost, way_found, turn_fault, turn_lost, turn_on, turns_done, pass_fault, pass_clean, pass_ends, refers_fault, refers_then_fault, refers_clean, settle_passes, settle_stays, settled_below, next_steps, sees_by}
 use Rattle.alias_ref.proofs.passing.+passing.Goals as goal
@@ -117,7 +117,7 @@ pub pass-returns-in_err-enter-clause-seen : goal.pass-returns-in_err-enter-claus
 pass-returns-in_err-enter-clause-seen t c =
     let old = c.args.trace.now in
     let T = written_in c.args.flat.now in
-    let spot = c.args.spot in
+    let spot = c.args.spot.now in
     let fault = passed-fault T c.in_err-enter.field-0.0 old.visits old.places.items spot.place (spot_own old c.requires.at c.requires.starts c.in_err-enter.ensures.broken) in
     let p = err_from_is_err_and c.from_residual.result c.from_residual.ensures.1 in
     rw (p.1, p.2) fault
@@ -127,21 +127,21 @@ pass-pass_on-requires t c =
     let old = c.args.trace.now in
     let T = written_in c.args.flat.now in
     let flat = c.args.flat.now in
-    let spot = c.args.spot in
+    let spot = c.args.spot.now in
     let is = spot_written flat spot c.requires.at in
     let e = c.in_ok-enter.ensures in
     let own = spot_own old c.requires.at c.requires.starts e.broken in
     let entered = enters T old.visits old.places.items spot.place own in
     let grown : length c.enter.new.self.places.items ≡ length old.places.items + 1 = ap length e.places ∙ length-append old.places.items (spot.place ∷ []) in
     let starts = starts_more (start_in flat) old.places.items c.enter.new.self.places.items old.starts.items c.enter.new.self.starts.items spot.place spot.start c.requires.starts e.places e.starts (spot_start flat spot c.requires.at) in
-    (omega (arith, entered.room, grown), (c.requires.at, (omega (arith, entered.room, grown), (starts, ap is_misspelled (sym is) ∙ entered.spelled))))
+    (omega (arith, entered.room, grown), (c.requires.at, (omega (arith, entered.room, grown), (starts, (ap is_misspelled (sym is) ∙ entered.spelled, c.requires.refers)))))
 
 pub pass-returns-in_err-end-clause-seen : goal.pass-returns-in_err-end-clause-seen
 pass-returns-in_err-end-clause-seen t c =
     let old = c.args.trace.now in
     let T = written_in c.args.flat.now in
     let flat = c.args.flat.now in
-    let spot = c.args.spot in
+    let spot = c.args.spot.now in
     let is = spot_written flat spot c.requires.at in
     let e = c.in_ok-enter.ensures in
     let own = spot_own old c.requires.at c.requires.starts e.broken in
@@ -153,7 +153,7 @@ pass-returns t c =
     let old = c.args.trace.now in
     let T = written_in c.args.flat.now in
     let flat = c.args.flat.now in
-    let spot = c.args.spot in
+    let spot = c.args.spot.now in
     let is = spot_written flat spot c.requires.at in
     let e = c.in_ok-enter.ensures in
     let own = spot_own old c.requires.at c.requires.starts e.broken in
@@ -169,7 +169,7 @@ pub pass_on-returns-in_err-target-clause-seen : goal.pass_on-returns-in_err-targ
 pass_on-returns-in_err-target-clause-seen t c =
     let T = written_in c.args.flat.now in
     let settle = settle_by T (passed T c.args.trace.now.places.items) in
-    let spot = c.args.spot in
+    let spot = c.args.spot.now in
     let token = c.in-Refers.named.token in
     let trail = c.in-Refers.named.trail in
     let is = ap content_view c.in-Refers.is in
@@ -178,11 +178,11 @@ pass_on-returns-in_err-target-clause-seen t c =
     rw (p.1, p.2) (subst (λ w. IsFault f (first_break T c.args.trace.now.visits (pass_written T settle spot.place (Some w)).seen)) (sym is)
     (refers_fault T f c.args.trace.now.visits settle spot.place token trail c.in_err-target.ensures.seen))
 
-pub pass_on-returns-in-Refers-clause-seen : goal.pass_on-returns-in-Refers-clause-seen
-pass_on-returns-in-Refers-clause-seen t c =
+pub pass_on-returns-clause-seen : goal.pass_on-returns-clause-seen
+pass_on-returns-clause-seen t c =
     let T = written_in c.args.flat.now in
     let settle = settle_by T (passed T c.args.trace.now.places.items) in
-    let spot = c.args.spot in
+    let spot = c.args.spot.now in
     let token = c.in-Refers.named.token in
     let trail = c.in-Refers.named.trail in
     let is = ap content_view c.in-Refers.is in
@@ -194,19 +194,6 @@ pass_on-returns-in-Refers-clause-seen t c =
     (λ d. refers_clean T settle spot.place q token trail k.ends k.seen d)
     (λ f h. refers_then_fault T f settle spot.place q token trail k.ends k.seen h)
     seen)
-
-pub pass_on-returns : goal.pass_on-returns
-pass_on-returns t c =
-    let T = written_in c.args.flat.now in
-    let settle = settle_by T (passed T c.args.trace.now.places.items) in
-    let spot = c.args.spot in
-    let stays = stays_there T settle spot.place spot.content (λ q e. c.in_default.not-Refers q e) c.requires.spelled in
-    record {
-      seen = subst (λ w. Clean T c.args.trace.now.visits c.args.trace.now.visits w.seen) (sym stays) (clean_nil T c.args.trace.now.visits);
-      ends = ap (λ w. w.ends) stays;
-      found = c.requires.at;
-      branch = (refl {A = List Place}, refl {A = List ℕ});
-    }
 
 pub settle-returns-then-is_reference : goal.settle-returns-then-is_reference
 settle-returns-then-is_reference t c =
@@ -221,8 +208,8 @@ settle-returns-then-is_reference t c =
       branch = c.pass.ensures.branch;
     }
 
-pub settle-returns-else-is_reference : goal.settle-returns-else-is_reference
-settle-returns-else-is_reference t c =
+pub settle-returns : goal.settle-returns
+settle-returns t c =
     let T = written_in c.args.flat.now in
     let pass = passed T c.args.trace.now.places.items in
     let is = spot_written c.args.flat.now c.args.spot c.requires.at in

@@ -12,15 +12,18 @@ use Rattle.json_span.specs.View.{ref_view, items_view, fields_view}
 use Rattle.alias_ref.specs.inner.Linking.{lent}
 use Rattle.alias_ref.specs.inner.Literals.{IsLiteralVisit}
 use Rattle.alias_ref.specs.inner.Seen.{Clean, IsFault}
-use Rattle.alias_ref.specs.inner.Spots.{start_in}
+use Rattle.alias_ref.specs.inner.Spots.{start_in, spot_at}
+use Rattle.alias_ref.specs.inner.Walks.{walking_reference}
 use Rattle.alias_ref.proofs.FirstBreaks.{clean_nil, enters, walked-fault}
 use Rattle.alias_ref.proofs.LinksOfParts.{alone, refers_kind}
 use Rattle.alias_ref.proofs.LiteralsMean.{literal_visited, visited_clean}
 use Rattle.alias_ref.proofs.PartsInTurn.{none_walked, next_item, next_field, walked_more, items_more, walked_fault, leaf_grown, grown_parts, lead_by, refers_grown}
 use Rattle.alias_ref.proofs.PlainViews.{array_view, object_view}
+use Rattle.alias_ref.proofs.RememberedTokens.{home_more, same_home}
+use Rattle.alias_ref.proofs.Targets.{HasReached, recalled_reached, target_reached}
 use Rattle.alias_ref.proofs.SpotsStand.{spot_written, spot_start, spot_shows, own_is, group_is, kinds_at, leaf_shows, part_start, holder_part, holder_few}
-use Rattle.alias_ref.proofs.TracesGrow.{spot_own, starts_more, same_starts, same_then}
-use Rattle.alias_ref.proofs.WalksInTurns.{leaf_clean, walk_fault, walk_clean, target_fault, target_then_fault, target_clean}
+use Rattle.alias_ref.proofs.TracesGrow.{spot_own, starts_more, same_starts, same_then, none_case, some_case}
+use Rattle.alias_ref.proofs.WalksInTurns.{leaf_clean, walk_fault, walk_clean, target_fault}
 use Rattle.alias_ref.proofs.walking.+walking.Goals as goal
 
 pub walk-returns-in_err-enter-clause-seen : goal.walk-returns-in_err-enter-clause-seen
@@ -43,7 +46,8 @@ walk-walk_on-requires t c =
     let entered = enters T old.visits old.places.items spot.place own in
     let grown : length c.enter.new.self.places.items ≡ length old.places.items + 1 = ap length e.places ∙ length-append old.places.items (spot.place ∷ []) in
     let starts = starts_more (start_in flat) old.places.items c.enter.new.self.places.items old.starts.items c.enter.new.self.starts.items spot.place spot.start c.requires.starts e.places e.starts (spot_start flat spot c.requires.at) in
-    (omega (arith, entered.room, grown), (c.requires.at, (omega (arith, entered.room, grown), (starts, ap is_misspelled (sym is) ∙ entered.spelled))))
+    let home = home_more flat c.args.memory.now.known.items c.args.own old c.enter.new.self spot.place c.requires.home e.places in
+    (omega (arith, entered.room, grown), (c.requires.at, (omega (arith, entered.room, grown), (starts, (home, ap is_misspelled (sym is) ∙ entered.spelled)))))
 
 pub walk-returns-in_err-found-clause-seen : goal.walk-returns-in_err-found-clause-seen
 walk-returns-in_err-found-clause-seen t c =
@@ -81,7 +85,7 @@ walk_fields-walk_part-requires t c =
     let first = c.in-Some.ensures.steps in
     let w = next_field inv.2 first c.in_ok-name.ensures c.value.ensures in
     let same : length c.loop-field.trace.places.items ≡ length c.args.trace.now.places.items = ap length inv.3.0 in
-    (omega (arith, same), (holder_part flat c.args.place.now c.args.token.now _ w.front c.in_ok-name.name (ref_view c.value.result) _ c.requires.at w.split, (omega (arith, same, c.requires.room), same_starts flat c.args.trace.now c.loop-field.trace c.requires.starts inv.3)))
+    (omega (arith, same), (holder_part flat c.args.place.now c.args.token.now _ w.front c.in_ok-name.name (ref_view c.value.result) _ c.requires.at w.split, (omega (arith, same, c.requires.room), (same_starts flat c.args.trace.now c.loop-field.trace c.requires.starts inv.3, same_home flat c.args.memory.now.known.items c.args.own c.args.trace.now c.loop-field.trace c.args.place.now.token c.requires.home inv.3))))
 
 pub walk_fields-returns-in_err-value-clause-seen : goal.walk_fields-returns-in_err-value-clause-seen
 walk_fields-returns-in_err-value-clause-seen t c =
@@ -116,7 +120,7 @@ walk_items-walk_part-requires t c =
     let first = c.in-Some.ensures.steps in
     let w = next_item c.loop-node.index inv.2.2 first c.in_ok-step.ensures in
     let same : length c.loop-node.trace.places.items ≡ length c.args.trace.now.places.items = ap length inv.4.0 in
-    (omega (arith, same), (holder_part flat c.args.place.now c.args.token.now _ w.front c.in_ok-step.step (ref_view c.in-Some.node) _ c.requires.at w.split, (omega (arith, same, c.requires.room), same_starts flat c.args.trace.now c.loop-node.trace c.requires.starts inv.4)))
+    (omega (arith, same), (holder_part flat c.args.place.now c.args.token.now _ w.front c.in_ok-step.step (ref_view c.in-Some.node) _ c.requires.at w.split, (omega (arith, same, c.requires.room), (same_starts flat c.args.trace.now c.loop-node.trace c.requires.starts inv.4, same_home flat c.args.memory.now.known.items c.args.own c.args.trace.now c.loop-node.trace c.args.place.now.token c.requires.home inv.4))))
 
 pub walk_items-returns-in_err-plain-clause-seen : goal.walk_items-returns-in_err-plain-clause-seen
 walk_items-returns-in_err-plain-clause-seen t c =
@@ -152,126 +156,129 @@ walk_items-loop-node-preserved t c =
 pub walk_on-returns-in-Leaf-clause-seen : goal.walk_on-returns-in-Leaf-clause-seen
 walk_on-returns-in-Leaf-clause-seen t c =
     let T = written_in c.args.flat.now in
-    let spot = c.args.spot in
+    let spot = spot_at c.args.place.now c.args.token c.args.start c.args.content in
     let settle = settle_by T (passed T c.args.trace.now.places.items) in
     let walk = walked T c.args.trace.now.places.items in
     subst (λ w. Clean T c.args.trace.now.visits c.args.trace.now.visits (walk_written T settle walk spot.place (Some w))) (sym (ap content_view c.in-Leaf.is)) (clean_nil T c.args.trace.now.visits)
 
 pub walk_on-returns-in-Leaf-clause-means : goal.walk_on-returns-in-Leaf-clause-means
 walk_on-returns-in-Leaf-clause-means t c =
-    means_leaf (spot_shows c.args.flat.now c.args.spot _ c.requires.at c.in-Leaf.is)
+    means_leaf (spot_shows c.args.flat.now (spot_at c.args.place.now c.args.token c.args.start c.args.content) _ c.requires.at c.in-Leaf.is)
 
 pub walk_on-returns-in-Leaf-clause-kind : goal.walk_on-returns-in-Leaf-clause-kind
 walk_on-returns-in-Leaf-clause-kind t c = λ at.
     let flat = c.args.flat.now in
-    let spot = c.args.spot in
+    let spot = spot_at c.args.place.now c.args.token c.args.start c.args.content in
     alone (written_in flat) (own_in flat) (group_in flat) spot.place (leaf (plain_view c.in-Leaf.plain)) c.kind_here.result (spot_shows flat spot _ c.requires.at c.in-Leaf.is) refl at (kinds_at flat spot c.kind_here.result c.requires.at c.kind_here.ensures)
 
 pub walk_on-returns-in-Leaf-clause-links : goal.walk_on-returns-in-Leaf-clause-links
 walk_on-returns-in-Leaf-clause-links t c =
     let flat = c.args.flat.now in
-    leaf_grown (written_in flat) (own_in flat) (group_in flat) c.args.own c.args.spot.place (plain_view c.in-Leaf.plain) c.args.links.now (spot_shows flat c.args.spot _ c.requires.at c.in-Leaf.is)
+    leaf_grown (written_in flat) (own_in flat) (group_in flat) c.args.own c.args.place.now (plain_view c.in-Leaf.plain) c.args.links.now (spot_shows flat (spot_at c.args.place.now c.args.token c.args.start c.args.content) _ c.requires.at c.in-Leaf.is)
 
-pub walk_on-returns-in-Array-clause-means : goal.walk_on-returns-in-Array-clause-means
-walk_on-returns-in-Array-clause-means t c =
+pub walk_on-returns-in_ok-list-in-Array-clause-means : goal.walk_on-returns-in_ok-list-in-Array-clause-means
+walk_on-returns-in_ok-list-in-Array-clause-means t c =
     let flat = c.args.flat.now in
     let k = c.in_ok-list-in-Array.ensures.means in
     let view = array_view c.in_ok-list-in-Array.list ∙ ap (λ vs. plain_array (plains_of vs)) k.2 in
-    subst (Means (written_in flat) c.args.spot.place) (sym view) (means_parts (spot_shows flat c.args.spot _ c.requires.at c.in-Array.is) k.1)
+    subst (Means (written_in flat) c.args.place.now) (sym view) (means_parts (spot_shows flat (spot_at c.args.place.now c.args.token c.args.start c.args.content) _ c.requires.at c.in-Array.is) k.1)
 
-pub walk_on-returns-in-Array-clause-kind : goal.walk_on-returns-in-Array-clause-kind
-walk_on-returns-in-Array-clause-kind t c = λ at.
+pub walk_on-returns-in_ok-list-in-Array-clause-kind : goal.walk_on-returns-in_ok-list-in-Array-clause-kind
+walk_on-returns-in_ok-list-in-Array-clause-kind t c = λ at.
     let flat = c.args.flat.now in
-    let spot = c.args.spot in
+    let spot = spot_at c.args.place.now c.args.token c.args.start c.args.content in
     alone (written_in flat) (own_in flat) (group_in flat) spot.place (parts array (steps_of (parts_by_index 0 (items_view c.in-Array.items)))) c.kind_here-in-Array.result (spot_shows flat spot _ c.requires.at c.in-Array.is) refl at (kinds_at flat spot c.kind_here-in-Array.result c.requires.at c.kind_here-in-Array.ensures)
 
-pub walk_on-returns-in-Array-clause-links : goal.walk_on-returns-in-Array-clause-links
-walk_on-returns-in-Array-clause-links t c =
+pub walk_on-returns-in_ok-list-in-Array-clause-links : goal.walk_on-returns-in_ok-list-in-Array-clause-links
+walk_on-returns-in_ok-list-in-Array-clause-links t c =
     let flat = c.args.flat.now in
-    let there = spot_shows flat c.args.spot _ c.requires.at c.in-Array.is in
-    grown_parts (written_in flat) (own_in flat) (group_in flat) c.args.own c.args.spot.place (steps_of (parts_by_index 0 (items_view c.in-Array.items))) c.args.links.now c.walk_items.new.links there c.in_ok-list-in-Array.ensures.links
+    let there = spot_shows flat (spot_at c.args.place.now c.args.token c.args.start c.args.content) _ c.requires.at c.in-Array.is in
+    grown_parts (written_in flat) (own_in flat) (group_in flat) c.args.own c.args.place.now (steps_of (parts_by_index 0 (items_view c.in-Array.items))) c.args.links.now c.walk_items.new.links there c.in_ok-list-in-Array.ensures.links
 
-pub walk_on-returns-in-Object-clause-means : goal.walk_on-returns-in-Object-clause-means
-walk_on-returns-in-Object-clause-means t c =
+pub walk_on-returns-in_ok-list-in-Object-clause-means : goal.walk_on-returns-in_ok-list-in-Object-clause-means
+walk_on-returns-in_ok-list-in-Object-clause-means t c =
     let flat = c.args.flat.now in
-    let there = spot_shows flat c.args.spot _ c.requires.at c.in-Object.is in
-    subst (Means (written_in flat) c.args.spot.place) (sym (object_view c.in_ok-list-in-Object.list)) (means_parts there c.in_ok-list-in-Object.ensures.means)
+    let there = spot_shows flat (spot_at c.args.place.now c.args.token c.args.start c.args.content) _ c.requires.at c.in-Object.is in
+    subst (Means (written_in flat) c.args.place.now) (sym (object_view c.in_ok-list-in-Object.list)) (means_parts there c.in_ok-list-in-Object.ensures.means)
 
-pub walk_on-returns-in-Object-clause-kind : goal.walk_on-returns-in-Object-clause-kind
-walk_on-returns-in-Object-clause-kind t c = λ at.
+pub walk_on-returns-in_ok-list-in-Object-clause-kind : goal.walk_on-returns-in_ok-list-in-Object-clause-kind
+walk_on-returns-in_ok-list-in-Object-clause-kind t c = λ at.
     let flat = c.args.flat.now in
-    let spot = c.args.spot in
+    let spot = spot_at c.args.place.now c.args.token c.args.start c.args.content in
     alone (written_in flat) (own_in flat) (group_in flat) spot.place (parts object (steps_of (parts_by_name (fields_view c.in-Object.fields)))) c.kind_here-in-Object.result (spot_shows flat spot _ c.requires.at c.in-Object.is) refl at (kinds_at flat spot c.kind_here-in-Object.result c.requires.at c.kind_here-in-Object.ensures)
 
-pub walk_on-returns-in-Object-clause-links : goal.walk_on-returns-in-Object-clause-links
-walk_on-returns-in-Object-clause-links t c =
+pub walk_on-returns-in_ok-list-in-Object-clause-links : goal.walk_on-returns-in_ok-list-in-Object-clause-links
+walk_on-returns-in_ok-list-in-Object-clause-links t c =
     let flat = c.args.flat.now in
-    let there = spot_shows flat c.args.spot _ c.requires.at c.in-Object.is in
-    grown_parts (written_in flat) (own_in flat) (group_in flat) c.args.own c.args.spot.place (steps_of (parts_by_name (fields_view c.in-Object.fields))) c.args.links.now c.walk_fields.new.links there c.in_ok-list-in-Object.ensures.links
-
-pub walk_on-returns-in_err-target-in-Refers-clause-seen : goal.walk_on-returns-in_err-target-in-Refers-clause-seen
-walk_on-returns-in_err-target-in-Refers-clause-seen t c =
-    let T = written_in c.args.flat.now in
-    let spot = c.args.spot in
-    let branch = c.args.trace.now.places.items in
-    let n = c.args.trace.now.visits in
-    let settle = settle_by T (passed T branch) in
-    let walk = walked T branch in
-    let token = c.in-Refers.named.token in
-    let trail = c.in-Refers.named.trail in
-    let view = ap content_view c.in-Refers.is in
-    let f = c.in_err-target-in-Refers.field-0.0 in
-    let p = err_from_is_err_and c.from_residual-in_err-target-in-Refers.result c.from_residual-in_err-target-in-Refers.ensures.1 in
-    rw (p.1, p.2) (subst (λ w. IsFault f (first_break T n (walk_written T settle walk spot.place (Some w)))) (sym view)
-    (target_fault T f n settle walk spot.place token trail c.in_err-target-in-Refers.ensures.seen))
+    let there = spot_shows flat (spot_at c.args.place.now c.args.token c.args.start c.args.content) _ c.requires.at c.in-Object.is in
+    grown_parts (written_in flat) (own_in flat) (group_in flat) c.args.own c.args.place.now (steps_of (parts_by_name (fields_view c.in-Object.fields))) c.args.links.now c.walk_fields.new.links there c.in_ok-list-in-Object.ensures.links
 
 pub walk_on-returns-in_err-found-in-Refers-clause-seen : goal.walk_on-returns-in_err-found-in-Refers-clause-seen
 walk_on-returns-in_err-found-in-Refers-clause-seen t c =
     let T = written_in c.args.flat.now in
-    let spot = c.args.spot in
     let branch = c.args.trace.now.places.items in
-    let n = c.args.trace.now.visits in
-    let settle = settle_by T (passed T branch) in
-    let walk = walked T branch in
-    let token = c.in-Refers.named.token in
-    let trail = c.in-Refers.named.trail in
-    let view = ap content_view c.in-Refers.is in
-    let k = c.in_ok-target-in-Refers.ensures in
-    let q = c.in_ok-target-in-Refers.target.place in
     let f = c.in_err-found-in-Refers.field-0.0 in
-    let fault = subst (λ b. IsFault f (first_break T c.follow.new.trace.visits (walked T b q))) k.branch.0 c.in_err-found-in-Refers.ensures.seen in
     let p = err_from_is_err_and c.from_residual-in_err-found-in-Refers.result c.from_residual-in_err-found-in-Refers.ensures.1 in
-    rw (p.1, p.2) (subst (λ w. IsFault f (first_break T n (walk_written T settle walk spot.place (Some w)))) (sym view)
-    (target_then_fault T f settle walk spot.place q token trail k.ends k.seen fault))
+    rw (p.1, p.2) (subst (λ w. IsFault f (first_break T c.args.trace.now.visits (walk_written T (settle_by T (passed T branch)) (walked T branch) c.args.place.now (Some w))))
+    (sym (ap content_view c.in-Refers.is)) c.in_err-found-in-Refers.ensures.seen)
 
-pub walk_on-returns-in-Refers : goal.walk_on-returns-in-Refers
-walk_on-returns-in-Refers t c =
+pub walk_on-returns-in_ok-kind-in-Refers : goal.walk_on-returns-in_ok-kind-in-Refers
+walk_on-returns-in_ok-kind-in-Refers t c =
     let T = written_in c.args.flat.now in
     let flat = c.args.flat.now in
-    let spot = c.args.spot in
+    let spot = spot_at c.args.place.now c.args.token c.args.start c.args.content in
     let branch = c.args.trace.now.places.items in
-    let n = c.args.trace.now.visits in
     let settle = settle_by T (passed T branch) in
     let walk = walked T branch in
     let token = c.in-Refers.named.token in
     let trail = c.in-Refers.named.trail in
     let view = ap content_view c.in-Refers.is in
     let is = spot_written flat spot c.requires.at ∙ ap (λ w. Some w) view in
-    let k = c.in_ok-target-in-Refers.ensures in
-    let q = c.in_ok-target-in-Refers.target.place in
     let found = c.in_ok-found-in-Refers in
-    let refer = c.in_ok-refer-in-Refers in
-    let clean = subst (λ b. Clean T c.follow.new.trace.visits c.walk_target.new.trace.visits (walked T b q)) k.branch.0 found.ensures.seen in
+    let target = found.ensures.target in
+    let q = target.place in
+    let refer = c.in_ok-kind-in-Refers in
     let own = own_is flat spot.place spot.token.now c.requires.at.value c.requires.at.stands in
     let group = group_is flat spot.place spot.token.now c.requires.at.value c.requires.at.stands in
     record {
-      seen = subst (λ w. Clean T n c.walk_target.new.trace.visits (walk_written T settle walk spot.place (Some w))) (sym view) (target_clean T settle walk spot.place q token trail k.ends k.seen clean);
-      means = subst (λ v. Means T spot.place (plain_view v)) (sym refer.ensures.plain) (means_target (lead_by T branch spot.place q token trail is k.ends) found.ensures.means);
-      kind = λ at. refers_kind T (own_in flat) (group_in flat) settle spot.place q token trail found.found.kind refer.field-0.kind is k.ends found.ensures.kind
+      seen = subst (λ w. Clean T c.args.trace.now.visits c.walk_reference.new.trace.visits (walk_written T settle walk spot.place (Some w))) (sym view) found.ensures.seen;
+      means = means_target (lead_by T branch spot.place q token trail is target.ends) target.means;
+      kind = λ at. refers_kind T (own_in flat) (group_in flat) settle spot.place q token trail found.found.kind refer.kind is target.ends target.kind
           (refer.ensures.kind ∙ ap₂ (λ x y. either x (either (lent found.found.kind trail) y)) (sym own) (sym group)) at;
-      links = refers_grown T (own_in flat) (group_in flat) c.args.own settle spot.place q token trail found.found.kind c.args.links.now c.walk_target.new.links c.refer.new.links is k.ends found.ensures.kind found.ensures.links refer.ensures.links;
-      branch = same_then c.args.trace.now c.follow.new.trace c.walk_target.new.trace k.branch found.ensures.branch;
+      links = refers_grown T (own_in flat) (group_in flat) c.args.own settle spot.place q token trail found.found.kind c.args.links.now c.walk_reference.new.links c.refer.new.links is target.ends target.kind found.ensures.links refer.ensures.links;
+      branch = found.ensures.branch;
     }
+
+pub walk_reference-returns-in-Some : goal.walk_reference-returns-in-Some
+walk_reference-returns-in-Some t c =
+    let flat = c.args.flat.now in
+    let T = written_in flat in
+    let branch = c.args.trace.now.places.items in
+    let named = c.args.named.now in
+    let known = some_case c.in_ok-found.field-0 c.in-Some.found _ c.in-Some.is c.in_ok-found.ensures.some c.args.place.now.token c.requires.home in
+    let r = recalled_reached flat c.args.trace.now c.recall.new.trace c.args.place.now named c.in-Some.found known c.in_ok-found.ensures.branch c.args.links.now in
+    record { seen = r.seen; target = r.target; links = r.links; branch = r.branch }
+
+pub walk_reference-returns-in_err-target-clause-seen : goal.walk_reference-returns-in_err-target-clause-seen
+walk_reference-returns-in_err-target-clause-seen t c =
+    let T = written_in c.args.flat.now in
+    let f = c.in_err-target.field-0.0 in
+    let home = c.args.place.now in
+    let named = c.args.named.now in
+    let same = none_case c.in_ok-found.field-0 _ c.in_default.is c.in_ok-found.ensures.none in
+    let p = err_from_is_err_and c.from_residual-in_err-target.result c.from_residual-in_err-target.ensures.1 in
+    rw (p.1, p.2) (subst (λ t. IsFault f (first_break T t.visits (walking_reference home named T t.places.items))) same
+    (target_fault T f c.recall.new.trace.visits (settle_by T (passed T c.recall.new.trace.places.items)) (walked T c.recall.new.trace.places.items) home named.token named.trail c.in_err-target.ensures.seen))
+
+pub walk_reference-returns : goal.walk_reference-returns
+walk_reference-returns t c =
+    let same = none_case c.in_ok-found.field-0 _ c.in_default.is c.in_ok-found.ensures.none in
+    let k = c.in_ok-target.ensures in
+    let w = c.walk_target.ensures in
+    let r = subst (λ t. HasReached c.args.flat.now t c.walk_target.new.trace c.args.place.now c.args.named.now c.args.links.now c.walk_target.new.links c.walk_target.result) same
+    (target_reached c.args.flat.now c.recall.new.trace c.follow.new.trace c.walk_target.new.trace c.args.place.now c.args.named.now c.in_ok-target.target.place c.args.links.now c.walk_target.new.links c.walk_target.result
+    k.ends k.seen k.branch w.seen w.means w.kind w.links w.branch) in
+    record { seen = r.seen; target = r.target; links = r.links; branch = r.branch }
 
 pub walk_part-returns-in_err-visit_leaf-in-Leaf-clause-seen : goal.walk_part-returns-in_err-visit_leaf-in-Leaf-clause-seen
 walk_part-returns-in_err-visit_leaf-in-Leaf-clause-seen t c =

@@ -17,6 +17,9 @@ decreases-walk_on l = 8 * (suc most_on_branch - length l.trace.now.places.items)
 abbrev pub decreases-walk_target : goal.decreases-walk_target
 decreases-walk_target l = 8 * (suc most_on_branch - length l.trace.now.places.items) + 1
 
+abbrev pub decreases-walk_reference : goal.decreases-walk_reference
+decreases-walk_reference l = 8 * (suc most_on_branch - length l.trace.now.places.items) + 2
+
 abbrev pub decreases-walk_items : goal.decreases-walk_items
 decreases-walk_items l = 8 * (suc most_on_branch - length l.trace.now.places.items) + 2
 

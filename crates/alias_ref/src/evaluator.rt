@@ -1,0 +1,110 @@
+//! The evaluator of a flat tree.
+
+ghost use Rattle.std.specs.Prelude.{◌≡◌, ◌+◌, Some, IfOk, IfErr};
+ghost use Rattle.std.specs.FinMap as map;
+ghost use Rattle.std.specs.List.{slice_get};
+ghost use Rattle.alias_ref.specs.Answer.{IsResolved, IsRefBreak, HasRealRing};
+ghost use Rattle.alias_ref.specs.Written.{written_in};
+ghost use Rattle.alias_ref.specs.inner.Remembering.{Remembers};
+
+use crate::fault::RefFault;
+use crate::memory::Memory;
+use crate::remembering::{FARTHEST, prepare};
+use crate::resolved::{Resolved, resolve};
+use group_inherit::{Entry, Flat};
+use name_path::Path;
+use std::alloc::Global;
+use std::fmt;
+use std::marker::Model;
+use std::rc::Rc;
+use std::sync::ledger::Ledger;
+use tk_io::{NoMemory, Steps};
+
+/// An evaluator of the tokens of a flat tree, which remembers what those come to that others name, so that none is walked
+/// again where it is named. It is seen as the tree. What it remembers changes no answer.
+#[derive(Drop)]
+pub struct Evaluator<'a, 's> {
+    flat: &'a Flat<'s>,
+    memory: Memory<'s>,
+}
+
+impl<'a, 's> Model for Evaluator<'a, 's> {
+    ghost use Rattle.std.specs.FinMap as map;
+    ghost use Rattle.std.specs.Coded.{coded_list, coded_ℕ};
+    ghost use Rattle.tk_io.specs.Order.{names_cmp};
+    ghost use Rattle.group_inherit.specs.Codes.{coded_flattened};
+    ghost use Rattle.group_inherit.specs.Flattening.{Flattened};
+    ghost use Rattle.alias_ref.specs.inner.Remembering.{Remembers};
+
+    ghost Value = { map.FinMap names_cmp Flattened };
+
+    ghost coded = { map.code (coded_list (coded_list coded_ℕ)) coded_flattened };
+
+    ghost view = { λ e. e.flat.now };
+
+    ghost invariant = { λ e. Remembers e.flat.now e.memory.known.items };
+}
+
+impl<'a, 's> fmt::Debug for Evaluator<'a, 's> {
+    fn fmt<W: fmt::Write>(&self, f: &mut fmt::Formatter<W>) -> fmt::Result {
+        f.write_str("Evaluator")
+    }
+}
+
+/// What the token of a place comes to, which may be remembered.
+fn answer<'s>(
+    alloc: Global,
+    flat: &Flat<'s>,
+    memory: &Memory<'s>,
+    i: usize,
+    token: &(Path<'s>, Entry<'s>),
+) -> Result<Rc<Resolved<'s>>, RefFault<'s>>
+    requires token { slice_get (map.entries flat.now) i ≡ Some token.now }
+    requires right { Remembers flat.now memory.now.known.items }
+    ensures resolved { IfOk result (λ r. IsResolved flat.now token.now.0 r.value) }
+    ensures broken { IfErr result (λ e. IsRefBreak flat.now token.now.0 e) }
+    ensures ring { IfErr result (λ e. HasRealRing (written_in flat.now) e) }
+{
+    if let Some(known) = memory.at(i) {
+        let resolved = known.resolved.clone()?;
+        return Ok(resolved);
+    }
+    let mut visits = 0;
+    let resolved = resolve(alloc, flat, memory, &token.0, &token.1, &mut visits)?;
+    let resolved = Rc::new(alloc, resolved)?;
+    Ok(resolved)
+}
+
+impl<'a, 's> Evaluator<'a, 's> {
+    /// An evaluator of the tree, which remembers nothing yet.
+    pub fn new(alloc: Global, flat: &'a Flat<'s>) -> Result<Evaluator<'a, 's>, NoMemory>
+        ensures { IfOk result (λ e. e ≡ flat.entry.now) }
+    {
+        let memory = Memory::with_places(alloc, flat.len())?;
+        Ok(Evaluator { flat, memory })
+    }
+
+    /// What the i-th token of the tree comes to, as [`evaluate`](crate::evaluate). One step of `evals`, whatever it answers.
+    ///
+    /// # Errors
+    /// Those of [`evaluate`](crate::evaluate).
+    pub fn evaluate<N: Ledger>(
+        &mut self,
+        alloc: Global,
+        i: usize,
+        token: &(Path<'s>, Entry<'s>),
+        evals: &mut Steps<N>,
+    ) -> Result<Rc<Resolved<'s>>, RefFault<'s>>
+        requires token { slice_get (map.entries self.old) i ≡ Some token.now }
+        ensures tree { self.new ≡ self.old }
+        ensures step { evals.new ≡ evals.old + 1 }
+        ensures resolved { IfOk result (λ r. IsResolved self.old token.now.0 r.value) }
+        ensures broken { IfErr result (λ e. IsRefBreak self.old token.now.0 e) }
+        ensures ring { IfErr result (λ e. HasRealRing (written_in self.old) e) }
+    {
+        evals.tick();
+        let flat = self.flat;
+        prepare(alloc, flat, &mut self.memory, i, FARTHEST)?;
+        answer(alloc, flat, &self.memory, i, token)
+    }
+}
