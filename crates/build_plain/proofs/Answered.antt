@@ -111,7 +111,7 @@ module _ (laws : Laws) (settings : Settings) (files : FilesData) (configured : s
         json = record {
           bytes = json;
           there = json_there;
-          so = subst (JsonDenotes flat) (sym is_json)
+          so = subst (JsonDenotes flat settings) (sym is_json)
               (laws.json flat settings cells (tokens.0, sym tokens.1) (laws.definitions files (home_of files) p.sources flat u.is_flat));
         };
       }

@@ -31,7 +31,7 @@ pub record IsAccepted (settings : Settings) (files : FilesData) (p : Permutation
   pub css : HasFile out (p.name ++ codes "/tokens.css") (SheetDenotes flat settings)
   pub android : HasFile out (p.name ++ codes "/tokens.xml") (AndroidDenotes flat settings)
   pub swift : HasFile out (p.name ++ codes "/Tokens.swift") (SwiftDenotes flat settings)
-  pub json : HasFile out (p.name ++ codes "/tokens.json") (JsonDenotes flat)
+  pub json : HasFile out (p.name ++ codes "/tokens.json") (JsonDenotes flat settings)
 
 -- The permutation has a break: the first one is told.
 pub record IsRefused (settings : Settings) (files : FilesData) (p : Permutation) (out : FilesData) : Type 0 where

@@ -4,6 +4,8 @@ ghost use Rattle.std.specs.Prelude.{◌≡◌, ◌≤◌, [], ◌∷◌, ◌++�
 ghost use Rattle.edit_script.specs.Files.{as_one_commit, without_commits};
 ghost use Rattle.edit_script.specs.View.{event_view};
 ghost use Rattle.token_cli.specs.inner.Ending.{Writes};
+ghost use Rattle.token_cli.specs.inner.Step.{first_state};
+ghost use Rattle.token_cli.specs.inner.View.{workspace_view};
 ghost use Rattle.token_cli.specs.Headline.{events_for, telling_of};
 ghost use Rattle.token_cli.specs.Told.{head_line};
 
@@ -48,6 +50,27 @@ fn head_line(telling: Telling) -> Line
     }
 }
 
+// Tells the events of a workspace that nothing was done in, and says whether a refusal is held at their end.
+fn tell_events<'s, K: Sink>(
+    alloc: Global,
+    telling: Telling,
+    events: &Events<'s>,
+    workspace: &mut Workspace<'s>,
+    out: &mut K,
+) -> Result<bool, Stop>
+    requires { workspace_view workspace.now ≡ first_state }
+    ensures written { Writes result telling events.now (K.written out.old) (K.written out.new)
+        (K.faults out.old) (K.faults out.new) }
+    ensures later { K.faults out.old ≤ K.faults out.new }
+{
+    write_line(out, &head_line(telling))?;
+    for event in events.as_slice() {
+        workspace.take(alloc, telling, event, out)?;
+    }
+    write_line(out, &Line::Done(workspace.commits))?;
+    Ok(is_refused(&workspace.held))
+}
+
 // Tells the events, and says whether a refusal is held at their end.
 fn replay<K: Sink>(
     alloc: Global,
@@ -59,13 +82,8 @@ fn replay<K: Sink>(
         (K.faults out.old) (K.faults out.new) }
     ensures later { K.faults out.old ≤ K.faults out.new }
 {
-    write_line(out, &head_line(telling))?;
     let mut workspace = Workspace::new(alloc);
-    for event in events.as_slice() {
-        workspace.take(alloc, telling, event, out)?;
-    }
-    write_line(out, &Line::Done(workspace.commits))?;
-    Ok(is_refused(&workspace.held))
+    tell_events(alloc, telling, events, &mut workspace, out)
 }
 
 /// Writes what the command tells of the events, and says whether a refusal is held at their end.

@@ -1,7 +1,6 @@
 //! What stands while a script is replayed, and what its events make of it.
 
 ghost use Rattle.std.specs.Prelude.{◌≡◌, ◌<◌, ◌≤◌, ◌^◌, ◌-◌, ℕ, Some, OnOk, OnErr, IfErr};
-ghost use Rattle.std.specs.FinMap as map;
 ghost use Rattle.std.specs.List.{slice_get};
 ghost use Rattle.std.specs.Io.KnownBytes.{Appends};
 ghost use Rattle.tk_io.specs.Causes.{HasCause};
@@ -10,6 +9,7 @@ ghost use Rattle.edit_script.specs.Delta.{Delta, IsDelta};
 ghost use Rattle.edit_script.specs.Script.{commit as commit_event};
 ghost use Rattle.edit_script.specs.View.{Lined, event_view, with_line};
 ghost use Rattle.token_cli.specs.inner.Step.{IsEventTold, Fails, Cuts, changes_text, records_of};
+ghost use Rattle.token_cli.specs.inner.Step.{first_state};
 ghost use Rattle.token_cli.specs.Told.{commit_text};
 ghost use Rattle.token_cli.specs.inner.View.{workspace_view};
 
@@ -109,8 +109,7 @@ fn write_commit<K: Sink>(
 impl<'s> Workspace<'s> {
     /// No file, no output and no commit.
     pub fn new(alloc: Global) -> Workspace<'s>
-        ensures { workspace_view result
-            ≡ record { files = map.empty; held = map.empty; commits = 0 } }
+        ensures { workspace_view result ≡ first_state }
     {
         Workspace {
             files: Files::new(alloc),

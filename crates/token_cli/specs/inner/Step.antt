@@ -25,6 +25,10 @@ pub record State : Type 0 where
   pub held : FilesData
   pub commits : ℕ
 
+-- before the first event
+abbrev pub first_state : State
+first_state = record { files = map.empty; held = map.empty; commits = 0 }
+
 -- the records of changes with their lines
 abbrev pub records_of : List Lined → List ℕ
 records_of changes = flat_map (λ change. record_of change.0) changes

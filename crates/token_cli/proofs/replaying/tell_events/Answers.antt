@@ -10,7 +10,7 @@ use Rattle.token_cli.proofs.Places.{all_listed, read_listed}
 use Rattle.token_cli.proofs.Standing.{stands_first, stands_more, count_taken}
 use Rattle.token_cli.proofs.Stops.{writes_err}
 use Rattle.token_cli.proofs.Endings.{part_first, ends_at, ends_whole, ends_cut}
-use Rattle.token_cli.proofs.replaying.replay.Goals as goal
+use Rattle.token_cli.proofs.replaying.tell_events.Goals as goal
 
 pub returns-in_err-write_line-clause-written : goal.returns-in_err-write_line-clause-written
 returns-in_err-write_line-clause-written g c =
@@ -25,7 +25,7 @@ returns-in_err-write_line-clause-written g c =
 pub loop-event-init : goal.loop-event-init
 loop-event-init g c =
     let Q : Line → Type 0 = λ line. Appends (g.K.Sink.written c.args.out.now) (g.K.Sink.written c.write_line.new.out) (line_text line) in
-    (stands_first c.args.telling c.args.events.now (workspace_view c.new-workspace.result) (g.K.Sink.written c.args.out.now) (g.K.Sink.written c.write_line.new.out) c.new-workspace.ensures (subst Q c.head_line.ensures c.in_ok-write_line.ensures.whole), c.in_ok-write_line.ensures.cause.later)
+    (stands_first c.args.telling c.args.events.now (workspace_view c.args.workspace.now) (g.K.Sink.written c.args.out.now) (g.K.Sink.written c.write_line.new.out) c.requires (subst Q c.head_line.ensures c.in_ok-write_line.ensures.whole), c.in_ok-write_line.ensures.cause.later)
 
 pub take-requires : goal.take-requires
 take-requires g c =
