@@ -29,7 +29,8 @@ class ProveBelow(Room):
     def setUp(self):
         super().setUp()
         os.mkdir(self.at("tools"))
-        shutil.copy(os.path.join(TOP, "tools", "prove-below"), self.at("tools"))
+        for it in ("prove-below", "copies.py"):
+            shutil.copy(os.path.join(TOP, "tools", it), self.at("tools"))
         write(self.at("bin/rt"), RT)
         os.chmod(self.at("bin/rt"), 0o755)
         write(self.at("HANDLES"), "Handles allowed: none.\n")
