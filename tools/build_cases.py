@@ -312,6 +312,8 @@ REFUSED = {
     "alias-target": ['{"a":{"$type":"dimension","$value":"{x}"}}'],
     "alias-cycle": [
         '{"a":{"$value":"{a}"}}',
+        # A token that has no break alone, walked from one that it names by steps.
+        '{"q":{"$type":"cubicBezier","$value":[0.1,0.2,0.3,{"$ref":"#/u/$value/0"}]},"u":{"$value":"{q}"}}',
         (
             '{"s":{"$type":"shadow","$value":{"color":{"colorSpace":"srgb","components":[0,0,0],"alpha":0.5},"offsetX":%s,'
             '"offsetY":{"$ref":"#/s/$value"},"blur":%s,"spread":%s}}}'
@@ -323,6 +325,15 @@ REFUSED = {
 }
 for rule, texts in REFUSED.items():
     breaks(rule, *each(texts))
+
+
+def names(count):
+    """Tokens of which the last names another so often, and with it a third."""
+    return '{"a":{"$type":"fontFamily","$value":"x"},"b":{"$value":"{a}"},"c":{"$type":"fontFamily","$value":[%s]}}' % ",".join(['"{b}"'] * count)
+
+
+# The list, and for each of its items three visits: 1,024 of them, and three more.
+breaks("alias-size", tokens(names(341)), tokens(names(342)))
 
 # Builds of several files.
 

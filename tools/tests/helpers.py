@@ -1,4 +1,6 @@
 """What the tests of tools/ share: folders of their own, and a program that stands in for tokc."""
+import importlib.machinery
+import importlib.util
 import os
 import subprocess
 import sys
@@ -11,10 +13,18 @@ TOKC = os.path.join(TOP, "tokc")
 TOKC_DIR = os.path.join(TOP, "tools", "tokc-dir")
 SECONDS = 60
 
-# Keeps the script that it is given, and answers with what stands beside it.
+# Keeps the script that it is given, and answers with what stands in the folder to which `now` leads when it starts.
 STAND_IN = """#!/bin/sh
-cd "${0%/*}" && cat >script && cat stream && cat said >&2 && exit "$(cat status)"
+cd "${0%/*}" && cd now && cat >../script && cat stream && cat said >&2 && exit "$(cat status)"
 """
+
+
+def load_tool(name):
+    """A program of tools/ as a module."""
+    loader = importlib.machinery.SourceFileLoader(name.replace("-", "_"), os.path.join(TOP, "tools", name))
+    module = importlib.util.module_from_spec(importlib.util.spec_from_loader(loader.name, loader))
+    loader.exec_module(module)
+    return module
 
 
 class Ran(NamedTuple):
@@ -35,11 +45,12 @@ def run(words, given=b"", tokc=None, at=TOP):
     return Ran(ran.returncode, ran.stdout.decode(), ran.stderr.decode())
 
 
-def write(name, data):
+def write(name, data, mode=0o644):
     """Writes a file, by a rename, so that a watch never sees half of it."""
     os.makedirs(os.path.dirname(name), exist_ok=True)
     with open(name + ".part", "wb") as file:
         file.write(data if isinstance(data, bytes) else data.encode())
+    os.chmod(name + ".part", mode)
     os.replace(name + ".part", name)
 
 
@@ -95,12 +106,18 @@ class Room(unittest.TestCase):
 
     def stand_in(self, stream=b"", status=0, said=""):
         """Makes a program that answers so, and gives its name."""
+        self.stand_in_parts(stream, status, said)
         name = self.at("stand-in", "tokc")
-        write(name, STAND_IN)
-        os.chmod(name, 0o755)
-        for part, data in (("stream", stream), ("status", str(status)), ("said", said)):
-            write(self.at("stand-in", part), data)
+        write(name, STAND_IN, 0o755)
         return name
+
+    def stand_in_parts(self, stream=b"", status=0, said=""):
+        """Has the program that stands in answer so from here on, all at once."""
+        self.answers = getattr(self, "answers", 0) + 1
+        for part, data in (("stream", stream), ("status", str(status)), ("said", said)):
+            write(self.at("stand-in", str(self.answers), part), data)
+        os.symlink(str(self.answers), self.at("stand-in", "next-answer"))
+        os.replace(self.at("stand-in", "next-answer"), self.at("stand-in", "now"))
 
     def tool(self, *words, given=b"", tokc=None):
         """Runs tokc-dir in the room."""

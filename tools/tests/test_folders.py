@@ -1,13 +1,14 @@
 """What tokc-dir reads from a folder and writes into one, over a program that stands in for tokc."""
 import os
 import re
+import select
 import signal
 import subprocess
 import sys
 import time
 import unittest
 
-from helpers import TOKC_DIR, Room, read, refused, stream_of, tree, write
+from helpers import SECONDS, STAND_IN, TOKC_DIR, Room, read, refused, stream_of, tree, write
 
 CSS = b":root {\n  --a: 1px;\n}\n"
 OTHER = b":root {\n  --a: 2px;\n}\n"
@@ -45,15 +46,51 @@ commit
 
     def test_what_is_passed_over(self):
         self.put({"tokens.json": "{}", "read.me": "x", "sub/tokc.toml": "=", "a.JSON": "x", ".git/x y.json": "x", "earlier/.tokc-outputs": "", "earlier/tokens.json": "1"})
-        self.put({"build/out/default/tokens.json": "1", ".hidden.json": "2"})
+        self.put({"build/out/default/tokens.json": "1", ".hidden.json": "2", "node_modules/pkg/tokens.json": "3", "$themes.json": "[]", "$metadata.json": "{}"})
         os.symlink("..", self.at("tokens", "up"))
         self.assertEqual(self.script("tokens/build/out"), b"tokc-script 1\nput .hidden.json 1\n2\nput tokens.json 2\n{}\ncommit\n")
         self.assertEqual(read(self.at("tokens/build/out/default/tokens.css")), CSS)
 
-    def test_links_to_files_are_read(self):
-        write(self.at("elsewhere"), "{}")
-        os.symlink(self.at("elsewhere"), self.at("tokens", "tokens.json"))
+    def test_each_ending(self):
+        self.put({"a.tokens": "{}", "b.tokens.json": "[]", "c.json": "1", "d.tokens.txt": "x"})
+        self.assertEqual(self.script(), b"tokc-script 1\nput a.tokens 2\n{}\nput b.tokens.json 2\n[]\nput c.json 1\n1\ncommit\n")
+
+    def test_links_inside_the_folder_are_followed(self):
+        self.put({"shared/a.json": "{}"})
+        os.symlink("shared/a.json", self.at("tokens", "tokens.json"))
+        os.symlink("shared", self.at("tokens", "also"))
+        os.symlink("..", self.at("tokens", "shared", "round"))
+        self.assertEqual(self.script(), b"tokc-script 1\nput also/a.json 2\n{}\nput shared/a.json 2\n{}\nput tokens.json 2\n{}\ncommit\n")
+
+    def test_links_out_of_the_folder_are_passed_over(self):
+        write(self.at("elsewhere/a.json"), "{}")
+        self.put({"tokens.json": "{}"})
+        os.symlink(self.at("elsewhere"), self.at("tokens", "outer"))
+        os.symlink(self.at("elsewhere", "a.json"), self.at("tokens", "b.json"))
         self.assertEqual(self.script(), b"tokc-script 1\nput tokens.json 2\n{}\ncommit\n")
+
+    def passed(self, files):
+        """What is said of a folder of these files."""
+        self.put(files)
+        ran = self.tool("build", "tokens", "out", tokc=self.stand_in(ONE))
+        self.assertEqual(ran.status, 0)
+        return ran.err
+
+    def test_what_looks_like_tokens_is_told(self):
+        """In one line, each with the reason."""
+        one = '{"a":{"$value":1}}'
+        err = self.passed({"tokens.json": one, "my tokens.json": one, "old.json": '{"a":{"value" : 1}}', "bad.json": b'{"$value":"\xff"}', "package.json": '{"name":"x"}'})
+        self.assertEqual(err, (
+            "passed over: tokens/bad.json (byte 11 is no UTF-8; save the file as UTF-8), tokens/my tokens.json (tokc takes paths of at most 200 letters, "
+            "digits, `.`, `_`, `-` and `/` of ASCII; rename the file or its folder), tokens/old.json (nothing names it)\n"
+        ))
+        err = self.passed({"z.json": one, "zz.json": one})
+        self.assertRegex(err, r"\Apassed over: tokens/bad.json .*, tokens/old.json \(nothing names it\) and 2 more\n\Z")
+        self.assertEqual(self.tool("build", "tokens", "out", "--quiet", tokc=self.stand_in(ONE)), (0, "", ""))
+
+    def test_what_a_resolver_names_is_none_of_these(self):
+        resolver = '{"version":"2025.10","sets":{"a":{"sources":[{"$ref":"./a.json"},{"$ref":"b/c.tokens"}]}},"resolutionOrder":[{"$ref":"#/sets/a"}]}'
+        self.assertEqual(self.passed({"resolver.json": resolver, "a.json": '{"a":{"$value":1}}', "b/c.tokens": '{"b":{"$value":1}}', "tokens.json": "{}"}), "")
 
     def test_an_empty_folder_is_a_script_without_files(self):
         self.assertEqual(self.script(), b"tokc-script 1\ncommit\n")
@@ -73,20 +110,9 @@ class WrongUse(Room):
         self.assertEqual(ran.err.splitlines(), list(lines))
         self.assertFalse(os.path.exists(self.out) or os.path.exists(self.at("stand-in", "script")))
 
-    def test_paths_that_no_script_can_name(self):
-        long = "l" * 100 + "/" + "m" * 95 + ".json"
-        self.put({"my tokens.json": "{}", "größe/a.json": "{}", long: "{}", "good.json": "{}", "l" * 100 + "/" + "m" * 94 + ".json": "{}"})
-        rule = "tokc takes paths of at most 200 letters, digits, `.`, `_`, `-` and `/` of ASCII; rename the file or its folder"
-        self.wrong(["build", "tokens", "out"], *(f"tokens/{it}: {rule}" for it in ("größe/a.json", long, "my tokens.json")))
-
-    def test_a_name_that_is_no_text(self):
-        with open(os.fsencode(self.at("tokens")) + b"/\xff\n.json", "wb"):
-            pass
-        rule = "tokc takes paths of at most 200 letters, digits, `.`, `_`, `-` and `/` of ASCII; rename the file or its folder"
-        self.wrong(["build", "tokens", "out"], f"tokens/<U+DCFF><U+000A>.json: {rule}")
-
     def test_bytes_that_are_no_text(self):
-        self.put({"a.json": b"{}\xff", "b.json": b'{"a":"\xed\xa0\x80"}', "c.json": "{}"})
+        resolver = '{"version":"2025.10","sets":{"a":{"sources":[{"$ref":"a.json"},{"$ref":"b.json"}]}},"resolutionOrder":[{"$ref":"#/sets/a"}]}'
+        self.put({"a.json": b"{}\xff", "b.json": b'{"a":"\xed\xa0\x80"}', "c.json": b"\xff", "resolver.json": resolver})
         self.wrong(
             ["pack", "tokens"],
             "tokens/a.json: byte 2 is no UTF-8; save the file as UTF-8",
@@ -94,15 +120,15 @@ class WrongUse(Room):
         )
 
     def test_what_is_no_file(self):
-        os.symlink("nowhere", self.at("tokens", "a.json"))
+        os.symlink("nowhere", self.at("tokens", "tokens.json"))
         os.mkfifo(self.at("tokens", "b.json"))
         os.mkdir(self.at("tokens", "tokc.toml"))
-        self.wrong(
-            ["build", "tokens", "out"],
-            "tokens/a.json: it can't be read: No such file or directory",
-            "tokens/b.json: this is no file",
-            "tokens/tokc.toml: this is no file",
-        )
+        self.wrong(["build", "tokens", "out"], "tokens/tokc.toml: this is no file", "tokens/tokens.json: it can't be read: No such file or directory")
+
+    def test_a_link_that_leads_out_of_the_folder(self):
+        write(self.at("elsewhere"), "{}")
+        os.symlink(self.at("elsewhere"), self.at("tokens", "tokens.json"))
+        self.wrong(["build", "tokens", "out"], "tokens/tokens.json: its link leads out of the folder; put the file itself there")
 
     def test_folders(self):
         write(self.at("file"), "")
@@ -117,7 +143,7 @@ class WrongUse(Room):
     def test_words(self):
         usage = self.tool().err.splitlines()
         self.assertEqual(usage[0].split()[:3], ["usage:", "tokc-dir", "build"])
-        for words in ([], ["bild", "tokens", "out"], ["build", "tokens"], ["build", "tokens", "out", "x"], ["pack"], ["unpack"], ["watch", "tokens"]):
+        for words in ([], ["bild", "tokens", "out"], ["build", "tokens"], ["build", "tokens", "out", "x"], ["pack"], ["unpack"], ["watch", "tokens"], ["check"], ["preview", "tokens"], ["build", "tokens", "out", "--loud"], ["watch", "tokens", "out", "--json"]):
             self.wrong(words, *usage)
         self.wrong(["watch", "tokens", "out", "soon"], "soon: a number of seconds is wanted, as 0.5")
         self.assertEqual(self.tool("--help").status, 0)
@@ -234,7 +260,7 @@ class Streams(Room):
         cases = {
             4: "tokc could not read the script", 5: "tokc could not write its stream", 6: "tokc ran out of memory",
             7: "the token files are too large: a script has at most 67,108,864 bytes",
-            126: "tokc could not be built, as said above", 77: "tokc ended with status 77",
+            126: "there is no program to run, as said above", 77: "tokc ended with status 77",
         }
         for status, line in cases.items():
             with self.subTest(status=status):
@@ -247,6 +273,87 @@ class Streams(Room):
         self.assertEqual((ran.status, ran.err), (3, f"{self.at('nowhere')}: it can't be run: No such file or directory\n"))
 
 
+class Checking(Room):
+    """`check` writes nothing, and tells how a folder of outputs differs."""
+
+    def check(self, *words, stream=ONE, status=0):
+        return self.tool("check", *words, tokc=self.stand_in(stream, status))
+
+    def test_outputs_that_are_as_they_would_be(self):
+        self.build(ONE)
+        ran = self.check("tokens", "out")
+        self.assertEqual((ran.status, ran.err), (0, ""))
+        self.assertRegex(ran.out, r"\A1 output; 0 differ; [0-9.]+ s\n\Z")
+
+    def test_each_difference(self):
+        self.build(stream_of([("a/gone.css", CSS), ("a/x.css", CSS)]))
+        before = tree(self.out)
+        ran = self.check("tokens", "out", stream=stream_of([("a/new.css", CSS), ("a/x.css", OTHER)]))
+        self.assertEqual((ran.status, ran.err, tree(self.out)), (1, "", before))
+        self.assertEqual(ran.out.splitlines()[:-1], ["absent a/new.css", "differs a/x.css", "no output a/gone.css"])
+        self.assertRegex(ran.out.splitlines()[-1], r"\A2 outputs; 3 differ; [0-9.]+ s\Z")
+        ran = self.check("tokens", "out", "--json", stream=stream_of([("a/gone.css", CSS), ("a/x.css", OTHER)]))
+        self.assertEqual(ran, (1, '{"output": "a/x.css", "state": "differs"}\n', ""))
+        self.assertEqual(self.check("tokens", "out", "--quiet", stream=ONE), (1, "", ""))
+
+    def test_without_a_folder_of_outputs(self):
+        ran = self.check("tokens")
+        self.assertEqual((ran.status, ran.err, os.path.exists(self.out)), (0, "", False))
+        self.assertRegex(ran.out, r"\A1 output; [0-9.]+ s\n\Z")
+
+    def test_a_refusal(self):
+        self.put({"tokens.json": "[]"})
+        ran = self.check("tokens", stream=stream_of([("default/REFUSED", REFUSED)]), status=1)
+        self.assertEqual((ran.status, ran.err.splitlines()[0]), (1, "tokens/tokens.json:1:1: shape-root: a token file is an object, and no token"))
+
+    def test_a_folder_that_is_not_there_lacks_all(self):
+        ran = self.check("tokens", "absent")
+        self.assertEqual((ran.status, ran.out.splitlines()[0]), (1, "absent default/tokens.css"))
+
+
+JSON = b"""{
+  "a": {"$type": "shadow", "$value": [{}]},
+  "b": {"$type": "color", "$value": {"colorSpace": "oklch", "components": [0, 0, 0], "alpha": 1}},
+  "c": {"$type": "typography", "$value": {}},
+  "d": {"$type": "cubicBezier", "$value": [0, 0, 0, 1]}
+}
+"""
+FONTS = b"".join(b"  --c-%s: 1;\n" % it for it in (b"font-family", b"font-size", b"font-weight", b"letter-spacing", b"line-height"))
+XML = b'<?xml version="1.0" encoding="utf-8"?>\n<resources>\n  <!-- omitted a -->\n  <!-- omitted b -->\n  <!-- omitted c -->\n  <!-- omitted d -->\n</resources>\n'
+SWIFT = b"import UIKit\n\npublic enum Tokens {\n  // omitted a\n  // omitted b\n" + 5 * b"  public static let c: Double = 1.0\n" + b"  public static let d = 1\n}\n"
+ALL_FOUR = [("x/Tokens.swift", SWIFT), ("x/tokens.css", b":root {\n  --a: 1;\n  --b: 1;\n" + FONTS + b"  --d: 1;\n}\n"), ("x/tokens.json", JSON), ("x/tokens.xml", XML)]
+
+
+class Omitted(Room):
+    """What platforms omit is counted by token, and listed with its reason."""
+
+    def test_it_is_counted(self):
+        told = self.build(stream_of(ALL_FOUR)).out.splitlines()
+        self.assertRegex(told[-1], r"\A4 outputs; 4 changed; omitted: android 4, swift 2; [0-9.]+ s\Z")
+
+    def test_it_is_listed(self):
+        other = [(path.replace("x/", "y/"), data.replace(b"// omitted b", b"public static let b = 1")) for path, data in ALL_FOUR]
+        ran = self.tool("build", "tokens", "out", "--omitted", tokc=self.stand_in(stream_of([*ALL_FOUR, *other])))
+        self.assertEqual(ran.out.splitlines()[8:-1], [
+            "Android omits a: it has no form for a shadow",
+            "Android omits b: a colour of `oklch` needs a `hex` there",
+            "Android omits c: one of its five values has no spelling there",
+            "Android omits d: it has no form for a curve",
+            "Swift omits a: it has no form for a shadow",
+            "Swift omits b: a colour of `oklch` needs a `hex` there (in 1 of 2 permutations)",
+        ])
+
+    def test_outputs_of_another_shape_are_not_listed(self):
+        stream = stream_of([*ALL_FOUR[:3], ("x/tokens.xml", XML.replace(b"  <!-- omitted a -->\n", b""))])
+        told = self.tool("build", "tokens", "out", "--omitted", tokc=self.stand_in(stream)).out.splitlines()
+        self.assertEqual(len(told), 5)
+        self.assertRegex(told[-1], r"\A4 outputs; 4 changed; omitted: android 3, swift 2; [0-9.]+ s\Z")
+
+
+BROKEN = stream_of([("default/REFUSED", refused("json-syntax", "tokens.json", b"{", 1, 1))])
+MESSAGE = ["tokens/tokens.json:1:2: json-syntax: no JSON text goes on like this", "  1 | {", "    |  ^", "help: close what is open: `}` is missing at the end of the file"]
+
+
 class Watching(Room):
     """`watch` builds again at each change, and goes on after a file that it can't use."""
 
@@ -254,56 +361,97 @@ class Watching(Room):
         super().setUp()
         self.program = self.stand_in(ONE)
         self.put({"tokens.json": "{}"})
-        env = dict(os.environ, TOKC=self.program, PYTHONDONTWRITEBYTECODE="1")
+        env = dict(os.environ, TOKC=self.program, PYTHONDONTWRITEBYTECODE="1", PYTHONUNBUFFERED="1")
         words = [sys.executable, TOKC_DIR, "watch", "tokens", "out", "0.02"]
         self.watch = subprocess.Popen(words, cwd=self.room, env=env, stdout=subprocess.PIPE, stderr=subprocess.STDOUT, text=True)
         self.addCleanup(self.end)
+        self.told("watches tokens, and builds into out at each change; Ctrl-C ends it", "built: 1 output; 1 changed")
 
     def end(self):
         self.watch.kill()
         self.watch.communicate()
 
-    def lines(self, count):
-        """The next lines, without the time that a run took."""
-        return [re.sub(r"; [0-9.]+ s\Z", "", self.watch.stdout.readline().rstrip("\n")) for _ in range(count)]
+    def told(self, *lines):
+        """Holds the next lines, without the time that a run took, to these."""
+        for line in lines:
+            ready, _, _ = select.select([self.watch.stdout], [], [], SECONDS)
+            self.assertTrue(ready, f"nothing is told where this is wanted: {line}")
+            self.assertEqual(re.sub(r"; [0-9.]+ s\Z", "", self.line()), line)
 
-    def test_changes(self):
-        self.assertEqual(self.lines(2), ["wrote default/tokens.css", "1 output; 1 changed"])
-        self.stand_in(stream_of([("default/REFUSED", refused("json-syntax", "tokens.json", b"{", 1, 1))]), 1)
+    def line(self):
+        """The next line, byte by byte, so that none waits unseen in a buffer."""
+        found = b""
+        while not found.endswith(b"\n"):
+            piece = os.read(self.watch.stdout.fileno(), 1)
+            if not piece:
+                break
+            found += piece
+        return found.decode().rstrip("\n")
+
+    def test_a_refusal_and_its_end(self):
+        self.stand_in(BROKEN, 1)
         self.put({"tokens.json": "{"})
-        self.assertEqual(self.lines(4), ["tokens.json is changed", "wrote default/REFUSED", "removed default/tokens.css", "1 output, 1 of them REFUSED; 2 changed"])
-        self.assertEqual(self.lines(3), ["tokens/tokens.json:1:2: json-syntax: no JSON text goes on like this", "  1 | {", "    |  ^"])
-        self.put({"tokens.json": b"\xff"})
-        self.assertEqual(self.lines(1), ["tokens/tokens.json: byte 0 is no UTF-8; save the file as UTF-8"])
+        self.told("tokens.json is changed: 1 output, 1 of them REFUSED; 2 changed", *MESSAGE)
         self.stand_in(ONE)
-        self.put({"more.json": "1"})
-        os.remove(self.at("tokens/tokens.json"))
-        told = self.lines(1)
-        if told == ["tokens/tokens.json: byte 0 is no UTF-8; save the file as UTF-8"]:
-            told = self.lines(1)
-        self.assertEqual(told + self.lines(4), ["more.json is new", "tokens.json is gone", "wrote default/tokens.css", "removed default/REFUSED", "1 output; 2 changed"])
+        self.put({"tokens.json": "{}"})
+        self.told("tokens.json is changed: mended; 1 output; 2 changed")
         self.assertEqual(self.outputs(), {"default/tokens.css": CSS})
 
-    def test_it_goes_on_after_a_program_that_stops(self):
-        self.lines(2)
-        self.stand_in(b"", 6)
+    def test_a_file_that_it_cannot_use_and_its_end(self):
+        self.put({"tokens.json": b"\xff"})
+        self.told("tokens/tokens.json: byte 0 is no UTF-8; save the file as UTF-8")
+        self.put({"tokens.json": "{}"})
+        self.told("mended: the files are as they were when they were built last")
+        self.put({"tokens.json": b"\xff"})
+        self.told("tokens/tokens.json: byte 0 is no UTF-8; save the file as UTF-8")
         self.put({"tokens.json": "{ }"})
-        self.assertEqual(self.lines(2), ["tokens.json is changed", "tokc ran out of memory"])
+        self.told("tokens.json is changed: mended; 1 output; 0 changed")
+
+    def test_a_half_written_file_replaces_no_good_outputs(self):
+        """The refusal is looked at again after a moment, and what stands there then counts. The program itself writes the rest of the file here."""
+        rest = "cat stream; cp ../after stream; echo 0 >status; printf '{  }' >../../tokens/tokens.json"
+        program = STAND_IN.replace("cat >../script", "was=$(cat status) && cat >../script").replace("cat stream", rest).replace('exit "$(cat status)"', "exit $was")
+        write(self.at("stand-in", "after"), stream_of([("default/tokens.css", OTHER)]))
+        write(self.at("stand-in", "tokc"), program, 0o755)
+        self.stand_in_parts(BROKEN, 1)
+        self.put({"tokens.json": "{"})
+        self.told("tokens.json is changed: 1 output; 1 changed")
+        self.assertEqual(self.outputs(), {"default/tokens.css": OTHER})
+
+    def test_a_program_that_stops_is_tried_again(self):
+        self.stand_in(b"", 6, "tokc: its own line\n")
+        self.put({"tokens.json": "{ }"})
+        self.told("tokc: its own line", "tokc ran out of memory")
+        time.sleep(0.5)
         self.stand_in(stream_of([("default/tokens.css", OTHER)]))
-        self.put({"tokens.json": "{  }"})
-        self.assertEqual(self.lines(3), ["tokens.json is changed", "wrote default/tokens.css", "1 output; 1 changed"])
+        self.told("tokens.json is changed: mended; 1 output; 1 changed")
+
+    def test_a_folder_that_is_gone_for_a_while(self):
+        os.rename(self.at("tokens"), self.at("away"))
+        self.told("tokens: it can't be read: No such file or directory")
+        os.rename(self.at("away"), self.at("tokens"))
+        self.told("mended: the files are as they were when they were built last")
+
+    def test_outputs_that_are_deleted_come_back(self):
+        os.rename(self.out, self.at("away"))
+        self.told("default/tokens.css was gone or changed, and is written again")
+        self.assertEqual(self.outputs(), {"default/tokens.css": CSS})
+
+    def test_several_files_are_one_line(self):
+        for name in ("a.json", "b.json", "c.json", "d.json"):
+            write(self.at("made", name), "{}")
+        os.rename(self.at("made"), self.at("tokens", "made"))
+        self.told("made/a.json, made/b.json, made/c.json and 1 more are new: 1 output; 0 changed")
 
     def test_an_interrupt_ends_it_well(self):
-        self.lines(2)
         self.watch.send_signal(signal.SIGINT)
         self.assertEqual((self.watch.wait(timeout=60), self.watch.stdout.read()), (0, ""))
 
     def test_the_same_bytes_anew_build_nothing(self):
-        self.lines(2)
         self.put({"tokens.json": "{}"})
         time.sleep(0.2)
         self.put({"tokens.json": "{ }"})
-        self.assertEqual(self.lines(2), ["tokens.json is changed", "1 output; 0 changed"])
+        self.told("tokens.json is changed: 1 output; 0 changed")
 
 
 if __name__ == "__main__":

@@ -1,6 +1,4 @@
 """The table of crates/whole_scripts has what it is to have, and `make-scripts` makes it over a program that stands in for another compiler."""
-import importlib.machinery
-import importlib.util
 import os
 import re
 import subprocess
@@ -8,23 +6,18 @@ import sys
 import unittest
 from typing import NamedTuple
 
-from helpers import SECONDS, TOP, TOKC_DIR, Room, read, write
+from helpers import SECONDS, TOP, Room, load_tool, read, write
+
+sys.path.insert(0, os.path.join(TOP, "tools"))
+from tokcdir import refusal
 
 TOOL = os.path.join(TOP, "tools", "make-scripts")
 TABLE = os.path.join(TOP, "crates", "whole_scripts", "stdin")
 HEAD = re.compile(rb"(build|replay) ([0-9]+) ([0-9]+) ([01])\n")
 
 
-def loaded(name, path):
-    """A tool as a module."""
-    loader = importlib.machinery.SourceFileLoader(name, path)
-    module = importlib.util.module_from_spec(importlib.util.spec_from_loader(name, loader))
-    loader.exec_module(module)
-    return module
-
-
-MAKE = loaded("make_scripts", TOOL)
-RULES = set(loaded("tokc_dir", TOKC_DIR).SENTENCES)
+MAKE = load_tool("make-scripts")
+RULES = set(refusal.SENTENCES)
 
 
 class Row(NamedTuple):
@@ -82,8 +75,8 @@ class Table(unittest.TestCase):
         self.assertTrue(any(b"commit 4\n" in row.stream for row in self.rows))
 
     def test_the_size(self):
-        self.assertLess(len(read(TABLE)), 2_500_000)
-        self.assertLess(max(len(row.stream) for row in self.rows), 50_000)
+        self.assertLess(len(read(TABLE)), 3_000_000)
+        self.assertLess(max(len(row.stream) for row in self.rows), 100_000)
 
     def test_streams_and_statuses_agree(self):
         for row in self.rows:

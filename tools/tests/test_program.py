@@ -9,14 +9,20 @@ import unittest
 
 from helpers import TOKC, TOP, Room, read, run, tree, write
 
-PROGRAM = os.path.join(TOP, "crates", "tokc", "out", "tokc")
+# The program that is proved, and the one that is compiled without a check of its proof.
+PROGRAMS = [os.path.join(TOP, "crates", "tokc", "out", *parts) for parts in (("tokc",), ("unproved", "tokc"))]
 FIRST = os.path.join(TOP, "examples", "first.script")
 
 
 def setUpModule():
-    """Builds the program, which takes minutes where no `rt ci` went before."""
+    """Compiles the program, which takes minutes, where no `rt ci` went before."""
     with open(FIRST, "rb") as first:
         subprocess.run([TOKC, "build"], stdin=first, stdout=subprocess.DEVNULL, check=True)
+
+
+def program():
+    """The program that was made last."""
+    return max(filter(os.path.exists, PROGRAMS), key=os.path.getmtime)
 
 
 class Words(Room):
@@ -24,13 +30,13 @@ class Words(Room):
 
     def test_no_form(self):
         shutil.copy(TOKC, self.at("tokc"))
-        for words in ([], ["--help"], ["-h"], ["--version"], ["bild"], ["build", "x"], ["replay", ""], ["stats", "x"], ["gen"], ["gen", "07", "1"], ["gen", "7", "0"], ["gen", "7", "4001"], ["gen", "4294967296", "1"], ["gen", "7"], [""]):
+        for words in ([], ["--help"], ["-h"], ["--version"], ["bild"], ["build", "x"], ["replay", ""], ["stats", "x"], ["gen"], ["gen", "07", "1"], ["gen", "7", "0"], ["gen", "7", "4001"], ["gen", "4294967296", "1"], ["gen", "7"], [""], ["prove", "x"], ["install"], ["install", ""]):
             with self.subTest(words=words):
                 start = time.monotonic()
                 ran = run([self.at("tokc"), *words], b"never read", at=self.room)
                 self.assertLess(time.monotonic() - start, 5)
-                self.assertEqual((ran.status, ran.out), (run([PROGRAM, *words]).status, ""))
-                self.assertRegex(ran.err, r"\Ausage: tokc [^\n]+\n[^\n]*docs/MANUAL.md[^\n]*\n\Z")
+                self.assertEqual((ran.status, ran.out), (run([program(), *words]).status, ""))
+                self.assertRegex(ran.err, r"\Ausage: tokc [^\n]+\n {7}tokc prove \| install PREFIX\n[^\n]*docs/MANUAL.md[^\n]*\n\Z")
         self.assertEqual(sorted(os.listdir(self.room)), ["tokc", "tokens"])
 
     def test_the_program_without_what_stands_before_it(self):
@@ -40,17 +46,8 @@ class Words(Room):
         usage = "usage: tokc build | replay | stats | gen SEED SIZE\n"
         for words, status, out, err in ((["replay"], 1, refused, ""), (["builds"], 2, "", usage)):
             with self.subTest(words=words):
-                ran = run([PROGRAM, *words], script)
+                ran = run([program(), *words], script)
                 self.assertEqual((ran.status, ran.out, ran.err), (status, out, err))
-
-    def test_a_build_that_fails(self):
-        """Without sources the build fails, which is told with the end of its log, and with a status that the program has not."""
-        shutil.copy(TOKC, self.at("tokc"))
-        os.makedirs(self.at("crates/tokc"))
-        write(self.at("examples/first.script"), b"")
-        ran = run([self.at("tokc"), "build"], at=self.room)
-        self.assertEqual((ran.status, ran.out), (126, ""))
-        self.assertIn(f"tokc: the program could not be built; {self.at('crates/tokc/out/build.log')} ends with:\n", ran.err)
 
     def test_a_terminal_as_input(self):
         leader, follower = pty.openpty()
@@ -60,8 +57,8 @@ class Words(Room):
         out, err = started.communicate(timeout=60)
         os.close(leader)
         lines = err.splitlines()
-        self.assertEqual((started.returncode, out, lines[1:]), (3, "", ["tokc: bad script at byte 0"]))
-        self.assertRegex(lines[0], r"\Atokc: waits for a script on standard input")
+        self.assertEqual((started.returncode, out, lines[-1]), (3, "", "tokc: bad script at byte 0"))
+        self.assertRegex(lines[-2], r"\Atokc: waits for a script on standard input")
 
     def test_pipes_say_nothing_of_their_own(self):
         self.assertEqual(run([TOKC, "build"], read(FIRST)).err, "")
@@ -86,7 +83,7 @@ class Examples(Room):
                 found = tree(self.at(out))
                 found.pop(".tokc-outputs")
                 self.assertEqual(found, tree(os.path.join(TOP, "examples", name, "expected")))
-                self.assertRegex(self.tool("build", tokens, out).out, rf"\A{4 * permutations} outputs; 0 changed; [0-9.]+ s\n\Z")
+                self.assertRegex(self.tool("build", tokens, out).out, rf"\A{4 * permutations} outputs; 0 changed(; omitted: [a-z0-9 ,]+)?; [0-9.]+ s\n\Z")
 
     def test_acme_broken(self):
         ran = run([os.path.join("tools", "tokc-dir"), "build", os.path.join("examples", "acme", "broken"), self.out])
@@ -119,18 +116,23 @@ tokens/theme/dark.json:2:59: color-range: the component is out of the range of i
 note: token color.danger
 note: place #/color/danger/$value/components/2
 note: in theme=dark+density=compact, theme=dark+density=cozy
+help: write components of `hsl` within 0 to 360, 0 to 100 and 0 to 100
 """))
         dark, light = ({path for path in self.outputs() if it in path} for it in ("theme=dark", "theme=light"))
         self.assertEqual((len(light), dark), (8, {"theme=dark+density=compact/REFUSED", "theme=dark+density=cozy/REFUSED"}))
 
     def test_a_folder_with_no_files(self):
         ran = self.tool("build", "tokens", "out")
-        self.assertEqual((ran.status, ran.err), (1, "tokens/tokens.json:1:1: file-missing: there is no such file\n"))
+        self.assertEqual((ran.status, ran.err), (1, """\
+tokens/tokens.json:1:1: file-missing: there is no such file
+help: put a token file named `tokens.json` right into the folder
+"""))
 
 
 BLOCK = re.compile(r"^```(\w*) ?([^\n]*)\n(.*?)^```$", re.M | re.S)
 
-# The output that a block shows, by its kind, where it does not name one.
+# The file that a block shows, and the output, by its kind, where it does not name one.
+FILES = {"json": "tokens.json", "toml": "tokc.toml"}
 SHOWN = {"css": "default/tokens.css", "xml": "default/tokens.xml", "swift": "default/Tokens.swift", "jsonc": "default/tokens.json", "text": "message"}
 
 
@@ -158,26 +160,28 @@ class Documents(Room):
         return {}
 
     def test_each_rule_of_the_manual(self):
-        """A rule's section has the smallest file that breaks it, and the message."""
+        """A rule's section has the smallest file that breaks it, with the configuration that it needs, and the message."""
         sections = re.findall(r"^### `([a-z-]+)`\n(.*?)(?=^##|\Z)", self.document("docs", "MANUAL.md"), re.M | re.S)
         self.assertGreater(len(sections), 40)
         for rule, section in sections:
             with self.subTest(rule=rule):
                 blocks = BLOCK.findall(section)
-                kind, _, text = blocks[0]
-                message = self.built(self.files_of(rule, kind, text))["message"]
+                files = {}
+                for kind, _, text in blocks[:-1]:
+                    files |= self.files_of(rule, kind, text)
+                message = self.built(files)["message"]
                 self.assertEqual(message, blocks[-1][2])
                 self.assertIn(f": {rule}: ", message)
 
     def test_what_blocks_give(self):
-        """Elsewhere blocks of JSON, one for each file, stand before blocks of what they give, or of lines of that."""
+        """Elsewhere blocks of JSON and TOML, one for each file, stand before blocks of what they give, or of lines of that."""
         for name in (("README.md",), ("docs", "MANUAL.md")):
             text = re.sub(r"^### `[a-z-]+`\n.*?(?=^##|\Z)", "", self.document(*name), flags=re.M | re.S)
             files, given, tried = {}, None, 0
             for kind, path, block in BLOCK.findall(text):
-                if kind == "json":
+                if kind in FILES:
                     files = files if given is None else {}
-                    files[path or "tokens.json"], given = block, None
+                    files[path or FILES[kind]], given = block, None
                 elif kind == "lines" and files:
                     with self.subTest(name=name, files=files):
                         given = self.built(files)
@@ -209,7 +213,7 @@ class Documents(Room):
         self.assertEqual((told[:len(shown)], told[-1].rpartition("; ")[0]), (shown, last))
 
     def test_links_lead_to_files(self):
-        names = ["README.md", "CONTRIBUTING.md", *(os.path.join("docs", it) for it in os.listdir(os.path.join(TOP, "docs")))]
+        names = ["README.md", "CONTRIBUTING.md", *(os.path.join("docs", it) for it in os.listdir(os.path.join(TOP, "docs")) if it.endswith(".md"))]
         for name in names:
             for link in re.findall(r"\]\(([^)#]+)[^)]*\)", self.document(name)):
                 if "://" not in link:
@@ -226,6 +230,25 @@ class Documents(Room):
                 with self.subTest(name=name):
                     self.assertEqual(set(re.findall(r"\w+", rows[name].replace("the kit's", ""))) - {"std"}, self.used_by(name, below))
 
+    def test_the_headings_of_crates(self):
+        """The crates stand under the same headings in both lists, in the same order."""
+        part = self.document("docs", "ARCHITECTURE.md").partition("## The crates\n")[2].partition("\n## ")[0]
+        shown = self.headed(part, r"### (.*)", r"\| ([a-z_]+(?:, [a-z_]+)*) \|")
+        shown = {heading: [name for name in names if name != "crate"] for heading, names in shown.items()}
+        self.assertEqual(len(shown), 8)
+        self.assertEqual(list(self.headed(self.document("crates.txt"), r"# ([A-Z][a-z ]*)\. ", r"([a-z_]+):").items()), list(shown.items()))
+
+    def headed(self, text, heading, row):
+        """Each heading with the names in the rows below it."""
+        found, names = {}, []
+        for line in text.splitlines():
+            is_heading, is_row = re.match(heading, line), re.match(row, line)
+            if is_heading:
+                names = found.setdefault(is_heading[1], [])
+            elif is_row:
+                names += is_row[1].split(", ")
+        return found
+
     def used_by(self, name, below):
         """The crates below that the code of a crate names."""
         folder = os.path.join(TOP, "crates", name, "src")
@@ -236,7 +259,7 @@ class Documents(Room):
 
     def test_names_of_files_stand(self):
         """A path in a document that leads into the repository leads somewhere."""
-        names = ["README.md", "CONTRIBUTING.md", *(os.path.join("docs", it) for it in os.listdir(os.path.join(TOP, "docs")))]
+        names = ["README.md", "CONTRIBUTING.md", *(os.path.join("docs", it) for it in os.listdir(os.path.join(TOP, "docs")) if it.endswith(".md"))]
         for name in names:
             for path in re.findall(r"`((?:crates|docs|tools|examples|bench)/[A-Za-z0-9_./-]+)`", self.document(name)):
                 with self.subTest(name=name, path=path):

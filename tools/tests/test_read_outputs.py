@@ -26,13 +26,13 @@ CSS = """:root {
 """
 TOKENS = {"a": "dimension", "b": "dimension", "c": "strokeStyle", "d": "typography"}
 JSON = json.dumps({name: {"$type": kind, "$value": 0} for name, kind in TOKENS.items()})
-XML = "<resources>\n</resources>\n"
-SWIFT = "import UIKit\n"
+XML = '<?xml version="1.0" encoding="utf-8"?>\n<resources>\n' + 2 * "  <dimen/>\n" + "  <!-- omitted c -->\n" + 5 * "  <item/>\n" + "</resources>\n"
+SWIFT = "import UIKit\n\npublic enum Tokens {\n" + 2 * "  public static let a = 1\n" + "  // omitted c\n" + 5 * "  public static let d = 1\n" + "}\n"
 NAMES = ["--a", "--b", "--d-font-family", "--d-font-size", "--d-font-weight", "--d-letter-spacing", "--d-line-height"]
 VALUES = ["1px", "1px", '"A B"', "1rem", "700", "0px", "1.5"]
 
 # A browser that keeps the page and prints what stands beside it, and a tool that keeps its arguments and refuses a text that is named.
-BROWSER = '#!/bin/sh\nfor last; do :; done\ncp "${last#file://}" "${0%/*}/page" && exec cat "${0%/*}/dom"\n'
+BROWSER = '#!/bin/sh\nfor last; do :; done\ncase $last in *"#"*) ;; *) cp "${last#file://}" "${0%/*}" ;; esac; exec cat "${0%/*}/dom"\n'
 ODD = "#!/bin/sh\nfor last; do :; done\nif grep -q BAD \"$last\"; then echo \"$last: no such thing\" >&2; exit 1; fi\n"
 
 BUILDS = 2
@@ -65,7 +65,7 @@ class ReadOutputs(Room):
         """A browser that says so of the sheet of each build."""
         self.install("chromium", BROWSER)
         dom = json.dumps([answer] * BUILDS).replace("&", "&amp;").replace("<", "&lt;")
-        write(self.at("bin", "dom"), f'<html><body><pre id="answer">{dom}</pre></body></html>\n')
+        write(self.at("bin", "dom"), f'<html><body data-shown="{len(TOKENS)}"><pre id="answer">{dom}</pre></body></html>\n')
 
     def read(self, given=None, words=(), status=0):
         """The lines that the tool writes, where only the programs in `bin` are installed."""
@@ -89,6 +89,7 @@ class ReadOutputs(Room):
             f"tokens.json by Python: {BUILDS} files with {BUILDS * len(TOKENS)} tokens, all accepted",
             "tokens.json by jq: not installed; apt-get install jq",
             "Tokens.swift by swiftc: not installed; apt-get install swiftlang (Debian 13 or later)",
+            "the page by chromium: not installed; apt-get install chromium",
         ])
 
     def test_all_accept(self):
@@ -96,7 +97,7 @@ class ReadOutputs(Room):
         for name in ("aapt2", "xmllint", "jq", "swiftc"):
             self.install(name, ODD)
         status, lines, err = self.read(words=["kept"])
-        self.assertEqual((status, err, len(lines)), (0, [], 6))
+        self.assertEqual((status, err, len(lines)), (0, [], 7))
         self.assertTrue(all(line.endswith(", all accepted") for line in lines), lines)
         self.assertEqual(self.line("tokens.css by chromium", lines)[0], f"{BUILDS} files with {BUILDS * len(NAMES)} declarations, all accepted")
         with open(self.at("kept", "made-up", "default", "tokens.css"), encoding="utf-8") as file:
@@ -105,7 +106,7 @@ class ReadOutputs(Room):
     def test_what_the_page_asks(self):
         self.browser(answer_of())
         self.read(stream(css=CSS.replace('"A B"', '"</script>"')))
-        with open(self.at("bin", "page"), encoding="utf-8") as file:
+        with open(self.at("bin", "page.html"), encoding="utf-8") as file:
             page = file.read()
         self.assertEqual(page.count("</script>"), 1)
         for asked in ('["--b", "margin-left", "", ""]', '["--d-line-height", "line-height", "", ""]'):
@@ -159,7 +160,21 @@ class ReadOutputs(Room):
         self.install("chromium", "#!/bin/sh\necho it broke >&2\nexit 1\n")
         status, lines, _ = self.read()
         below = self.line("tokens.css by chromium", lines)[1]
-        self.assertEqual((status, below), (1, ["  they can't be given to it: the browser gave no answer: it broke"]))
+        self.assertEqual((status, below[:1]), (1, ["  they can't be given to it: the browser gave no answer: it broke"]))
+
+    def test_a_page_that_shows_other_tokens(self):
+        self.browser(answer_of())
+        for shown, said in (('data-shown="3"', "it shows 3 tokens in place of 4"), ("", "the browser shows no tokens: ")):
+            with self.subTest(shown=shown):
+                dom = self.at("bin", "dom")
+                with open(dom, encoding="utf-8") as file:
+                    text = file.read()
+                write(dom, text.replace('data-shown="4"', shown))
+                status, lines, _ = self.read()
+                below = self.line("the page by chromium", lines)[1]
+                self.assertEqual((status, len(below)), (1, 2))
+                self.assertTrue(below[0].startswith(f"  acme: {said}"), below)
+                write(dom, text)
 
     def test_no_outputs(self):
         text = refused("file-missing", "tokens.json", b"", 0, 0)
