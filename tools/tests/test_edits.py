@@ -92,6 +92,14 @@ class Edits(Room):
         self.assertEqual(read(self.at("crates/top/out/rlib/stamp")), b"top\n")
         self.assertEqual(self.stale(), ["low"])
 
+    def test_a_library_below_is_taken(self):
+        write(self.at("crates/low/out/rlib/stamp"), "the gate's\n")
+        write(self.at("crates/low/broken"), "")
+        status, said = self.edits("top")
+        self.assertEqual((status, said[-1]), (0, "1 passed, 0 failed"))
+        self.assertIn("edits: proves top", said)
+        self.assertNotIn("edits: proves low", said)
+
     def test_edits_that_are_not_refused_for_their_meaning(self):
         self.edits()
         kept = read(self.at("crates/low/edits/tried"))
@@ -117,6 +125,7 @@ class Edits(Room):
 
     def test_a_crate_that_is_not_proved(self):
         self.edits()
+        shutil.rmtree(self.at("crates/low/out"))
         write(self.at("crates/low/broken"), "")
         status, said = self.edits("top")
         self.assertEqual((status, said[-2:]), (1, ["edits: not refused: top/*", "0 passed, 1 failed"]))
