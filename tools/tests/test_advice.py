@@ -50,6 +50,8 @@ CASES = {
         ("{}||{}", "write one object in a file, and nothing behind it"),
         ('{\n||<<<<<<< HEAD\n"a": {}', "settle the merge, and take its marks away"),
         ("||name;value;unit\nsmall;4;px\n", "write JSON: this looks like a table (CSV)"),
+        ("n||ame,value\nsmall,4px\n", "write JSON: this looks like a table (CSV)"),
+        ("t||okens:\n  small: 4px\n", "write one object, which begins with `{`"),
         ("||<resources>", "write JSON: this looks like XML"),
         ("||size: 4\n", "write one object, which begins with `{`"),
     ],
@@ -106,6 +108,9 @@ CASES = {
         ('{"b":{"$value":1},"a":{"$value":|"{b * 2}"|}}', "write the value that this comes to: tokc does no arithmetic"),
         ('{"b":{"$value":1},"a":{"$value":|{"$ref":"#/b/$value/x"}|}}', "name a part that the value of {b} has"),
         ('{"a":{"$value":|"{zzz}"|}}', "add the token {zzz}, or name one that is there"),
+    ],
+    "alias-cycle": [
+        ('{"a":{"$value":|"{b}"|},"b":{"$value":"{a}"}}', "give one of them a value of its own"),
     ],
     "type-missing": [
         ('{"a":{"$value":|{"value":4,"unit":"px"}|}}', 'give it, or its group, a type: `"$type": "dimension"`'),
@@ -174,7 +179,16 @@ CASES = {
         ('{"a":{"$value":|"16PX"|}}', "write `16px`"),
         ('{"a":{"$value":|".5rem"|}}', "write `0.5rem`"),
         ('{"a":{"$value":|"+016ms"|}}', "write `16ms`"),
-        ('{"a":{"$value":|"16em"|}}', "write a length in `px` or `rem`, or a time in `ms` or `s`"),
+        ('{"a":{"$value":|"16em"|}}', "write `px` or `rem`: what `em` comes to depends on where the token is used"),
+        ('{"a":{"$value":|"50%"|}}', "write a share as a `number`"),
+        ('{"a":{"$type":"duration","$value":|"2min"|}}', "write a time in `ms` or `s`"),
+        ('{"a":{"$type":"dimension","$value":|"16"|}}', "write its unit behind the number, as `16px`"),
+        ('{"a":{"$type":"duration","$value":|"200"|}}', "write its unit behind the number, as `200ms`"),
+        ('{"a":{"$value":|"{b"|}}', "write the reference with both braces: `{b}`"),
+        ('{"a":{"$value":|"{b} * 2"|}}', "write the value that this comes to: tokc does no arithmetic"),
+        ('{"a":{"$value":|"calc(1px + 2px)"|}}', "write the value that this comes to: tokc does no arithmetic"),
+        ('{"a":{"$value":|"1px {b}"|}}', "write a value without a reference in a text: a reference stands alone, as `{a.b}`"),
+        ('{"a":{"$value":|"rgb(1 2 3)"|}}', "write `#` and six or eight hexadecimal digits, or a colour as the object that the manual has for it under 'Types'"),
         ('{"a":{"$value":|"#36c"|}}', "write all digits: `#3366cc`"),
         ('{"a":{"$value":|"red"|}}', "write a number with its unit, as `16px`, or `#` and six or eight hexadecimal digits"),
     ],
@@ -221,6 +235,13 @@ WITHOUT = [
     (("acme.tokens",), "rename `acme.tokens` to `tokens.json`, or write a `resolver.json` that names it"),
     (("a.json", "b.json"), "write a `resolver.json` that names the token files, `a.json` or `b.json`"),
 ]
+# The same, with files of the folder that tokc is not given, and one whose text is that of a resolver.
+OTHERS = [
+    ({}, ["tokens.jsonc"], "rename `tokens.jsonc` to `tokens.json`"),
+    ({}, ["tokens.yaml"], "write what `tokens.yaml` says as JSON, into `tokens.json`"),
+    ({}, ["notes.md"], "put a token file named `tokens.json` right into the folder"),
+    ({"acme.resolver.json": b'{"resolutionOrder": []}', "core.json": b"{}"}, [], "rename `acme.resolver.json` to `resolver.json`"),
+]
 
 
 def told(rule, file, marked, others=(), further=()):
@@ -254,6 +275,18 @@ class Advice(unittest.TestCase):
                 refusal = Refusal("file-missing", "tokens.json", 1, 1, 0, 0, [])
                 self.assertEqual(advice(Place(refusal, Tokens({it: b"{}" for it in others}), 0, 0)), wanted)
 
+    def test_files_that_are_not_given(self):
+        for files, others, wanted in OTHERS:
+            with self.subTest(files=files, others=others):
+                tokens = Tokens(files)
+                tokens.others = others
+                self.assertEqual(advice(Place(Refusal("file-missing", "tokens.json", 1, 1, 0, 0, []), tokens, 0, 0)), wanted)
+        resolver = '[{"$ref":"core.json"}]'
+        for others, wanted in ((["core.jsonc"], "write `core.jsonc`, which is there"), (["core.yaml"], "write what `core.yaml` says as JSON, into `core.json`")):
+            tokens = Tokens({"resolver.json": resolver.encode()})
+            tokens.others = others
+            self.assertEqual(advice(Place(Refusal("file-missing", "resolver.json", 1, 1, 9, 20, []), tokens, 9, 20)), wanted)
+
     def test_each_key(self):
         for key, wanted in (
             ("prefix", "write a letter and up to 31 letters and digits"), ("rem_base", "write a whole number from 1 to 100"), ("references", "write `true` or `false`"),
@@ -279,8 +312,21 @@ class Advice(unittest.TestCase):
         text = '{"a":{"$type":"border","$value":{"color":"{c}","width":|"2px"|,"style":"solid"}}}'
         self.assertEqual(told("value-shape", "tokens.json", text, (), [("place", '"#/a/$value/width"')]), 'write `{ "value": 2, "unit": "px" }`, or `legacy = true` in `tokc.toml`, which reads such texts')
 
+    def test_further_parts(self):
+        text = '{"t":{"$type":"typography","$value":{"lineHeight":|{"value":24,"unit":"px"}|}}}'
+        self.assertEqual(told("value-shape", "tokens.json", text, (), [("place", '"#/t/$value/lineHeight"')]), "write a number: the height over the font's size, as `1.5`")
+        for component, wanted in (('"50%"', "write `50`"), ("true", 'write a number, or `"none"`')):
+            text = f'{{"c":{{"$type":"color","$value":{{"colorSpace":"hsl","components":[0,|{component}|,0]}}}}}}'
+            self.assertEqual(told("value-shape", "tokens.json", text, (), [("place", '"#/c/$value/components/1"')]), wanted)
+
+    def test_a_token_that_names_itself(self):
+        text = '{"a":{"$value":|"{a}"|}}'
+        self.assertEqual(told("alias-cycle", "tokens.json", text, (), [("ring", '"#/a/$value"')]), "name another token, or write a value: this one names itself")
+
     def test_behind_a_reference(self):
-        """What is to be mended is the value that the reference leads to."""
+        """What is to be mended is the value that the reference leads to, or a part of it."""
+        text = '{"b":{"$type":"border","$value":{"width":|"{w}"|}},"w":{"$value":{"value":2,"unit":"em"}}}'
+        self.assertEqual(told("dimension-unit", "tokens.json", text, (), [("place", '"#/b/$value/width/unit"')]), "write `px` or `rem`: what `em` comes to depends on where the token is used")
         text = '{"a":{"$type":"dimension","$value":|"{b}"|},"b":{"$value":"{c}"},"c":{"$value":"16px"}}'
         self.assertEqual(told("value-shape", "tokens.json", text, (), [("place", '"#/a/$value"')]), 'write `{ "value": 16, "unit": "px" }`, or `legacy = true` in `tokc.toml`, which reads such texts')
 

@@ -92,6 +92,13 @@ commit
         resolver = '{"version":"2025.10","sets":{"a":{"sources":[{"$ref":"./a.json"},{"$ref":"b/c.tokens"}]}},"resolutionOrder":[{"$ref":"#/sets/a"}]}'
         self.assertEqual(self.passed({"resolver.json": resolver, "a.json": '{"a":{"$value":1}}', "b/c.tokens": '{"b":{"$value":1}}', "tokens.json": "{}"}), "")
 
+    def test_what_a_resolver_refers_to_is_given(self):
+        """Whatever its ending is, and also in a folder that is passed over else."""
+        refs = ",".join('{"$ref":"%s"}' % it for it in ("core.jsonc", "node_modules/acme/base.json", ".acme/ink.json", "absent.txt", "sub"))
+        self.put({"resolver.json": f'{{"sets":{{"a":{{"sources":[{refs}],"description":"notes.txt"}}}}}}', "core.jsonc": "1", "notes.txt": "2"})
+        self.put({"node_modules/acme/base.json": "3", "node_modules/acme/package.json": "4", ".acme/ink.json": "5", "sub/a.txt": "6"})
+        self.assertEqual(re.findall(r"^put (\S+)", self.script().decode(), re.M), [".acme/ink.json", "core.jsonc", "node_modules/acme/base.json", "resolver.json"])
+
     def test_an_empty_folder_is_a_script_without_files(self):
         self.assertEqual(self.script(), b"tokc-script 1\ncommit\n")
 

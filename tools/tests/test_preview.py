@@ -59,13 +59,22 @@ class Preview(Room):
         ran = self.tool("preview", "a<b>", "page.html", tokc=self.stand_in(stream_of(DARK)))
         self.assertEqual((ran.status, read(self.at("page.html")).decode().count("Tokens of a&lt;b&gt;")), (0, 2))
 
-    def test_a_refused_permutation_is_named(self):
+    def test_a_refused_permutation_is_told(self):
         self.put({"tokens.json": "[]"})
         text = refused("shape-root", "tokens.json", b"[]", 0, 2)
         ran, page = self.page(stream_of([*DARK, ("theme=light/REFUSED", text)]), 1)
         self.assertEqual((ran.status, ran.err.splitlines()[0]), (1, "tokens/tokens.json:1:1: shape-root: a token file is an object, and no token"))
         data = self.data(page)
-        self.assertEqual(([it["name"] for it in data["permutations"]], data["refused"]), (["theme=dark"], ["theme=light"]))
+        self.assertEqual([it["name"] for it in data["permutations"]], ["theme=dark"])
+        self.assertEqual(data["refused"], [{"names": ["theme=light"], "lines": ran.err.splitlines()}])
+
+    def test_a_refusal_of_all(self):
+        """The page tells it, and no permutation is shown."""
+        self.put({"resolver.json": "[]"})
+        ran, page = self.page(stream_of([("REFUSED", refused("plan-version", "resolver.json", b"[]", 0, 2))]), 1)
+        data = self.data(page)
+        self.assertEqual((data["permutations"], data["refused"]), ([], [{"names": [], "lines": ran.err.splitlines()}]))
+        self.assertIn("plan-version: a resolver needs", data["refused"][0]["lines"][0])
 
     def test_where_it_can_be_written(self):
         _, page = self.page(stream_of(DARK), name="made/deep/page.html")

@@ -7,7 +7,7 @@ import os
 import re
 
 from . import places
-from .folder import CONFIG, RESOLVER, is_script_path
+from .folder import CONFIG, DEFAULT, RESOLVER, is_script_path
 from .places import Node
 from .tokens import named_by, pointed_at, spelled, target_of
 
@@ -75,7 +75,6 @@ ALWAYS = {
     "extends-cycle": "put what both share into a third group that both extend",
     "extends-count": "extend the few groups that share something, and not groups that hold groups that extend again",
     "extends-height": "extend at a higher level, or with less depth",
-    "alias-cycle": "give one of them a value of its own",
     "alias-depth": "refer to the token at the end of the chain",
     "alias-size": "share parts of large values less often, or split the token",
     "number-wide": "write fewer digits",
@@ -107,6 +106,11 @@ class Place:
         """The names from the token's value down to the place, by the place that the refusal tells."""
         found = pointed_at(self.refusal.told("place") or "")
         return list(found[1]) if found else []
+
+    def own_steps(self):
+        """The names from the token's value down to the value at the place, as they are written; the place may be further down behind a reference."""
+        names = [name for name, _ in self.steps]
+        return names[names.index("$value") + 1:] if "$value" in names else []
 
     def kind(self):
         """The kind that the value at the place is to have, where the files say it."""
@@ -200,6 +204,8 @@ def looks_like_a_table(text):
 def between(text, before, rest, wants, opened):
     """What to do about a text that can't go on between two pieces."""
     last = before.rstrip()[-1:]
+    if re.fullmatch(r"\s*[A-Za-z]*", before):
+        return "write JSON: this looks like a table (CSV)" if looks_like_a_table(text) else "write one object, which begins with `{`"
     if rest[0] in "}]" and last == ",":
         return f"take away the comma before `{rest[0]}`"
     if rest[0] == "," and last in ",[{":
@@ -222,8 +228,6 @@ def between(text, before, rest, wants, opened):
         return 'write each name in double quotation marks, as `"size": {}`'
     if wants == places.END:
         return "write one object in a file, and nothing behind it"
-    if not before.strip():
-        return "write JSON: this looks like a table (CSV)" if looks_like_a_table(text) else "write one object, which begins with `{`"
     return "write a value here: an object, a list, a text in quotation marks, or a number"
 
 
@@ -272,27 +276,41 @@ def names_below(place, kind):
 def file_missing(place):
     paths = [it for it in place.tokens.texts if it not in (RESOLVER, CONFIG)]
     if RESOLVER not in place.tokens.texts:
-        return no_resolver(paths)
+        return no_resolver(paths, place.tokens)
     name = re.sub(r"\A(?:\./)+", "", place.node().text() or "")
-    return beside(name, paths) or "look for a slip in the name, or put the file there"
+    near = (namesakes(name, paths) or namesakes(name, place.tokens.others) or [closest(name, paths)])[0]
+    if near and near.endswith(NO_JSON_FILES):
+        return f"write what `{near}` says as JSON, into `{name}`"
+    return f"write `{near}`, which is there" if near else "look for a slip in the name, or put the file there"
 
 
-def no_resolver(paths):
+# Endings of files that say things in other languages.
+NO_JSON_FILES = (".yaml", ".yml", ".toml", ".csv", ".xml", ".js", ".mjs", ".cjs", ".ts", ".css", ".scss", ".less")
+
+
+def no_resolver(paths, tokens):
     """What to do where there is neither a resolver nor tokens.json."""
+    named = [it for it in paths if '"resolutionOrder"' in tokens.texts[it]]
+    if named:
+        return f"rename `{named[0]}` to `resolver.json`"
     if not paths:
-        return "put a token file named `tokens.json` right into the folder"
+        near = (namesakes(DEFAULT, tokens.others) or [""])[0]
+        told = f"write what `{near}` says as JSON, into `tokens.json`" if near.endswith(NO_JSON_FILES) else f"rename `{near}` to `tokens.json`"
+        return told if near else "put a token file named `tokens.json` right into the folder"
     if len(paths) == 1:
         return f"rename `{paths[0]}` to `tokens.json`, or write a `resolver.json` that names it"
     return f"write a `resolver.json` that names the token files, {ticked(paths[:3])}{' and others' if len(paths) > 3 else ''}"
 
 
-def beside(name, paths):
-    """What to do where a file is there under a name like this one, or None."""
-    stem, last = re.sub(r"(\.tokens)?\.\w+\Z|\.tokens\Z", "", name), os.path.basename(name)
-    stems = [it for it in paths if re.sub(r"(\.tokens)?\.\w+\Z|\.tokens\Z", "", it) == stem]
-    found = stems or [it for it in paths if it.lower() == name.lower()] or [it for it in paths if os.path.basename(it) == last]
-    near = found[0] if found else closest(name, paths)
-    return f"write `{near}`, which is there" if near else None
+def stem(path):
+    """A path without the endings of token files, or of any file."""
+    return re.sub(r"(\.tokens)?\.\w+\Z|\.tokens\Z", "", path)
+
+
+def namesakes(name, paths):
+    """The paths that are this name but for their ending, or for the case of letters, or for their folder."""
+    stems = [it for it in paths if stem(it) == stem(name)]
+    return stems or [it for it in paths if it.lower() == name.lower()] or [it for it in paths if os.path.basename(it) == os.path.basename(name)]
 
 
 # Token files.
@@ -406,6 +424,11 @@ def alias_target(place):
     return f"write `{spelled(near)}`, or add what is named" if near else f"add the token {spelled(path)}, or name one that is there"
 
 
+def alias_cycle(place):
+    rings = [it for it, _ in place.refusal.further if it == "ring"]
+    return "name another token, or write a value: this one names itself" if len(rings) == 1 else "give one of them a value of its own"
+
+
 def named_here(place):
     """What the reference at the place names."""
     text = place.node().text()
@@ -468,6 +491,11 @@ def guess(node):
 
 def value_shape(place):
     node, kind = place.node(), place.kind()
+    if place.name() == "lineHeight":
+        return "write a number: the height over the font's size, as `1.5`"
+    if place.names()[-2:-1] == ["components"]:
+        share_of = re.fullmatch(r"(-?\d+(?:\.\d+)?)%", node.text() or "")
+        return f"write `{share_of[1]}`" if share_of else 'write a number, or `"none"`'
     if node.text() is not None:
         return text_value(place, node.text(), kind)
     if isinstance(node.value, places.Members):
@@ -494,16 +522,29 @@ def is_legacy(place, text):
     return LEGACY_TEXT.fullmatch(text) is not None and LEGACY_KEY.search(place.tokens.texts.get(CONFIG, "")) is None
 
 
+MEASURED = re.compile(r"\s*([-+]?)0*(\d*\.?\d+(?:[eE][-+]?\d+)?)\s*([A-Za-z%]*)\s*")
+
+
 def legacy_text(place):
     """What to do about a text that is read by the key `legacy` and has not its form."""
     text = place.node().text() or ""
-    digits, measured = re.fullmatch(r"#([0-9a-fA-F]{3,4})", text), re.fullmatch(r"\s*([-+]?)0*(\d*\.?\d+(?:[eE][-+]?\d+)?)\s*([A-Za-z]+)\s*", text)
+    digits, measured = re.fullmatch(r"#([0-9a-fA-F]{3,4})", text), MEASURED.fullmatch(text)
     if digits:
         return f"write all digits: `#{''.join(2 * it for it in digits[1])}`"
     if measured and measured[3].lower() in ("px", "rem", "ms", "s"):
         return f"write `{measured[1].strip('+')}{number(measured[2])}{measured[3].lower()}`"
+    if measured and not measured[3]:
+        return f"write its unit behind the number, as `{measured[1].strip('+')}{number(measured[2])}{'ms' if place.kind() == 'duration' else 'px'}`"
     if measured:
-        return "write a length in `px` or `rem`, or a time in `ms` or `s`"
+        return unit_advice(measured[3]) if place.kind() != "duration" else "write a time in `ms` or `s`"
+    if re.fullmatch(r"\{[^{}]*|[^{}]*\}", text):
+        return f"write the reference with both braces: `{{{text.strip('{}')}}}`"
+    if re.match(r"calc\(|.*[\s})][-+*/]\s|.*\*", text):
+        return "write the value that this comes to: tokc does no arithmetic"
+    if "{" in text:
+        return "write a value without a reference in a text: a reference stands alone, as `{a.b}`"
+    if re.match(r"(?:rgb|hsl)a?\(", text) or place.kind() == "color":
+        return "write `#` and six or eight hexadecimal digits, or a colour as the object that the manual has for it under 'Types'"
     return "write a number with its unit, as `16px`, or `#` and six or eight hexadecimal digits"
 
 
@@ -534,7 +575,11 @@ def remedy_of_text(place, text, kind):
 
 
 def dimension_unit(place):
-    unit = place.node().text()
+    return unit_advice(place.node().text())
+
+
+def unit_advice(unit):
+    """What to do about a unit that a length can't have."""
     if unit in ("em", "ex", "ch", "vw", "vh"):
         return f"write `px` or `rem`: what `{unit}` comes to depends on where the token is used"
     if unit in ("pt", "dp", "sp"):
@@ -598,7 +643,7 @@ REMEDIES = {
     "config-toml": config_toml, "config-key": config_key, "json-syntax": json_syntax, "plan-shape": plan_shape,
     "plan-default": plan_default, "plan-reference": plan_reference, "file-missing": file_missing, "shape-root": shape_root, "shape-name": shape_name,
     "shape-member": shape_member, "shape-property": shape_property, "shape-token-child": shape_token_child, "extends-target": extends_target,
-    "alias-syntax": alias_syntax, "alias-target": alias_target, "type-missing": type_missing, "value-shape": value_shape, "dimension-unit": dimension_unit,
+    "alias-syntax": alias_syntax, "alias-target": alias_target, "alias-cycle": alias_cycle, "type-missing": type_missing, "value-shape": value_shape, "dimension-unit": dimension_unit,
     "color-range": color_range, "color-alpha": color_alpha, "color-hex": color_hex, "color-space": color_space,
     "weight-word": weight_word, "legacy-text": legacy_text, "stroke-word": one_of(STROKES), "stroke-cap": one_of(CAPS),
 }
@@ -621,7 +666,7 @@ def behind(place):
     if found is None or named is not None:
         return place
     node = found.value
-    for step in place.names():
+    for step in place.names()[len(place.own_steps()):]:
         inner = node.get(step) or next((it for at, it in enumerate(node.items()) if str(at) == step), None)
         if inner is None:
             break

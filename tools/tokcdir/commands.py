@@ -79,7 +79,7 @@ def do_preview(options, tokens, page):
         raise Stop(WRONG_USE, f"{page}: this is a folder, and the page is a file, as {os.path.join(page, 'tokens.html')}")
     files, start = files_of(tokens, None, options), time.monotonic()
     build = build_of(tokens, files, options.is_quiet)
-    preview.write(page, build.outputs, f"Tokens of {os.path.normpath(tokens)}")
+    preview.write(page, build.outputs, build.messages, f"Tokens of {os.path.normpath(tokens)}")
     tell(build, [], f"; {page} is written", start, options)
     return build.status()
 

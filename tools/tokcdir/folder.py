@@ -1,8 +1,9 @@
 """Which files of a folder tokc is given.
 
-The *.json and *.tokens files, at any depth, and the tokc.toml right in the folder are given under their paths below it. What a build names
-(the configuration, the resolver and the files that its text names, or tokens.json where there is no resolver) and can't have ends the run.
-Any other file that can't be given is passed over, and so are files that nothing names; those that look like token files are told.
+The *.json and *.tokens files, at any depth, the tokc.toml right in the folder, and each file below it that the resolver names, whatever its
+folder and ending, are given under their paths below it. What a build names (the configuration, the resolver and the files that its text
+names, or tokens.json where there is no resolver) and can't have ends the run. Any other file that can't be given is passed over, and so are
+files that nothing names; those that look like token files are told.
 """
 import json
 import os
@@ -57,7 +58,7 @@ def subfolders(tokens, folder, out, above):
 
 def token_paths(tokens, out=None):
     """The paths below the folder of the files that may be given to tokc, in byte order."""
-    found = [CONFIG] if os.path.lexists(os.path.join(tokens, CONFIG)) else []
+    found = [it for it in (CONFIG, *referred_paths(tokens)) if os.path.lexists(os.path.join(tokens, it))]
     out = out and os.path.realpath(out)
     left = [(tokens, (os.path.realpath(tokens),))]
     while left:
@@ -65,6 +66,15 @@ def token_paths(tokens, out=None):
         names = [it.name for it in os.scandir(folder) if it.name.endswith(ENDINGS) and (it.is_symlink() or not it.is_dir())]
         found += [os.path.normpath(os.path.join(os.path.relpath(folder, tokens), it)) for it in names]
         left += [(it, (*above, real)) for it, real in subfolders(tokens, folder, out, above)]
+    return sorted(set(found), key=os.fsencode)
+
+
+def all_paths(tokens):
+    """The paths below the folder of all its files, but for those in hidden folders and those of packages, in byte order."""
+    found = []
+    for at, folders, names in os.walk(tokens):
+        folders[:] = [it for it in folders if not it.startswith(".") and it not in PASSED_FOLDERS]
+        found += [os.path.normpath(os.path.join(os.path.relpath(at, tokens), it)) for it in names]
     return sorted(found, key=os.fsencode)
 
 
@@ -88,23 +98,35 @@ def read_file(tokens, path):
     return data
 
 
-STRING = re.compile(rb'"(?:[^"\\]|\\.)*"')
+STRING = rb'"(?:[^"\\]|\\.)*"'
+ANY_STRING, REFERRED = re.compile(STRING), re.compile(rb'"\$ref"\s*:\s*(' + STRING + rb")")
 
 
-def named_paths(tokens):
-    """The paths of the files that a build may take: of the resolver's strings each that can be one."""
-    name = os.path.join(tokens, RESOLVER)
+def paths_in(tokens, pattern):
+    """The texts of the resolver that match, as paths below the folder."""
+    name, found = os.path.join(tokens, RESOLVER), set()
     if not os.path.isfile(name):
-        return {CONFIG, RESOLVER} if os.path.lexists(name) else {CONFIG, DEFAULT}
+        return found
     with open(name, "rb") as file:
         text = file.read()
-    found = {CONFIG, RESOLVER}
-    for string in STRING.findall(text):
+    for string in pattern.findall(text):
         try:
             found.add(re.sub(r"\A(?:\./)+", "", json.loads(string)))
         except ValueError:
             continue
     return found
+
+
+def named_paths(tokens):
+    """The paths of the files that a build may take: of the resolver's strings each that can be one."""
+    if not os.path.lexists(os.path.join(tokens, RESOLVER)):
+        return {CONFIG, DEFAULT}
+    return {CONFIG, RESOLVER} | paths_in(tokens, ANY_STRING)
+
+
+def referred_paths(tokens):
+    """The paths that the resolver refers to and a script can name."""
+    return {it for it in paths_in(tokens, REFERRED) if is_script_path(it) and not os.path.isdir(os.path.join(tokens, it))}
 
 
 def looks_like_tokens(tokens, path):

@@ -106,7 +106,7 @@ class Teller:
 
     def __init__(self, folder, files):
         self.folder, self.has_files, self.files = folder, files is not None, files or {}
-        self.tokens = Tokens(self.files)
+        self.tokens = Tokens(self.files, folder if self.has_files else None)
 
     def name(self, file):
         return os.path.normpath(os.path.join(self.folder, file))

@@ -1,13 +1,14 @@
 """The page that shows the outputs: one file that needs no network and no script from elsewhere.
 
 The page is made of `page.html` with the tokens of all permutations put into it as JSON; what is drawn of them, and what is chosen, its own
-script does. Each token has its name, description and value, what each platform gets, and a picture by its type.
+script does. Each token has its name, description and value, what each platform gets, and a picture by its type. A refusal is told above
+the tokens as on standard error, with the permutations that are not shown for it.
 """
 import html
 import json
 import os
 
-from .outputs import is_refusal, names_of
+from .message import as_lines
 from .rows import all_rows, reason
 from .stop import FAILED, Stop
 
@@ -30,31 +31,31 @@ def sheet_of(outputs, name):
     return outputs.get(f"{name}/tokens.css", b"").decode()
 
 
-def data_of(outputs):
-    """The permutations with their tokens and style sheets, and those that are refused."""
+def data_of(outputs, messages):
+    """The permutations with their tokens and style sheets, and what is told of those that are refused."""
     rows = all_rows(outputs)
     permutations = [{"name": name, "css": sheet_of(outputs, name), "tokens": [shown_token(it) for it in of_one]} for name, of_one in rows.items()]
-    refused = [name for name in names_of(outputs) if any(is_refusal(it) and it.startswith(name + "/") for it in outputs)]
+    refused = [{"names": it.permutations, "lines": as_lines(it)} for it in messages]
     return {"permutations": permutations, "refused": refused}
 
 
-def page_of(outputs, title):
+def page_of(outputs, messages, title):
     """The text of the page. No text of a token can end the script that it stands in."""
     with open(PAGE, encoding="utf-8") as file:
         page = file.read()
-    data = json.dumps(data_of(outputs), ensure_ascii=False, separators=(",", ":"))
+    data = json.dumps(data_of(outputs, messages), ensure_ascii=False, separators=(",", ":"))
     for mark, code in (("<", "\\u003c"), ("\u2028", "\\u2028"), ("\u2029", "\\u2029")):
         data = data.replace(mark, code)
     return page.replace(TITLE, html.escape(title)).replace(DATA, data, 1)
 
 
-def write(name, outputs, title):
-    """Writes the page, whole or not at all."""
+def write(name, outputs, messages, title):
+    """Writes the page of outputs and of the messages of those that are refused, whole or not at all."""
     new = name + ".new"
     try:
         os.makedirs(os.path.dirname(os.path.abspath(name)), exist_ok=True)
         with open(new, "w", encoding="utf-8") as file:
-            file.write(page_of(outputs, title))
+            file.write(page_of(outputs, messages, title))
         os.replace(new, name)
     except OSError as error:
         raise Stop(FAILED, f"{error.filename or name}: it can't be written: {error.strerror}") from None

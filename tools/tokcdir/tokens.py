@@ -6,7 +6,7 @@ import re
 from functools import cached_property
 from typing import NamedTuple
 
-from .folder import CONFIG, DEFAULT, RESOLVER
+from .folder import CONFIG, DEFAULT, RESOLVER, all_paths
 from .places import Node, read_json
 
 CURLY = re.compile(r"\{([^{}]+)\}")
@@ -56,11 +56,16 @@ MOST_READ = 4_000_000
 
 
 class Tokens:
-    """The tokens and groups that the files of a folder write. Files are read as they are asked for."""
+    """The tokens and groups that the files of a folder write. Files are read as they are asked for, and the folder is looked through."""
 
-    def __init__(self, files):
+    def __init__(self, files, folder=None):
         self.texts = {path: data.decode() for path, data in files.items()}
-        self.trees, self.left = {}, MOST_READ
+        self.trees, self.left, self.folder = {}, MOST_READ, folder
+
+    @cached_property
+    def others(self):
+        """The paths of the files of the folder that tokc is not given."""
+        return [it for it in all_paths(self.folder) if it not in self.texts] if self.folder else []
 
     def tree(self, path):
         """The value of a file with its places, or None where it has none, or too much was read."""
