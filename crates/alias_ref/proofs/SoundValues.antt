@@ -17,7 +17,7 @@ use Rattle.json_span.proofs.Unique.{value_reads}
 use Rattle.token_tree.specs.Tree.{Definition}
 use Rattle.token_tree.specs.Shape.{entries_at, token_value}
 use Rattle.token_tree.specs.Promise.{IsDefinition}
-use Rattle.token_tree.proofs.Flaws.{part_flawless}
+use Rattle.token_tree.proofs.PartsWithoutFlaws.{part_flawless}
 use Rattle.token_tree.proofs.Names.{same_text, text_same}
 use Rattle.alias_ref.specs.Written.{Step, Parts, parts_by_index, parts_by_name, parts_of, steps_of, part_under, part_behind}
 use Rattle.alias_ref.specs.inner.Spots.{HasFewParts, TreeHasFewParts, ElementsHaveFewParts, MembersHaveFewParts, IsFlawless}

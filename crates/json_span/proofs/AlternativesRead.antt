@@ -5,7 +5,7 @@ use Rattle.grammar.specs.Predict.{begins, first, nullable, Steers, on_left, on_r
 use Rattle.grammar.specs.Ranges.{is_steered}
 use Rattle.grammar.proofs.Tables.{steered_from}
 use Rattle.json_span.specs.Grammar.{Name, value, number, string, false_word, null_word, true_word}
-use Rattle.json_span.specs.Steered.{rules, table, ahead, list_of, curly, square}
+use Rattle.json_span.specs.Predictive.{rules, table, ahead, list_of, curly, square}
 use Rattle.json_span.specs.inner.Scan.{Halts, Scans}
 use Rattle.json_span.specs.inner.Alternatives.{rule_of_alternative}
 use Rattle.json_span.specs.declared.alternative.Bracket.TheVariants.{Square, Curly}

@@ -6,12 +6,12 @@ use Rattle.grammar.specs.Ranges.{are_guarded}
 use Rattle.grammar.proofs.Predicts.{reads, moves, halts}
 use Rattle.grammar.proofs.Decides.{decides}
 use Rattle.json_span.specs.Grammar.{Name, value, number, string}
-use Rattle.json_span.specs.Steered.{rules, ahead, json}
+use Rattle.json_span.specs.Predictive.{rules, ahead, json}
 use Rattle.json_span.specs.Tree.{Placed}
 use Rattle.json_span.specs.Reading.{Shows}
 use Rattle.json_span.specs.Flaw.{Flaw, first_flaw}
 use Rattle.json_span.specs.Answer.{Answer, shows, flawed, stops, IsAnswer}
-use Rattle.json_span.proofs.Steered.{honest_json, steered_json}
+use Rattle.json_span.proofs.Predictive.{honest_json, steered_json}
 use Rattle.json_span.proofs.Exists.{shown}
 use Rattle.json_span.proofs.Refusal.{refusal}
 

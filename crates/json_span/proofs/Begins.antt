@@ -6,8 +6,8 @@ use Rattle.grammar.specs.Ranges.{is_steered}
 use Rattle.grammar.proofs.Predicts.{starts}
 use Rattle.grammar.proofs.Tables.{steered_from}
 use Rattle.json_span.specs.Grammar.{Name}
-use Rattle.json_span.specs.Steered.{rules, table, ahead}
-use Rattle.json_span.proofs.Steered.{honest_json}
+use Rattle.json_span.specs.Predictive.{rules, table, ahead}
+use Rattle.json_span.proofs.Predictive.{honest_json}
 
 pub both_ways : (b : Bool) → b ≡ true → b ≡ false → ⊥
 both_ways b e f = cc

@@ -9,7 +9,7 @@ use Rattle.std.proofs.lemmas.Str.Ascii.{IsAscii-nil}
 use Rattle.std.proofs.lemmas.Bool.Decides.{nat_tests}
 use Rattle.grammar.specs.Grammar.{Rule, empty, byte, seq, alt, many, named, within, Reads, no_byte, one_byte, both, left, right, no_more, more, by_name}
 use Rattle.json_span.specs.Grammar.{Name, number}
-use Rattle.json_span.specs.Steered.{rules}
+use Rattle.json_span.specs.Predictive.{rules}
 
 -- each byte of the rule is below 128; the one name is that of numbers
 abbrev pub is_ascii : Rule Name → Bool

@@ -5,12 +5,12 @@ use Rattle.grammar.specs.Predict.{begins, first, Apart, on_both, on_left, on_end
 use Rattle.grammar.proofs.Tables.{steered_from}
 use Rattle.grammar.proofs.Predicts.{reads, starts}
 use Rattle.json_span.specs.Grammar.{Name, char, unescaped, escape, one}
-use Rattle.json_span.specs.Steered.{rules, table, ahead}
+use Rattle.json_span.specs.Predictive.{rules, table, ahead}
 use Rattle.json_span.specs.inner.Scan.{ReadsTo, Halts, Scans}
 use Rattle.json_span.specs.declared.bytes.Class.TheVariants.{One}
 use Rattle.json_span.proofs.Scans as scan
 use Rattle.json_span.proofs.Classes as row
-use Rattle.json_span.proofs.Steered.{honest_json}
+use Rattle.json_span.proofs.Predictive.{honest_json}
 
 abbrev pub rest : Rule Name
 rest = seq (many char) (one 34)

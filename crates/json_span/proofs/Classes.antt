@@ -5,7 +5,7 @@ use Rattle.grammar.specs.Predict.{first, Steers, on_empty, Stuck}
 use Rattle.grammar.specs.Ranges.{is_steered}
 use Rattle.grammar.proofs.Steps.{IsChoice}
 use Rattle.json_span.specs.Grammar.{Name}
-use Rattle.json_span.specs.Steered.{rules, table, ahead}
+use Rattle.json_span.specs.Predictive.{rules, table, ahead}
 use Rattle.json_span.specs.inner.Scan.{ReadsTo, Halts, Scans, rule_of, row_of, row_from}
 use Rattle.json_span.specs.declared.bytes.Class.{Class}
 use Rattle.json_span.specs.declared.bytes.Class.TheVariants.{One, Digit, FirstDigit, Sign, Exponent, Hex, NotD, D, BelowHigh, High, Low, Short}

@@ -3,7 +3,7 @@ use Rattle.std.proofs.Common.{◌≡◌, ℕ, List, [], ◌∷◌, ◌++◌, ref
 use Rattle.std.specs.List.{flat_map}
 use Rattle.grammar.specs.Grammar.{Reads, one_byte, both, no_more, more}
 use Rattle.json_span.specs.Grammar.{ws}
-use Rattle.json_span.specs.Steered.{rules}
+use Rattle.json_span.specs.Predictive.{rules}
 use Rattle.json_span.specs.Reading.{StringAt}
 use Rattle.json_span.specs.Plain.{PlainValue, Plains, PlainMembers, PlainEntry, plain_array, plain_object, plains_of, plains_in, plain_members_of, plain_entries_in}
 use Rattle.json_span.specs.Says.{Says, says_list, says_object, says_no_item, says_items, SaysMoreItems, says_no_more_item, says_more_items, SaysMember, says_member, says_no_member, says_members, SaysMoreMembers, says_no_more_member, says_more_members, PaddedMember, SaysText}

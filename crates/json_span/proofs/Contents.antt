@@ -4,7 +4,7 @@ use Rattle.std.specs.Char.{digit_value, encode_utf8}
 use Rattle.grammar.specs.Grammar.{seq, many, Reads, one_byte, both, left, right, no_more, more}
 use Rattle.grammar.specs.Predict.{first}
 use Rattle.json_span.specs.Grammar.{hex, char, one}
-use Rattle.json_span.specs.Steered.{rules, ahead}
+use Rattle.json_span.specs.Predictive.{rules, ahead}
 use Rattle.json_span.specs.Characters.{CharactersAt, closing_quote, unescaped_byte, short_escape, unicode_escape, surrogate_pair, code_unit, is_high, is_low}
 use Rattle.json_span.proofs.Shorts.{choice_read, short_some, is_value, hex_unit, not_d_hex, not_d_value, hex_value, no_surrogate, below_unit, low_digit_value, d_value, high_unit, low_unit, high_digit_value, last_digit_value}
 

@@ -8,7 +8,7 @@ use Rattle.std.specs.Coded.{Coded-set, coded_ℕ, coded_bool, le_prop}
 use Rattle.json_span.specs.inner.Escapes.{BeginsEscape, StandsFor}
 use Rattle.grammar.specs.Predict.{first}
 use Rattle.json_span.specs.Grammar.{hex, unescaped}
-use Rattle.json_span.specs.Steered.{ahead}
+use Rattle.json_span.specs.Predictive.{ahead}
 use Rattle.json_span.specs.Characters.{CharactersAt, closing_quote, unescaped_byte, short_escape, unicode_escape, surrogate_pair, short_of, code_unit, code_unit_of, is_high, is_low, joined_pair}
 
 not_escape : (c : ℕ) → c ≡ 92 → first ahead unescaped c ≡ true → ⊥

@@ -3,7 +3,7 @@ use Rattle.std.proofs.Common.{◌≡◌, ℕ, ◌-◌, ◌≤◌, List, [], ◌�
 use Rattle.grammar.specs.Grammar.{Rule, seq, many, named, Reads, Derives, no_byte, one_byte, both, left, right, no_more, more, by_name}
 use Rattle.grammar.proofs.Steps.{no_longer}
 use Rattle.json_span.specs.Grammar.{Name, value, string, one}
-use Rattle.json_span.specs.Steered.{square, curly, rules, symbol, list_item_of, more_of, inside_of, json}
+use Rattle.json_span.specs.Predictive.{square, curly, rules, symbol, list_item_of, more_of, inside_of, json}
 use Rattle.json_span.specs.Tree.{Tree, a_null, a_boolean, a_number, a_string, an_array, an_object, Placed, placed, Elements, no_elements, an_element, Members, no_members, a_member}
 use Rattle.json_span.specs.Reading.{StringAt, BeginsAt, ValueAt, with_span, Shape, null_shape, false_shape, true_shape, number_shape, string_shape, array_shape, object_shape, ElementsAt, no_element, first_element, MoreElements, last_element, next_element, member_at, MembersAt, no_member, first_member, MoreMembers, last_member, next_member, Shows}
 use Rattle.json_span.proofs.Shorts.{is_value}

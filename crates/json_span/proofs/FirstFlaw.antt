@@ -4,7 +4,7 @@ use Rattle.std.specs.Str.{bytes_eq}
 use Rattle.std.proofs.lemmas.Slice.Eq.{bytes_eq-Decides}
 use Rattle.json_span.specs.Tree.{Tree, a_null, a_boolean, a_number, a_string, an_array, an_object, Placed, placed, Elements, no_elements, an_element, Members, no_members, a_member, Entry, start_of, end_of}
 use Rattle.json_span.specs.Flaw.{Flaw, equal_names, or_else, is_seen, flaw_in, flaw_at, flaw_in_elements, flaw_in_members, most_open, first_flaw}
-use Rattle.json_span.specs.Flaws.{IsElementOf, this_one, later_one, IsMemberOf, this_member, later_member, IsSecond, behind_first, behind_other, IsAtDepth, the_root, below_array, below_object, is_list, IsFlaw, second_name, opens_too_deep, flaw_start, FirstIsLeast, NoneIsNone}
+use Rattle.json_span.specs.FlawLaws.{IsElementOf, this_one, later_one, IsMemberOf, this_member, later_member, IsSecond, behind_first, behind_other, IsAtDepth, the_root, below_array, below_object, is_list, IsFlaw, second_name, opens_too_deep, flaw_start, FirstIsLeast, NoneIsNone}
 use Rattle.json_span.proofs.InOrder.{InOrder, ElementsInOrder, MembersInOrder, shown_in_order}
 
 -- the same of lists, one after another; the names stand before

@@ -11,14 +11,14 @@ use Rattle.std.proofs.lemmas.Bool.Decides.{nat_tests}
 use Rattle.grammar.specs.Grammar.{Rule, named, within, Reads}
 use Rattle.grammar.specs.Predict.{begins, first}
 use Rattle.json_span.specs.Grammar.{Name, number, string, value, null_word, false_word, true_word, ws}
-use Rattle.json_span.specs.Steered.{rules, ahead, symbol}
+use Rattle.json_span.specs.Predictive.{rules, ahead, symbol}
 use Rattle.json_span.specs.Tree.{Tree, Placed, Elements, Members}
 use Rattle.json_span.specs.Reading.{StringAt, BeginsAt, ValueAt, with_span, Shape, null_shape, false_shape, true_shape, number_shape, string_shape, array_shape, object_shape, ElementsAt, no_element, first_element, MoreElements, last_element, next_element, MemberAt, member_at, MembersAt, no_member, first_member, MoreMembers, last_member, next_member, Shows}
 use Rattle.json_span.specs.Table.{HasType, IsString, Fits, FitsAt, AllFit, MembersFit, Lies, spans}
 use Rattle.json_span.specs.Types.{type_of_byte}
 use Rattle.json_span.specs.declared.value_type.ValueType.TheVariants.{Number}
 use Rattle.json_span.specs.declared.table.Span.{Span}
-use Rattle.json_span.proofs.Steered.{honest_json}
+use Rattle.json_span.proofs.Predictive.{honest_json}
 use Rattle.json_span.proofs.Boundaries.{number_boundaries}
 use Rattle.json_span.proofs.Begins.{begun}
 use Rattle.json_span.proofs.Cut.{reads_cut}

@@ -12,7 +12,7 @@ use Rattle.grammar.proofs.GoingOn.{goes_on}
 use Rattle.json_span.specs.Grammar.{Name, value, number, string, grammar, json_text}
 use Rattle.json_span.specs.Laws.{GoesOn}
 use Rattle.json_span.proofs.Rfc.{value_to, number_to, string_to}
-use Rattle.json_span.proofs.Steered.{zero_value, zero_text, empty_string}
+use Rattle.json_span.proofs.Predictive.{zero_value, zero_text, empty_string}
 
 below : (c : ℕ) → is_ascii c ≡ true → c < 128
 below c h = grind (arith, nat_tests, h)

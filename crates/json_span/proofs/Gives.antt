@@ -7,8 +7,8 @@ use Rattle.grammar.specs.Ranges.{is_steered}
 use Rattle.grammar.proofs.Predicts.{reads}
 use Rattle.grammar.proofs.Steps.{no_longer}
 use Rattle.json_span.specs.Grammar.{Name, value, number, string, ws, one, null_word, false_word, true_word}
-use Rattle.json_span.specs.Steered as steered
-use Rattle.json_span.specs.Steered.{Bracket, square, curly, table, ahead, symbol, open_of, close_of, before_of, more_of, list_of}
+use Rattle.json_span.specs.Predictive as predictive
+use Rattle.json_span.specs.Predictive.{Bracket, square, curly, table, ahead, symbol, open_of, close_of, before_of, more_of, list_of}
 use Rattle.json_span.specs.Tree.{Tree, Placed, placed, an_array, an_object, an_element, a_member, Entry, elements_of, members_of}
 use Rattle.json_span.specs.Reading.{BeginsAt, ValueAt, MemberAt, with_span, Shape, null_shape, false_shape, true_shape, number_shape, string_shape, array_shape, object_shape, no_element, no_member}
 use Rattle.json_span.specs.Flaw.{Flaw, too_deep, or_else, flaw_in, flaw_at, flaw_in_elements}
@@ -35,7 +35,7 @@ use Rattle.json_span.specs.declared.build.Next.TheVariants.{Item, Closed}
 use Rattle.json_span.specs.declared.flaw.Flaw as declared_flaw
 use Rattle.json_span.specs.declared.flaw.Flaw.TheVariants.{Deep}
 use Rattle.json_span.specs.declared.stop.Stop.{Stop}
-use Rattle.json_span.proofs.Steered.{honest_json}
+use Rattle.json_span.proofs.Predictive.{honest_json}
 use Rattle.json_span.proofs.Scans as scan
 use Rattle.json_span.proofs.Skips as skip
 use Rattle.json_span.proofs.Begins.{begun, one_way}
@@ -88,7 +88,7 @@ closed_small : (new last : List Span) (i end close : ℕ) (h : Span) → last �
 closed_small new last i end close h is small le = omega (arith, ap length is ∙ length-set new i h)
 
 -- a list begins with its bracket, so its value is a list, and one level too many
-no_list : (b : Bracket) (r : Rule Name) (t u : List ℕ) → nullable r ≡ false → is_steered table (alt r (list_of b)) ≡ true → Reads steered.rules r t u → begins (first ahead (list_of b)) t ≡ true → ⊥
+no_list : (b : Bracket) (r : Rule Name) (t u : List ℕ) → nullable r ≡ false → is_steered table (alt r (list_of b)) ≡ true → Reads predictive.rules r t u → begins (first ahead (list_of b)) t ≡ true → ⊥
 no_list b r t u n st x e = one_way r (list_of b) t st (begun r n x) e
 
 deep_tree : (b : Bracket) (total start : ℕ) (t u : List ℕ) (v : Tree) → Shape total t v u → begins (first ahead (list_of b)) t ≡ true → flaw_at 0 start v ≡ Some (too_deep start (start + 1))
@@ -119,7 +119,7 @@ gives_deep b {text} {at} {end = end} zero_room le e x =
     record { tree = n; reads = x; value = v; flaw = ap (λ z. flaw_in z n) zero_room ∙ deep_value b (length text) at (drop at text) (drop end text) n v (begins_at text at le) e; kept = tt }
 
 -- a list of no values
-empty_shape : (b : Bracket) (total : ℕ) (t m u : List ℕ) → Reads steered.rules (symbol (open_of b)) t m → Reads steered.rules (one (close_of b)) m u → Shape total t (empty_tree b) u
+empty_shape : (b : Bracket) (total : ℕ) (t m u : List ℕ) → Reads predictive.rules (symbol (open_of b)) t m → Reads predictive.rules (one (close_of b)) m u → Shape total t (empty_tree b) u
 empty_shape square total t m u x y = array_shape x (no_element y)
 empty_shape curly total t m u x y = object_shape x (no_member y)
 
@@ -155,8 +155,8 @@ opens_as {text} {k} {at = at} {inner = inner} {r = r} e lt o x closes is =
     subst (λ z. Opens (bracket_of z) text at inner) e (record { bound = lt; opens = o; blanks = x; some = some })
 
 -- the blanks and the rest of a list
-rest_of : (b : Bracket) {t u : List ℕ} → Steers steered.rules ahead (seq ws (more_of b)) t u → (w : List ℕ) × Reads steered.rules ws t w × Reads steered.rules (more_of b) w u
-rest_of b (on_both {u = w} x y) = (w, reads steered.rules ahead honest_json x, reads steered.rules ahead honest_json y)
+rest_of : (b : Bracket) {t u : List ℕ} → Steers predictive.rules ahead (seq ws (more_of b)) t u → (w : List ℕ) × Reads predictive.rules ws t w × Reads predictive.rules (more_of b) w u
+rest_of b (on_both {u = w} x y) = (w, reads predictive.rules ahead honest_json x, reads predictive.rules ahead honest_json y)
 
 -- the value after which a list was read on, as the arm of the match has it
 pub built_as : {text : List ℕ} {at room name name_end : ℕ} {old new : List Span} {b c : Built} → b ≡ c →
@@ -180,7 +180,7 @@ pub nothing_before : {text : List ℕ} {next : ℕ} → next ≤ length text →
 nothing_before {text} {next} within_ = skip.reach_nothing text next within_
 
 module _ {text : List ℕ} {at inner : ℕ} (o : Opens square text at inner) where
-  array_token : Reads steered.rules (symbol 91) (drop at text) (drop inner text)
+  array_token : Reads predictive.rules (symbol 91) (drop at text) (drop inner text)
   array_token = read_of text (symbol 91) at inner (skip.open_token text [] Square at inner o.bound o.opens o.blanks)
 
   module _ {room next name name_end : ℕ} {old nodes new : List Span} (l : ContinuesAs text (left_of true []) at (list_left square) next)
@@ -280,7 +280,7 @@ module _ {text : List ℕ} {room at inner next name name_end : ℕ} {old new : L
   pub rest_stops : (e : Stop) → StopsAt (seq ws (more_of curly)) text (end_of_built b) e → StopsAt (named value) text at e
   rest_stops e x = list.bad_rest text curly at next r.leads e (name_before r.reads r.colon) r.built.reads x
 
-  object_token : Reads steered.rules (symbol 123) (drop at text) (drop inner text)
+  object_token : Reads predictive.rules (symbol 123) (drop at text) (drop inner text)
   object_token = read_of text (symbol 123) at inner (skip.open_token text [] Curly at inner r.opens.bound r.opens.opens r.opens.blanks)
 
   member_whole : MemberAt (length text) (drop next text) r.own.name next r.n.end r.built.tree (drop (end_of_built b) text)

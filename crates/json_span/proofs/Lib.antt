@@ -1,4 +1,4 @@
-mod Steered
+mod Predictive
 mod Scans
 mod Classes
 mod Runs

@@ -4,7 +4,7 @@ use Rattle.grammar.specs.Grammar.{Rule, empty, seq, named, within, Reads}
 use Rattle.grammar.specs.Predict.{begins, first, Steers, on_both, on_empty, Stuck, at_first, at_second}
 use Rattle.grammar.proofs.Predicts.{reads}
 use Rattle.json_span.specs.Grammar.{Name, value, ws, one}
-use Rattle.json_span.specs.Steered.{Bracket, square, rules, ahead, symbol, open_of, close_of, before_of, more_of, list_of}
+use Rattle.json_span.specs.Predictive.{Bracket, square, rules, ahead, symbol, open_of, close_of, before_of, more_of, list_of}
 use Rattle.json_span.specs.Tree.{Placed, Elements, no_elements, an_element, elements_of}
 use Rattle.json_span.specs.Reading.{ValueAt, ElementsAt, first_element, last_element, next_element}
 use Rattle.json_span.specs.Flaw.{Flaw, or_else, flaw_in, flaw_in_elements}
@@ -16,7 +16,7 @@ use Rattle.json_span.specs.inner.ListsLeft.{list_left, then_elements, ElementsLe
 use Rattle.json_span.specs.declared.alternative.Bracket as declared
 use Rattle.json_span.specs.declared.stop.Stop.{Stop}
 use Rattle.json_span.specs.declared.stop.Stop.TheVariants.{Syntax, NoMemory}
-use Rattle.json_span.proofs.Steered.{honest_json}
+use Rattle.json_span.proofs.Predictive.{honest_json}
 use Rattle.json_span.proofs.Scans as scan
 use Rattle.json_span.proofs.AlternativesRead.{Walks}
 use Rattle.json_span.proofs.Skips as skip

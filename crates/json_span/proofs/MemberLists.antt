@@ -4,7 +4,7 @@ use Rattle.grammar.specs.Grammar.{seq, Reads}
 use Rattle.grammar.specs.Predict.{Steers, on_both}
 use Rattle.grammar.proofs.Predicts.{reads}
 use Rattle.json_span.specs.Grammar.{ws, one}
-use Rattle.json_span.specs.Steered.{curly, rules, ahead, symbol}
+use Rattle.json_span.specs.Predictive.{curly, rules, ahead, symbol}
 use Rattle.json_span.specs.Tree.{Placed, Members, no_members, a_member, Entry, members_of}
 use Rattle.json_span.specs.Reading.{StringAt, BeginsAt, ValueAt, MemberAt, member_at, MembersAt, first_member, last_member, next_member}
 use Rattle.json_span.specs.Flaw.{Flaw, equal_names, or_else, flaw_in, flaw_in_members, is_seen}
@@ -13,7 +13,7 @@ use Rattle.json_span.specs.inner.Building.{IsComma, IsClose}
 use Rattle.json_span.specs.inner.ListsLeft.{then_members, MembersLeft}
 use Rattle.json_span.specs.inner.Names.{names_flaw, reversed_names}
 use Rattle.json_span.proofs.Naming.{names-push, flaw_push}
-use Rattle.json_span.proofs.Steered.{honest_json}
+use Rattle.json_span.proofs.Predictive.{honest_json}
 use Rattle.json_span.proofs.Scans as scan
 use Rattle.json_span.proofs.Skips as skip
 use Rattle.json_span.proofs.Lists.{read_of, or_after}

@@ -8,7 +8,7 @@ use Rattle.grammar.proofs.Tables.{passes_from}
 use Rattle.grammar.proofs.Refusals.{refuses}
 use Rattle.grammar.proofs.Predicts.{reads}
 use Rattle.json_span.specs.Grammar.{value, ws, grammar, json_text}
-use Rattle.json_span.specs.Steered.{rules, ahead, json}
+use Rattle.json_span.specs.Predictive.{rules, ahead, json}
 use Rattle.json_span.specs.Tree.{Placed}
 use Rattle.json_span.specs.Reading.{ValueAt, Shows}
 use Rattle.json_span.specs.inner.Scan.{ReadsTo, Halts}
@@ -22,7 +22,7 @@ use Rattle.json_span.specs.declared.build.Built.{Built}
 use Rattle.json_span.specs.declared.build.Built.TheVariants.{Whole, Flawed}
 use Rattle.json_span.specs.declared.flaw.Flaw as declared
 use Rattle.json_span.specs.declared.flaw.Flaw.TheVariants.{Dup, Deep}
-use Rattle.json_span.proofs.Steered.{honest_json, steered_json, spelled, passes}
+use Rattle.json_span.proofs.Predictive.{honest_json, steered_json, spelled, passes}
 use Rattle.json_span.proofs.Rfc.{refuses_to}
 
 pub refusal : (text : List ℕ) (at : ℕ) → Stops rules ahead json text at → Refuses grammar json_text text at

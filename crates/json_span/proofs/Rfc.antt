@@ -6,8 +6,8 @@ use Rattle.grammar.proofs.Steps.{rounds}
 use Rattle.grammar.proofs.Fronts.{goes_on, is_front}
 use Rattle.grammar.proofs.Tables.{passes_from}
 use Rattle.json_span.specs.Grammar.{Name, value, number, string, grammar, json_text, ws, one, member, value_separator}
-use Rattle.json_span.specs.Steered.{Bracket, square, curly, rules, symbol, before_of, list_item_of, json}
-use Rattle.json_span.proofs.Steered.{spelled, passes}
+use Rattle.json_span.specs.Predictive.{Bracket, square, curly, rules, symbol, before_of, list_item_of, json}
+use Rattle.json_span.proofs.Predictive.{spelled, passes}
 
 -- the rule goes through no name
 abbrev is_plain : Rule Name → Bool

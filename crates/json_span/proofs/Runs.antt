@@ -10,7 +10,7 @@ use Rattle.grammar.proofs.Tables.{steered_from}
 use Rattle.grammar.proofs.Steps.{chosen, IsChoice}
 use Rattle.lane_scan.specs.Bytes.{is_special, is_blank}
 use Rattle.json_span.specs.Grammar.{Name, blank, ws, unescaped}
-use Rattle.json_span.specs.Steered.{rules, table, ahead}
+use Rattle.json_span.specs.Predictive.{rules, table, ahead}
 use Rattle.json_span.specs.inner.Scan.{ReadsTo}
 
 module _ (r : Rule Name) (ch : IsChoice r) (st : is_steered table r ≡ true) where

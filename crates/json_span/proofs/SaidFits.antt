@@ -8,7 +8,7 @@ use Rattle.json_span.specs.Grammar.{Name, one}
 use Rattle.json_span.specs.Plain.{PlainValue, Plains, PlainMembers, plains_in, plain_entries_in}
 use Rattle.json_span.specs.Reading.{StringAt}
 use Rattle.json_span.specs.Says.{Says, says_null, says_false, says_true, says_number, says_string, says_list, says_object, SaysItems, says_no_item, says_items, SaysMoreItems, says_no_more_item, says_more_items, SaysMember, says_member, SaysMembers, says_no_member, says_members, SaysMoreMembers, says_no_more_member, says_more_members, SaysText}
-use Rattle.json_span.specs.Steered.{rules, symbol}
+use Rattle.json_span.specs.Predictive.{rules, symbol}
 use Rattle.json_span.proofs.Boundaries.{is_ascii, ascii_front}
 use Rattle.json_span.proofs.StringsAreUtf8.{behind_ascii, string_utf8}
 

@@ -7,7 +7,7 @@ use Rattle.grammar.specs.Ranges.{is_steered}
 use Rattle.grammar.proofs.Tables.{steered_from}
 use Rattle.grammar.proofs.Steps.{chosen, not_chosen, IsChoice}
 use Rattle.json_span.specs.Grammar.{Name}
-use Rattle.json_span.specs.Steered.{rules, table, ahead}
+use Rattle.json_span.specs.Predictive.{rules, table, ahead}
 use Rattle.json_span.specs.inner.Scan.{ReadsTo, Halts, Scans}
 
 -- nothing begins with a byte of no rule

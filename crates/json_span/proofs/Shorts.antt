@@ -7,7 +7,7 @@ use Rattle.grammar.specs.Grammar.{Rule, empty, byte, seq, alt, many, named, with
 use Rattle.grammar.specs.Predict.{first}
 use Rattle.grammar.proofs.Steps.{IsChoice}
 use Rattle.json_span.specs.Grammar.{Name, hex, not_d, short, letter_d, high_digit, low_digit}
-use Rattle.json_span.specs.Steered.{rules, ahead}
+use Rattle.json_span.specs.Predictive.{rules, ahead}
 use Rattle.json_span.specs.Characters.{short_of, code_unit_of, is_high, is_low}
 
 or_left : (a b : Bool) → a ≡ true → (a || b) ≡ true

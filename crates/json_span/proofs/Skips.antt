@@ -6,7 +6,7 @@ use Rattle.grammar.proofs.Tables.{steered_from}
 use Rattle.grammar.proofs.Steps.{shorter}
 use Rattle.grammar.proofs.Predicts.{reads}
 use Rattle.json_span.specs.Grammar.{Name, value, ws, blank, one}
-use Rattle.json_span.specs.Steered.{Bracket, square, curly, rules, table, ahead, symbol, open_of, close_of, before_of, list_item_of, more_of, inside_of, list_of}
+use Rattle.json_span.specs.Predictive.{Bracket, square, curly, rules, table, ahead, symbol, open_of, close_of, before_of, list_item_of, more_of, inside_of, list_of}
 use Rattle.json_span.specs.inner.Scan.{ReadsTo, Halts}
 use Rattle.json_span.specs.inner.Alternatives.{bracket_of}
 use Rattle.json_span.specs.inner.Skipping.{closing_then, closing_of, left_of, ContinuesAs, StopsAt}
@@ -16,7 +16,7 @@ use Rattle.json_span.specs.declared.alternative.Bracket as declared
 use Rattle.json_span.specs.declared.alternative.Bracket.TheVariants.{Square}
 use Rattle.json_span.specs.declared.alternative.Alternative.TheVariants.{List as Listed}
 use Rattle.json_span.proofs.Scans as scan
-use Rattle.json_span.proofs.Steered.{honest_json}
+use Rattle.json_span.proofs.Predictive.{honest_json}
 use Rattle.json_span.proofs.AlternativesRead.{Walks, value_walk}
 
 -- the innermost bracket is the last of the list

@@ -7,7 +7,7 @@ use Rattle.grammar.specs.Grammar.{Rule, Reads, no_more, named}
 use Rattle.grammar.specs.Predict.{begins, more_in}
 use Rattle.grammar.proofs.Fronts.{widen}
 use Rattle.json_span.specs.Grammar.{Name, value}
-use Rattle.json_span.specs.Steered.{rules, ahead}
+use Rattle.json_span.specs.Predictive.{rules, ahead}
 use Rattle.json_span.specs.Characters.{CharactersAt, closing_quote, unescaped_byte, short_escape, unicode_escape, surrogate_pair}
 use Rattle.json_span.specs.Tree.{Tree, Placed, Elements, Members, start_of, end_of}
 use Rattle.json_span.specs.Reading.{StringAt, BeginsAt, ValueAt, with_span, Shape, null_shape, false_shape, true_shape, number_shape, string_shape, array_shape, object_shape, ElementsAt, no_element, first_element, MoreElements, last_element, next_element, MemberAt, member_at, MembersAt, no_member, first_member, MoreMembers, last_member, next_member, Shows}

@@ -9,12 +9,12 @@ use Rattle.grammar.specs.Predict.{begins, first, Steers, on_end, on_more}
 use Rattle.grammar.proofs.Tables.{steered_from}
 use Rattle.grammar.proofs.Predicts.{reads}
 use Rattle.json_span.specs.Grammar.{unescaped, char, one, string}
-use Rattle.json_span.specs.Steered.{rules, table, ahead}
+use Rattle.json_span.specs.Predictive.{rules, table, ahead}
 use Rattle.json_span.specs.Characters.{CharactersAt, closing_quote, unescaped_byte, short_escape, unicode_escape, surrogate_pair}
 use Rattle.json_span.specs.Reading.{StringAt}
 use Rattle.json_span.specs.inner.Scan.{ReadsTo, Halts}
 use Rattle.json_span.specs.declared.bytes.Class.TheVariants.{One}
-use Rattle.json_span.proofs.Steered.{honest_json}
+use Rattle.json_span.proofs.Predictive.{honest_json}
 use Rattle.json_span.proofs.Scans as scan
 use Rattle.json_span.proofs.Classes as row
 use Rattle.json_span.proofs.Shorts.{choice_read, is_value}

@@ -8,7 +8,7 @@ use Rattle.std.proofs.lemmas.Str.{IsUtf8-append, IsUtf8-drop, IsUtf8-encode, IsU
 use Rattle.grammar.specs.Predict.{first}
 use Rattle.json_span.specs.Grammar.{hex}
 use Rattle.json_span.specs.Reading.{StringAt}
-use Rattle.json_span.specs.Steered.{ahead}
+use Rattle.json_span.specs.Predictive.{ahead}
 use Rattle.json_span.specs.Characters.{CharactersAt, closing_quote, unescaped_byte, short_escape, unicode_escape, surrogate_pair, code_unit_of, joined_pair}
 use Rattle.json_span.proofs.Boundaries.{one_ascii}
 use Rattle.json_span.proofs.EscapeFacts.{digits_in, hex_ascii, short_small, short_letter, scalar_alone, scalar_joined}

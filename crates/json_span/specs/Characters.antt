@@ -5,7 +5,7 @@ use Rattle.grammar.specs.Predict.{first}
 use Rattle.tk_io.specs.Characters.{quote, backslash, solidus}
 use Rattle.json_span.specs.Grammar.{hex, unescaped}
 use Rattle.json_span.specs.Letters.{small_b, small_f, small_n, small_r, small_t, small_u}
-use Rattle.json_span.specs.Steered.{ahead}
+use Rattle.json_span.specs.Predictive.{ahead}
 
 -- what a short escape stands for
 abbrev pub short_of : ℕ → Option ℕ

@@ -4,7 +4,7 @@ use Rattle.std.specs.List.{join_by}
 use Rattle.grammar.specs.Grammar.{Derives}
 use Rattle.tk_io.specs.Characters.{comma_sign, colon_sign}
 use Rattle.json_span.specs.Grammar.{ws}
-use Rattle.json_span.specs.Steered.{rules, square, curly, open_of, close_of}
+use Rattle.json_span.specs.Predictive.{rules, square, curly, open_of, close_of}
 use Rattle.json_span.specs.Reading.{StringAt}
 use Rattle.json_span.specs.Plain.{PlainValue, PlainEntry, plain_array, plain_object, plains_of, plain_members_of}
 use Rattle.json_span.specs.Says.{Says, SaysText}

@@ -2,7 +2,7 @@
 use Rattle.std.specs.Prelude.{◌≡◌, ℕ, List, [], ◌++◌, true, false}
 use Rattle.grammar.specs.Grammar.{named, Reads}
 use Rattle.json_span.specs.Grammar.{number, ws, one, null_word, false_word, true_word}
-use Rattle.json_span.specs.Steered.{rules, symbol}
+use Rattle.json_span.specs.Predictive.{rules, symbol}
 use Rattle.json_span.specs.Tree as tree
 use Rattle.json_span.specs.Tree.{Tree, Placed, placed, Elements, no_elements, an_element, Members, no_members, a_member}
 use Rattle.json_span.specs.Reading.{StringAt}

@@ -2,7 +2,7 @@
 use Rattle.std.specs.Prelude.{ℕ, ◌==◌, if◌then◌else◌}
 use Rattle.tk_io.specs.Characters.{quote}
 use Rattle.json_span.specs.Letters.{small_f, small_n, small_t}
-use Rattle.json_span.specs.Steered.{square, curly, open_of}
+use Rattle.json_span.specs.Predictive.{square, curly, open_of}
 use Rattle.json_span.specs.Tree.{Tree, a_null, a_boolean, a_number, a_string, an_array, an_object}
 use Rattle.json_span.specs.declared.value_type.ValueType.{ValueType}
 use Rattle.json_span.specs.declared.value_type.ValueType.TheVariants.{Null, Boolean, Number, String, Array, Object}

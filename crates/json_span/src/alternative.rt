@@ -1,19 +1,19 @@
-//! The alternatives of a value, by its first byte.
+//! Which kind of JSON value begins at a byte: RFC 8259's alternatives of a value differ in their first byte.
 
 ghost use Rattle.std.specs.Prelude.{◌≡◌, ◌<◌, ◌≤◌, length, drop, true, false, IfSome, IfNone};
 ghost use Rattle.grammar.specs.Predict.{first, begins};
 ghost use Rattle.json_span.specs.Grammar.{value};
-ghost use Rattle.json_span.specs.Steered.{ahead, rules};
+ghost use Rattle.json_span.specs.Predictive.{ahead, rules};
 ghost use Rattle.json_span.specs.inner.Alternatives.{alternative_of, rule_of_alternative};
 
-/// The two kinds of lists.
+/// The two kinds of values that hold others, each between brackets of its own: arrays and objects.
 #[derive(Clone, Copy)]
 pub(crate) enum Bracket {
     Square,
     Curly,
 }
 
-/// The values that hold no others.
+/// The kinds of values that hold no others.
 #[derive(Clone, Copy)]
 pub(crate) enum Scalar {
     False,
@@ -23,14 +23,14 @@ pub(crate) enum Scalar {
     String,
 }
 
-/// The alternatives of a value.
+/// The kinds of values that are told apart by the first byte.
 #[derive(Clone, Copy)]
 pub(crate) enum Alternative {
     Scalar(Scalar),
     List(Bracket),
 }
 
-// What a byte begins.
+// The kind of value whose texts begin with this byte, or none where no value does.
 fn alternative_of(byte: u8) -> Option<Alternative>
     ensures { result ≡ alternative_of byte }
 {
@@ -46,7 +46,8 @@ fn alternative_of(byte: u8) -> Option<Alternative>
     }
 }
 
-/// What begins there.
+/// The kind of value that begins at an offset of the text, or none where the byte there begins no value, or none stands
+/// there.
 pub(crate) fn alternative_at(text: &str, at: usize) -> Option<Alternative>
     requires { at ≤ length text.now }
     ensures found { IfSome result (λ k.

@@ -6,7 +6,7 @@ ghost use Rattle.grammar.specs.Grammar.{named, seq};
 ghost use Rattle.grammar.specs.Predict.{begins, first};
 ghost use Rattle.tk_io.specs.Characters.{colon_sign};
 ghost use Rattle.json_span.specs.Grammar.{value, ws};
-ghost use Rattle.json_span.specs.Steered.{ahead, before_of, list_of, square, curly, symbol};
+ghost use Rattle.json_span.specs.Predictive.{ahead, before_of, list_of, square, curly, symbol};
 ghost use Rattle.json_span.specs.inner.Scan.{ReadsTo};
 ghost use Rattle.json_span.specs.inner.Names.{IsNameSpan};
 ghost use Rattle.json_span.specs.inner.Alternatives.{bracket_of};

@@ -3,7 +3,7 @@
 ghost use Rattle.std.specs.Prelude.{◌≡◌, ◌<◌, ◌≤◌, length, drop};
 ghost use Rattle.std.specs.Bool.{OnTrue};
 ghost use Rattle.grammar.specs.Predict.{first, begins};
-ghost use Rattle.json_span.specs.Steered.{ahead};
+ghost use Rattle.json_span.specs.Predictive.{ahead};
 ghost use Rattle.json_span.specs.inner.Scan.{rule_of, row_of, Scans};
 
 /// A class of bytes.
@@ -31,6 +31,7 @@ pub(crate) enum Class {
 }
 
 impl Class {
+    // Whether the byte is one of the class.
     fn has(self, byte: u8) -> bool
         ensures { result ≡ first ahead (rule_of self) byte }
     {

@@ -5,7 +5,7 @@ ghost use Rattle.std.specs.Prelude.{length, get_or};
 ghost use Rattle.std.specs.Char.{digit_value, IsScalar};
 ghost use Rattle.grammar.specs.Predict.{first};
 ghost use Rattle.json_span.specs.Grammar.{hex};
-ghost use Rattle.json_span.specs.Steered.{ahead};
+ghost use Rattle.json_span.specs.Predictive.{ahead};
 ghost use Rattle.json_span.specs.Characters.{short_of, code_unit_of, is_high, is_low, joined_pair};
 ghost use Rattle.json_span.specs.inner.Escapes.{BeginsEscape, StandsFor};
 
@@ -59,6 +59,7 @@ fn short_character(byte: u8) -> u8
     }
 }
 
+// Whether a unit of UTF-16 is the first of a surrogate pair.
 fn is_high(unit: u32) -> bool
     ensures { result ≡ is_high unit }
 {

@@ -4,7 +4,7 @@ ghost use Rattle.json_span.specs.Laws.{TextsShow, TextFrontsArePrefixes, FrontsG
 ghost use Rattle.json_span.specs.Laws.{OneAnswer, EachHasAnswer, ShowsSay, SaysBefore, SaysShow};
 ghost use Rattle.json_span.specs.Laws.{SaysOne, SlicesSay};
 ghost use Rattle.json_span.specs.FitsIn.{SaidFits};
-ghost use Rattle.json_span.specs.Flaws.{FirstIsLeast, NoneIsNone};
+ghost use Rattle.json_span.specs.FlawLaws.{FirstIsLeast, NoneIsNone};
 ghost use Rattle.json_span.specs.Parts.{SlicesShow};
 ghost use Rattle.json_span.specs.SpellingLaws.{InsidesFollow, InsidesJoin, JoinedReadBack};
 ghost use Rattle.json_span.specs.SpellingLaws.{PlainStays, StringsReadBack};

@@ -7,7 +7,7 @@ ghost use Rattle.grammar.specs.Grammar.{named, seq};
 ghost use Rattle.grammar.specs.Predict.{begins, first};
 ghost use Rattle.tk_io.specs.Characters.{colon_sign};
 ghost use Rattle.json_span.specs.Grammar.{value, ws, one};
-ghost use Rattle.json_span.specs.Steered.{ahead, symbol, before_of, more_of, close_of, list_of};
+ghost use Rattle.json_span.specs.Predictive.{ahead, symbol, before_of, more_of, close_of, list_of};
 ghost use Rattle.json_span.specs.inner.Scan.{ReadsTo, Scans, rule_of};
 ghost use Rattle.json_span.specs.inner.Alternatives.{bracket_of, rule_of_scalar};
 ghost use Rattle.json_span.specs.inner.Skipping.{left_of, ContinuesAs, StopsAt};

@@ -9,11 +9,11 @@ use Rattle.token_cells.specs.Cell.{IsCell}
 use Rattle.token_cells.specs.declared.gathering.Growing.{Growing}
 use Rattle.token_cells.specs.declared.row.Row.{Row}
 use Rattle.token_cells.specs.inner.Earlier.{IsLone}
-use Rattle.token_cells.specs.inner.Growing.{HoldAll}
+use Rattle.token_cells.specs.inner.AddedToPages.{HoldAll}
 use Rattle.token_cells.specs.inner.Kept.{rows_view}
 use Rattle.token_cells.specs.inner.Making.{ComesTo}
 use Rattle.token_cells.specs.inner.Turns.{HasAdded}
-use Rattle.token_cells.proofs.Growing.{more_shown}
+use Rattle.token_cells.proofs.PagesGrow.{more_shown}
 
 pub none_added : (flat : Flat) (settings : Settings) (g : Growing) → HoldAll g.pages [] → g.rows.items ≡ [] → g.lone.items ≡ [] → HasAdded flat settings [] g
 none_added flat settings g hold rows lone = record {

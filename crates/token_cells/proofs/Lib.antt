@@ -1,7 +1,7 @@
 mod AndroidDenotes
 mod ApartCells
 mod Beside
-mod Growing
+mod PagesGrow
 mod AddedTokens
 mod CellsExist
 mod Comes

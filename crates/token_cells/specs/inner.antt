@@ -1,5 +1,5 @@
 pub mod Making
 pub mod Kept
-pub mod Growing
+pub mod AddedToPages
 pub mod Earlier
 pub mod Turns

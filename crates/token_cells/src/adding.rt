@@ -10,7 +10,7 @@ ghost use Rattle.ios_out.specs.Spelling.{swift_name};
 ghost use Rattle.ios_out.specs.Sheets as in_swift;
 ghost use Rattle.json_out.specs.Properties.{extras_view};
 ghost use Rattle.token_cells.specs.Cell.{TokenPath, IsCssOf, IsAndroidOf, IsSwiftOf, IsJsonOf};
-ghost use Rattle.token_cells.specs.inner.Growing.{AddsNames, AreNamesAt};
+ghost use Rattle.token_cells.specs.inner.AddedToPages.{AddsNames, AreNamesAt};
 ghost use Rattle.token_cells.specs.inner.Making.{Adds, AddsJson};
 
 use crate::row::{Run, Shown};

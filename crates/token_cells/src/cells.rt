@@ -4,7 +4,7 @@ ghost use Rattle.std.specs.Prelude.{◌≡◌, ◌+◌, ◌≤◌, List, IfOk, O
 ghost use Rattle.std.specs.FinMap as map;
 ghost use Rattle.token_cells.specs.Cell.{AreCells};
 ghost use Rattle.token_cells.specs.TokenCell.{TokenCell};
-ghost use Rattle.token_cells.specs.inner.Growing.{AreSheets, AreShown, HoldAll};
+ghost use Rattle.token_cells.specs.inner.AddedToPages.{AreSheets, AreShown, HoldAll};
 ghost use Rattle.token_cells.specs.inner.Kept.{open_texts, rows_view, texts_of};
 
 use crate::earlier::Earlier;
@@ -30,7 +30,7 @@ pub struct Cells<'s> {
 impl<'s> Model for Cells<'s> {
     ghost use Rattle.std.specs.Prelude.{List};
     ghost use Rattle.token_cells.specs.TokenCell.{TokenCell};
-    ghost use Rattle.token_cells.specs.inner.Growing.{AreSheets};
+    ghost use Rattle.token_cells.specs.inner.AddedToPages.{AreSheets};
     ghost use Rattle.token_cells.specs.inner.Kept.{rows_view, texts_of};
 
     ghost Value = { List TokenCell };

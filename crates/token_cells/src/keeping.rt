@@ -3,7 +3,7 @@
 ghost use Rattle.std.specs.Prelude.{◌≡◌, ◌++◌, IfOk, OnOk, slice_range};
 ghost use Rattle.transforms.specs.Extent.{text_in};
 ghost use Rattle.token_cells.specs.inner.Kept.{fragment_in, fragments_view, kept_view, texts_of};
-ghost use Rattle.token_cells.specs.inner.Growing.{AddsNames, AddsFrag, AddsBody, AddsRow, AreNamesAt};
+ghost use Rattle.token_cells.specs.inner.AddedToPages.{AddsNames, AddsFrag, AddsBody, AddsRow, AreNamesAt};
 
 use crate::adding::place;
 use crate::pages::{OpenPages, Pages};

@@ -8,7 +8,7 @@ ghost use Rattle.token_cells.specs.Sheets.{sheet_for};
 ghost use Rattle.token_cells.specs.inner.Kept.{PageTexts, texts_of, open_texts, fragments_view};
 ghost use Rattle.token_cells.specs.inner.Kept.{names_in, page_for};
 ghost use Rattle.transforms.specs.Rising.{RiseTo};
-ghost use Rattle.token_cells.specs.inner.Growing.{Grows, HoldAll, HoldsCells, AreSheets};
+ghost use Rattle.token_cells.specs.inner.AddedToPages.{Grows, HoldAll, HoldsCells, AreSheets};
 
 use crate::format::Format;
 use crate::row::{Fragments, Run};

@@ -29,7 +29,7 @@ fn add_edit<'s>(edits: &mut Events<'s>, event: &Event<'s>) -> Result<(), NoMemor
 }
 
 // The events but for their commits, and one commit at the end.
-fn whole<'s>(alloc: Global, events: &Events<'s>) -> Result<Events<'s>, NoMemory>
+fn as_one_commit<'s>(alloc: Global, events: &Events<'s>) -> Result<Events<'s>, NoMemory>
     ensures { IfOk result (λ es. es ≡ as_one_commit events.now) }
 {
     let mut all = Events::new(alloc);
@@ -102,7 +102,7 @@ pub fn write_events<K: Sink>(
 {
     match command {
         Command::Build => {
-            let all = whole(alloc, events)?;
+            let all = as_one_commit(alloc, events)?;
             replay(alloc, Telling::Records, &all, out)
         }
         Command::Replay => replay(alloc, Telling::Records, events, out),

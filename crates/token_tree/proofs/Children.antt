@@ -18,7 +18,7 @@ use Rattle.token_tree.specs.Promise.{StandsIn}
 use Rattle.token_tree.specs.Tree.{Child, Named, children_of, child_among, child_at}
 use Rattle.token_tree.specs.Shape.{entries_at, is_object, is_child, child_of, group_of, put_children}
 use Rattle.token_tree.specs.inner.Lists.{KeysAreApart, child_in, with_front}
-use Rattle.token_tree.proofs.Flaws.{not_seen, rest_none, right_none}
+use Rattle.token_tree.proofs.PartsWithoutFlaws.{not_seen, rest_none, right_none}
 use Rattle.token_tree.proofs.Names.{same_bool, same_text, text_same}
 use Rattle.token_tree.proofs.Places.{names_differ}
 use Rattle.token_tree.proofs.Sound.{object_members, entries_are}

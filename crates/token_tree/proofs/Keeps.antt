@@ -10,7 +10,7 @@ use Rattle.token_tree.specs.Tree.{Definition}
 use Rattle.token_tree.specs.Answer.{IsObjectOf}
 use Rattle.token_tree.specs.Promise.{IsDefinition, StandsIn, moved_def}
 use Rattle.token_tree.specs.Shape.{members_in, entries_at, is_token, has, token_breaks, slice_of, extensions_of, def_of, said_kind, said_description, said_deprecated, token_value}
-use Rattle.token_tree.proofs.Flaws.{part_flawless, unmoved}
+use Rattle.token_tree.proofs.PartsWithoutFlaws.{part_flawless, unmoved}
 use Rattle.token_tree.proofs.Moved.{moved_start, moved_end, entries_at_moved, under_moved, has_moved, kind_moved, description_moved, deprecated_moved, token_moved, value_moved, sound_moved, moved_entry}
 use Rattle.token_tree.proofs.Objects.{ObjectAt, object_at}
 use Rattle.token_tree.proofs.Places.{under_part}

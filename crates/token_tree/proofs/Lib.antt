@@ -1,4 +1,4 @@
-pub mod Flaws
+pub mod PartsWithoutFlaws
 pub mod Keeps
 pub mod Moved
 pub mod NameLists

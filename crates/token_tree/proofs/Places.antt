@@ -7,7 +7,7 @@ use Rattle.json_span.specs.Parts.{IsPart, itself, inside, IsInside, inside_array
 use Rattle.token_tree.specs.Answer.{IsObjectOf}
 use Rattle.token_tree.specs.inner.Outcomes.{EachStands, NamesDiffer}
 use Rattle.token_tree.specs.Promise.{StandsIn}
-use Rattle.token_tree.proofs.Flaws.{part_flawless}
+use Rattle.token_tree.proofs.PartsWithoutFlaws.{part_flawless}
 use Rattle.token_tree.proofs.Sound.{among}
 
 mutual

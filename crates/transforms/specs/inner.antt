@@ -1,5 +1,5 @@
 pub mod Joined
-pub mod Growing
+pub mod Glue
 pub mod Elsewhere
 pub mod Unread
 pub mod Held

@@ -5,7 +5,7 @@ ghost use Rattle.tk_io.specs.Writing.{Extends};
 ghost use Rattle.transforms.specs.Extent.{EndsWith};
 ghost use Rattle.transforms.specs.Sheet.{Holds, Gains, IsSheetText};
 ghost use Rattle.transforms.specs.View.{frame_view};
-ghost use Rattle.transforms.specs.inner.Growing.{behind_glue, OnlyTextGrows};
+ghost use Rattle.transforms.specs.inner.Glue.{behind_glue, OnlyTextGrows};
 
 use crate::Extent;
 use std::alloc::Global;

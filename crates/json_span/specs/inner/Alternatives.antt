@@ -2,8 +2,8 @@
 use Rattle.std.specs.Prelude.{ℕ, ◌||◌, Option, Some, None, if◌then◌else◌}
 use Rattle.grammar.specs.Grammar.{Rule, named, within}
 use Rattle.json_span.specs.Grammar.{Name, number, string, false_word, null_word, true_word}
-use Rattle.json_span.specs.Steered as steered
-use Rattle.json_span.specs.Steered.{list_of}
+use Rattle.json_span.specs.Predictive as predictive
+use Rattle.json_span.specs.Predictive.{list_of}
 use Rattle.json_span.specs.declared.alternative.Bracket.{Bracket}
 use Rattle.json_span.specs.declared.alternative.Bracket.TheVariants.{Square, Curly}
 use Rattle.json_span.specs.declared.alternative.Alternative.{Alternative}
@@ -11,9 +11,9 @@ use Rattle.json_span.specs.declared.alternative.Alternative.TheVariants.{Scalar 
 use Rattle.json_span.specs.declared.alternative.Scalar.{Scalar}
 use Rattle.json_span.specs.declared.alternative.Scalar.TheVariants.{False, Null, True, Number, String}
 
-abbrev pub bracket_of : Bracket → steered.Bracket
-bracket_of Square = steered.square
-bracket_of Curly = steered.curly
+abbrev pub bracket_of : Bracket → predictive.Bracket
+bracket_of Square = predictive.square
+bracket_of Curly = predictive.curly
 
 abbrev pub rule_of_scalar : Scalar → Rule Name
 rule_of_scalar False = false_word

@@ -6,7 +6,7 @@ use Rattle.json_span.specs.Grammar.{value, ws, one}
 use Rattle.json_span.specs.Tree.{Tree, Placed, an_array, an_object, no_elements, no_members}
 use Rattle.json_span.specs.Reading.{ValueAt}
 use Rattle.json_span.specs.Flaw.{Flaw, equal_names, too_deep, flaw_in}
-use Rattle.json_span.specs.Steered.{Bracket, square, curly, ahead, close_of, more_of, list_of}
+use Rattle.json_span.specs.Predictive.{Bracket, square, curly, ahead, close_of, more_of, list_of}
 use Rattle.json_span.specs.inner.Scan.{ReadsTo, Halts}
 use Rattle.json_span.specs.Answer.{IsAnswer, shows}
 use Rattle.json_span.specs.Table.{span, spans}

@@ -2,7 +2,7 @@
 use Rattle.std.proofs.Common.{◌≡◌, ℕ, List, ◌∷◌, true, false, ◌||◌, Option, Some, refl, sym, ap, subst, arith}
 use Rattle.grammar.specs.Predict.{first}
 use Rattle.json_span.specs.Grammar.{unescaped}
-use Rattle.json_span.specs.Steered.{ahead}
+use Rattle.json_span.specs.Predictive.{ahead}
 use Rattle.json_span.specs.Characters.{CharactersAt, closing_quote, unescaped_byte, short_escape, unicode_escape, surrogate_pair, short_of, code_unit_of, is_high, is_low}
 
 not_quote : (c : ℕ) → c ≡ 34 → first ahead unescaped c ≡ true → ⊥

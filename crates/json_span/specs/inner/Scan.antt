@@ -3,7 +3,7 @@ use Rattle.std.specs.Prelude.{ℕ, ◌≤◌, List, [], ◌∷◌, length, drop,
 use Rattle.grammar.specs.Grammar.{Rule, empty, byte, seq}
 use Rattle.grammar.specs.Predict.{Steers, Stuck}
 use Rattle.json_span.specs.Grammar.{Name, one, either_byte, digit, hex, short, letter_d, not_d, high_digit, low_digit}
-use Rattle.json_span.specs.Steered.{rules, ahead}
+use Rattle.json_span.specs.Predictive.{rules, ahead}
 use Rattle.json_span.specs.declared.bytes.Class.{Class}
 use Rattle.json_span.specs.declared.bytes.Class.TheVariants.{One, Digit, FirstDigit, Sign, Exponent, Hex, NotD, D, BelowHigh, High, Low, Short}
 

@@ -2,7 +2,7 @@
 use Rattle.std.specs.Prelude.{ℕ, List, [], ◌∷◌, Bool, true, false, Result}
 use Rattle.grammar.specs.Grammar.{Rule, empty, seq, named}
 use Rattle.json_span.specs.Grammar.{Name, value, ws}
-use Rattle.json_span.specs.Steered.{more_of}
+use Rattle.json_span.specs.Predictive.{more_of}
 use Rattle.json_span.specs.inner.Scan.{Scans, Halts}
 use Rattle.json_span.specs.inner.Alternatives.{bracket_of}
 use Rattle.json_span.specs.declared.alternative.Bracket.{Bracket}

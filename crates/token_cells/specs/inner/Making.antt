@@ -12,7 +12,7 @@ use Rattle.token_cells.specs.declared.row.Row.{Row}
 use Rattle.token_cells.specs.declared.row.Shown.{Shown}
 use Rattle.token_cells.specs.Cell.{TokenPath, GivesAll}
 use Rattle.token_cells.specs.TokenCell.{TokenCell, Refused, Made}
-use Rattle.token_cells.specs.inner.Growing.{AddsBody, AddsFrag, AddsRow}
+use Rattle.token_cells.specs.inner.AddedToPages.{AddsBody, AddsFrag, AddsRow}
 
 abbrev pub IsMadeOf : Settings → TokenPath → Flattened → List Link → Typed → TokenCell → Type 0
 IsMadeOf settings path entry links typed (Refused rule place ring) = ⊥

@@ -7,7 +7,7 @@ use Rattle.token_cells.specs.Cell.{AreCells}
 use Rattle.token_cells.specs.TokenCell.{TokenCell}
 use Rattle.token_cells.specs.declared.gathering.Growing.{Growing}
 use Rattle.token_cells.specs.inner.Earlier.{AreLone}
-use Rattle.token_cells.specs.inner.Growing.{AreShown, HoldAll}
+use Rattle.token_cells.specs.inner.AddedToPages.{AreShown, HoldAll}
 use Rattle.token_cells.specs.inner.Kept.{open_texts}
 
 -- these tokens were added: the files and the rows show what they come to

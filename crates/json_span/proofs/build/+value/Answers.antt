@@ -1,6 +1,6 @@
 use Rattle.std.proofs.Common.{◌≡◌, ℕ, [], true, refl, sym, ◌∙◌, arith, rules, append-nil, Ok}
 use Rattle.std.proofs.lemmas.Result.{err_from_is_err_and}
-use Rattle.json_span.specs.Steered.{square, curly}
+use Rattle.json_span.specs.Predictive.{square, curly}
 use Rattle.json_span.specs.inner.Alternatives.{bracket_of}
 use Rattle.json_span.specs.inner.Scan.{rule_of}
 use Rattle.json_span.specs.declared.alternative.Bracket.TheVariants.{Square, Curly}

@@ -1,5 +1,5 @@
 use Rattle.std.proofs.Common.{◌≡◌, ◌≤◌, ◌+◌, ◌-◌, ◌*◌, [], length, true}
-use Rattle.json_span.specs.Steered.{square, curly}
+use Rattle.json_span.specs.Predictive.{square, curly}
 use Rattle.json_span.specs.inner.Skipping.{left_of, ContinuesAs}
 use Rattle.json_span.specs.inner.Building.{IsSmall}
 use Rattle.json_span.specs.inner.ListsLeft.{list_left, ArrayLeft, ObjectLeft}

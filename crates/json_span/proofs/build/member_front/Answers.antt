@@ -1,7 +1,7 @@
 use Rattle.std.proofs.lemmas.Result.{err_from_is_err_and}
 use Rattle.grammar.specs.Grammar.{named, seq}
 use Rattle.json_span.specs.Grammar.{string, ws}
-use Rattle.json_span.specs.Steered.{symbol}
+use Rattle.json_span.specs.Predictive.{symbol}
 use Rattle.json_span.proofs.Scans as scan
 use Rattle.json_span.proofs.build.member_front.Goals as goal
 

@@ -1,7 +1,7 @@
 use Rattle.std.proofs.Common.{sym, subst}
 use Rattle.std.proofs.lemmas.Result.{err_from_is_err_and}
 use Rattle.json_span.specs.Grammar.{ws}
-use Rattle.json_span.specs.Steered.{more_of}
+use Rattle.json_span.specs.Predictive.{more_of}
 use Rattle.json_span.specs.inner.Alternatives.{bracket_of}
 use Rattle.json_span.specs.inner.Scan.{Halts}
 use Rattle.json_span.proofs.Scans as scan

@@ -2,7 +2,7 @@ use Rattle.std.proofs.Common.{◌≡◌, ◌+◌, ℕ, ◌<◌, length, drop, tr
 use Rattle.grammar.specs.Grammar.{seq, empty}
 use Rattle.grammar.specs.Predict.{first, begins}
 use Rattle.json_span.specs.Grammar.{digits, exp, optional, either_byte}
-use Rattle.json_span.specs.Steered.{ahead}
+use Rattle.json_span.specs.Predictive.{ahead}
 use Rattle.json_span.specs.inner.Scan.{ReadsTo, Scans}
 use Rattle.json_span.specs.declared.bytes.Class.TheVariants.{Exponent}
 use Rattle.json_span.proofs.Scans as scan

@@ -3,7 +3,7 @@ use Rattle.std.proofs.Common.{arith}
 use Rattle.grammar.specs.Grammar.{seq, named}
 use Rattle.grammar.specs.Predict.{on_empty}
 use Rattle.json_span.specs.Grammar.{string, ws}
-use Rattle.json_span.specs.Steered.{symbol}
+use Rattle.json_span.specs.Predictive.{symbol}
 use Rattle.json_span.proofs.Scans as scan
 use Rattle.json_span.proofs.skip.before_end.Goals as goal
 

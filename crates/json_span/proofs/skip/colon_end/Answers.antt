@@ -1,6 +1,6 @@
 use Rattle.std.proofs.lemmas.Result.{err_from_is_err_and}
 use Rattle.json_span.specs.Grammar.{ws, one}
-use Rattle.json_span.specs.Steered.{symbol}
+use Rattle.json_span.specs.Predictive.{symbol}
 use Rattle.json_span.proofs.Scans as scan
 use Rattle.json_span.proofs.skip.colon_end.Goals as goal
 

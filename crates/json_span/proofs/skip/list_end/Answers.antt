@@ -3,7 +3,7 @@ use Rattle.std.specs.Prelude.{IfOk, IfErr}
 use Rattle.std.proofs.lemmas.Result.{IfOk-weaker, IfErr-weaker}
 use Rattle.grammar.specs.Grammar.{seq, empty}
 use Rattle.json_span.specs.Grammar.{ws}
-use Rattle.json_span.specs.Steered.{more_of}
+use Rattle.json_span.specs.Predictive.{more_of}
 use Rattle.json_span.specs.inner.Alternatives.{bracket_of}
 use Rattle.json_span.specs.inner.Scan.{ReadsTo}
 use Rattle.json_span.specs.inner.Skipping.{left_of, StopsAt}

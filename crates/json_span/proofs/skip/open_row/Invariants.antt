@@ -1,7 +1,7 @@
 use Rattle.std.proofs.Common.{◌≡◌, ◌<◌, ◌≤◌, ◌-◌, length, drop, true}
 use Rattle.grammar.specs.Predict.{begins, first}
 use Rattle.json_span.specs.Grammar.{one}
-use Rattle.json_span.specs.Steered.{ahead}
+use Rattle.json_span.specs.Predictive.{ahead}
 use Rattle.json_span.specs.inner.Skipping.{left_of, ContinuesAs}
 use Rattle.json_span.proofs.skip.open_row.Given as goal
 

@@ -1,7 +1,7 @@
 use Rattle.std.proofs.Common.{◌≡◌, ◌≤◌, ◌-◌, length, drop, false}
 use Rattle.grammar.specs.Predict.{begins, first}
 use Rattle.json_span.specs.Grammar.{unescaped}
-use Rattle.json_span.specs.Steered.{ahead}
+use Rattle.json_span.specs.Predictive.{ahead}
 use Rattle.json_span.proofs.CharacterScans.{Leads}
 use Rattle.json_span.proofs.string.characters_end.Given as goal
 

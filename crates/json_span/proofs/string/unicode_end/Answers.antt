@@ -3,7 +3,7 @@ use Rattle.std.proofs.lemmas.Result.{err_from_is_err_and}
 use Rattle.grammar.specs.Grammar.{seq}
 use Rattle.grammar.specs.Predict.{first}
 use Rattle.json_span.specs.Grammar.{hex, not_d, letter_d, behind_d}
-use Rattle.json_span.specs.Steered.{ahead}
+use Rattle.json_span.specs.Predictive.{ahead}
 use Rattle.json_span.proofs.Scans as scan
 use Rattle.json_span.proofs.string.unicode_end.Goals as goal
 

@@ -4,7 +4,7 @@ use Rattle.token_cells.specs.declared.row.Shown.{Shown}
 use Rattle.android_out.specs.Element.{value_names}
 use Rattle.android_out.specs.PlatformValue.{android_values}
 use Rattle.android_out.specs.Spelling.{body_text}
-use Rattle.token_cells.proofs.Growing.{adds_frag}
+use Rattle.token_cells.proofs.PagesGrow.{adds_frag}
 use Rattle.token_cells.proofs.adding.add_android.Goals as goal
 
 pub returns-clause-added : goal.returns-clause-added

@@ -2,7 +2,7 @@ use Rattle.std.proofs.Common.{ap, ◌∙◌}
 use Rattle.transforms.specs.Frag.{Frag}
 use Rattle.token_cells.specs.declared.row.Shown.{Shown}
 use Rattle.css_out.specs.Spelling.{names_under, text_under}
-use Rattle.token_cells.proofs.Growing.{adds_frag}
+use Rattle.token_cells.proofs.PagesGrow.{adds_frag}
 use Rattle.token_cells.proofs.adding.add_css.Goals as goal
 
 pub returns : goal.returns

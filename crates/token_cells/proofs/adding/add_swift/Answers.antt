@@ -4,7 +4,7 @@ use Rattle.token_cells.specs.declared.row.Shown.{Shown}
 use Rattle.ios_out.specs.Constant.{value_names}
 use Rattle.ios_out.specs.PlatformValue.{swift_values}
 use Rattle.ios_out.specs.Spelling.{body_text}
-use Rattle.token_cells.proofs.Growing.{adds_frag}
+use Rattle.token_cells.proofs.PagesGrow.{adds_frag}
 use Rattle.token_cells.proofs.adding.add_swift.Goals as goal
 
 pub returns : goal.returns

@@ -1,7 +1,7 @@
 use Rattle.transforms.specs.Extent.{text_in}
 use Rattle.token_cells.specs.declared.row.Fragments.{Fragments}
 use Rattle.token_cells.specs.inner.Kept.{fragment_in, texts_of}
-use Rattle.token_cells.proofs.Growing.{made_row}
+use Rattle.token_cells.proofs.PagesGrow.{made_row}
 use Rattle.token_cells.proofs.keeping.keep_fragments.Goals as goal
 
 pub returns : goal.returns

@@ -1,7 +1,7 @@
 use Rattle.std.proofs.Common.{◌≡◌, ◌∙◌}
 use Rattle.std.proofs.lemmas.Result.{IfOk-weaker}
 use Rattle.token_cells.specs.Sheets.{sheet_for}
-use Rattle.token_cells.proofs.Growing.{page_is}
+use Rattle.token_cells.proofs.PagesGrow.{page_is}
 use Rattle.token_cells.proofs.sheet.sheet_of.Goals as goal
 
 pub returns : goal.returns

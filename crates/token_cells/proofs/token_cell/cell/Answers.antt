@@ -3,7 +3,7 @@ use Rattle.std.proofs.lemmas.Result.{IfOk-weaker}
 use Rattle.token_cells.specs.Cell.{IsCell}
 use Rattle.token_cells.specs.TokenCell.{TokenCell}
 use Rattle.token_cells.specs.inner.Kept.{rows_view}
-use Rattle.token_cells.proofs.Growing.{more_shown}
+use Rattle.token_cells.proofs.PagesGrow.{more_shown}
 use Rattle.token_cells.proofs.token_cell.cell.Goals as goal
 
 pub new-requires-2 : goal.new-requires-2

@@ -4,7 +4,7 @@ use Rattle.token_cells.specs.Cell.{IsCell}
 use Rattle.token_cells.specs.TokenCell.{Refused}
 use Rattle.token_cells.specs.inner.Making.{ComesTo}
 use Rattle.token_cells.proofs.Comes.{broken_reference}
-use Rattle.token_cells.proofs.Growing.{refused_row}
+use Rattle.token_cells.proofs.PagesGrow.{refused_row}
 use Rattle.token_cells.proofs.token_cell.fault_row.Goals as goal
 
 pub returns-in-Broken : goal.returns-in-Broken

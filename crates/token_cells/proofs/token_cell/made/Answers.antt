@@ -6,7 +6,7 @@ use Rattle.json_out.specs.Properties.{ExtrasData}
 use Rattle.transforms.specs.Frag.{Frag}
 use Rattle.token_cells.specs.Cell.{TokenPath, GivesAll, IsJsonOf}
 use Rattle.token_cells.specs.TokenCell.{Made}
-use Rattle.token_cells.proofs.Growing.{made_row}
+use Rattle.token_cells.proofs.PagesGrow.{made_row}
 use Rattle.token_cells.proofs.token_cell.made.Goals as goal
 
 -- what is shown beside the value is that of the entry

@@ -10,7 +10,7 @@ use Rattle.token_cells.specs.Cell.{IsCell}
 use Rattle.token_cells.specs.TokenCell.{Refused}
 use Rattle.token_cells.specs.inner.Making.{ComesTo}
 use Rattle.token_cells.proofs.Comes.{made_cell, refused_cell}
-use Rattle.token_cells.proofs.Growing.{refused_row}
+use Rattle.token_cells.proofs.PagesGrow.{refused_row}
 use Rattle.token_cells.proofs.token_cell.resolved_row.Goals as goal
 
 pub returns-in-Ok : goal.returns-in-Ok

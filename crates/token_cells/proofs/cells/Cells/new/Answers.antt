@@ -1,5 +1,5 @@
 use Rattle.std.proofs.Common.{sym, subst}
-use Rattle.token_cells.specs.inner.Growing.{AreSheets}
+use Rattle.token_cells.specs.inner.AddedToPages.{AreSheets}
 use Rattle.token_cells.specs.inner.Kept.{texts_of}
 use Rattle.token_cells.proofs.cells.Cells.new.Goals as goal
 

@@ -1,4 +1,5 @@
--- All flaws of a value: each second name of an object, and each bracket that opens one level too many.
+-- What is a flaw of a value: each second name of an object, and each bracket that opens one level too many. Two laws say that the flaw which
+-- is told (`first_flaw`) is the first of all.
 use Rattle.std.specs.Prelude.{◌≡◌, ℕ, zero, suc, ◌+◌, ◌≤◌, Bool, true, false, None, Some, ◌↔◌, List}
 use Rattle.json_span.specs.Tree.{Tree, a_null, a_boolean, a_number, a_string, an_array, an_object, Placed, placed, Elements, an_element, Members, a_member, Entry}
 use Rattle.json_span.specs.Reading.{Shows}

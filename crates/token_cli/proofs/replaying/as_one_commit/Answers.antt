@@ -4,7 +4,7 @@ use Rattle.edit_script.specs.Script.{EventData}
 use Rattle.edit_script.specs.View.{event_view}
 use Rattle.token_cli.proofs.Edits.{edits_more}
 use Rattle.token_cli.proofs.Places.{read_listed}
-use Rattle.token_cli.proofs.replaying.whole.Goals as goal
+use Rattle.token_cli.proofs.replaying.as_one_commit.Goals as goal
 
 pub loop-event-preserved : goal.loop-event-preserved
 loop-event-preserved c =

@@ -1,11 +1,11 @@
--- The grammar is steered by the next byte, and each of its rules derives some text.
+-- One byte ahead decides in the grammar for predictive reading, and each of its rules derives some text.
 use Rattle.std.proofs.Common.{◌≡◌, ℕ, List, [], ◌∷◌, refl, true}
 use Rattle.grammar.specs.Grammar.{Derives, EachPasses, no_byte, one_byte, both, left, right, no_more, by_name, named}
 use Rattle.grammar.specs.Predict.{IsHonest, IsSteered}
 use Rattle.grammar.specs.Ranges.{is_honest_at}
 use Rattle.grammar.proofs.Tables.{honest, steered_from, passes_from}
 use Rattle.json_span.specs.Grammar.{Name, value, number, string}
-use Rattle.json_span.specs.Steered.{rules, table, ahead, json}
+use Rattle.json_span.specs.Predictive.{rules, table, ahead, json}
 
 tests : (n : Name) → is_honest_at rules table n ≡ true
 tests value = refl

@@ -1,4 +1,4 @@
--- Files that grow by one token after another.
+-- What stands in the files of a flat tree stays where it is as one token after another is added behind it.
 use Rattle.std.proofs.Common.{◌≡◌, ℕ, List, [], ◌∷◌, ◌++◌, length, ◌+◌, ◌-◌, take, drop, arith, refl, sym, ap, ap₂, subst, ◌∙◌, flat_map}
 use Rattle.std.proofs.lemmas.Grind.{flat_map-append}
 use Rattle.std.proofs.lemmas.List.{append-nil, append_assoc, drop_at, take_at, map-append}
@@ -21,7 +21,7 @@ use Rattle.refusals.specs.declared.rule.CellRule.{CellRule}
 use Rattle.name_path.specs.declared.place.Place.{Place}
 use Rattle.token_cells.specs.Sheets.{bodies_for, frame_for, sheet_for}
 use Rattle.token_cells.specs.TokenCell.{TokenCell, Refused, Made}
-use Rattle.token_cells.specs.inner.Growing.{AddsBody, AddsFrag, AddsNames, AddsRow, AreNamesAt, AreSheets, AreShown, ExtendsNames, Grows, HoldsCells}
+use Rattle.token_cells.specs.inner.AddedToPages.{AddsBody, AddsFrag, AddsNames, AddsRow, AreNamesAt, AreSheets, AreShown, ExtendsNames, Grows, HoldsCells}
 use Rattle.token_cells.specs.inner.Kept.{PageTexts, fragment_in, open_texts, page_for, row_view, rows_view}
 
 -- Names.

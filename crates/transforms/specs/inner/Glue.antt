@@ -1,4 +1,4 @@
--- Sheets whose text grows before they have a further body.
+-- What a sheet is while a further body is written: its text alone grows, first by the glue that stands between two bodies.
 use Rattle.std.specs.Prelude.{◌≡◌, ◌++◌, [], if◌then◌else◌}
 use Rattle.tk_io.specs.Writing.{Extends}
 use Rattle.transforms.specs.Sheet.{OpenSheet}

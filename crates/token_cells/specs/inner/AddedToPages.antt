@@ -1,4 +1,4 @@
--- Files to which one token after another is added.
+-- What a token adds to the files of a flat tree (the pages): its lines and its names, behind those of the tokens before it.
 use Rattle.std.specs.Prelude.{◌≡◌, ℕ, List, [], ◌∷◌, ◌++◌, flat_map}
 use Rattle.tk_io.specs.Writing.{Extends}
 use Rattle.transforms.specs.Extent.{text_in}

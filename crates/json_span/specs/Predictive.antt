@@ -1,4 +1,5 @@
--- The grammar as a reader with one byte ahead wants it: the blanks of a structural character stand after it alone.
+-- The grammar for predictive reading (LL(1)): as `Grammar` has it, but with the blanks of a structural character after it alone, so that
+-- the next byte tells which alternative of a rule goes on.
 use Rattle.std.specs.Prelude.{ℕ, [], ◌∷◌}
 use Rattle.grammar.specs.Grammar.{Rule, empty, seq, alt, many, named}
 use Rattle.grammar.specs.Predict.{Ahead}
