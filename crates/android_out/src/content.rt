@@ -35,6 +35,7 @@ pub(crate) enum Content<'a> {
     Text(&'a str),
 }
 
+// A colour by its three components, or none where one of them is `none`.
 fn component_color(color: &Color) -> Option<Content<'static>>
     requires color { IsColor color.now }
     requires srgb { is_srgb color.now.space ≡ true }
@@ -63,6 +64,7 @@ fn digit(digit: u8) -> u8
     }
 }
 
+// The byte that two digits in lower case are.
 fn byte(high: u8, low: u8) -> u8
     requires high { is_hex_digit high ≡ true }
     requires low { is_hex_digit low ≡ true }
@@ -71,6 +73,7 @@ fn byte(high: u8, low: u8) -> u8
     16 * digit(high) + digit(low)
 }
 
+// A colour by the six digits of its `hex`.
 fn digits_color(alpha: u8, digits: &[u8; 6]) -> Content<'static>
     requires { IsHex digits.now }
     ensures { Some (content_view result) ≡ digits_color alpha digits.now }
@@ -83,6 +86,7 @@ fn digits_color(alpha: u8, digits: &[u8; 6]) -> Content<'static>
     )
 }
 
+// A colour by its `hex`, or none where it has no `hex`.
 fn hex_color(color: &Color) -> Option<Content<'static>>
     requires { IsColor color.now }
     ensures { option_map content_view result

@@ -48,6 +48,7 @@ fn omitted<'a>(draft: &mut Bytes, name: &[u8]) -> Result<Names<'a>, NoMemory>
     Ok(Names::none())
 }
 
+// Makes the one line of what Android can have.
 fn one_line<'a>(
     draft: &mut Bytes,
     name: &'a [u8],
@@ -61,6 +62,7 @@ fn one_line<'a>(
     Ok(Names::one(name))
 }
 
+// Makes the five lines of a typography, or the comment where Android can't have one of its values.
 fn five_lines<'a>(
     alloc: Global,
     draft: &mut Bytes,
@@ -90,6 +92,7 @@ fn has_base(cfg: &Config)
     let _base = cfg.rem_base;
 }
 
+// Makes the lines of a value, whatever its kind is.
 fn written<'a>(
     alloc: Global,
     draft: &mut Bytes,

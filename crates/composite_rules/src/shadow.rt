@@ -47,6 +47,7 @@ fn check_boolean<'s>(alloc: Global, plain: &Plain<'s>) -> Result<bool, ValueFaul
     }
 }
 
+// Whether a shadow is an inner one; it is none where nothing is said.
 fn inset_under<'s>(alloc: Global, members: &PlainFields<'s>) -> Result<bool, ValueFault<'s>>
     ensures ok { IfOk result (IsFound (inset_member (plain_fields_view members.now))) }
     ensures broken { IfErr result (IsBreak (inset_member (plain_fields_view members.now))) }
@@ -83,6 +84,7 @@ impl<'s> Part<'s> for ShadowItem {
     }
 }
 
+// A list of shadows that is written as its one item.
 fn one_item<'s>(alloc: Global, plain: &Plain<'s>, legacy: bool) -> Result<Shadows, ValueFault<'s>>
     ensures ok { IfOk result (λ items. one_item legacy (plain_view plain.now) ≡ Ok items) }
     ensures broken { IfErr result (IsBreak (one_item legacy (plain_view plain.now))) }

@@ -127,6 +127,7 @@ fn lengths_under<'s>(
     under(alloc, "dashArray", list_of::<Size>(alloc, plain, legacy))
 }
 
+// A stroke style that is an object: its dashes and its cap.
 fn dashes_of<'s>(alloc: Global, plain: &Plain<'s>, legacy: bool) -> Result<Stroke, ValueFault<'s>>
     ensures ok { IfOk result (λ stroke. dashes_in legacy (plain_view plain.now) ≡ Ok stroke) }
     ensures broken { IfErr result (IsBreak (dashes_in legacy (plain_view plain.now))) }

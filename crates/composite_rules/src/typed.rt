@@ -54,6 +54,7 @@ impl<'s> Typed<'s> {
     }
 }
 
+// A value of a kind whose values hold no others.
 fn simple_of<'s>(
     alloc: Global,
     kind: Kind,

@@ -83,6 +83,7 @@ impl Line {
         Ok(())
     }
 
+    /// A number with its unit, as `4px`.
     pub(crate) fn unit(&mut self, value: &Dec, name: &str) -> Result<(), NoMemory>
         ensures { OnOk result (self.new ≡ with_piece self.old (mark (unit value.now name.now))) }
     {
@@ -113,6 +114,7 @@ impl Line {
         Ok(())
     }
 
+    /// The name of a function and `(`.
     pub(crate) fn opens(&mut self, name: &str) -> Result<(), NoMemory>
         ensures { OnOk result (self.new ≡ with_piece self.old (mark (opens name.now))) }
     {
@@ -123,6 +125,7 @@ impl Line {
         Ok(())
     }
 
+    /// The `)` of a function.
     pub(crate) fn closes(&mut self) -> Result<(), NoMemory>
         ensures { OnOk result (self.new ≡ with_piece self.old (mark closes)) }
     {

@@ -6,6 +6,7 @@ ghost use Rattle.css_out.specs.Links.{same_trail, is_kind, link_for, item_link};
 use name_path::{Kind, Link, Path};
 use tk_io::Text;
 
+// Whether a link stands at these steps of the value.
 fn is_same(trail: &[Text<'_>], steps: &[&str]) -> bool
     ensures { result ≡ same_trail trail.now (map (λ s. s.now) steps.now) }
 {
@@ -18,6 +19,7 @@ fn is_same(trail: &[Text<'_>], steps: &[&str]) -> bool
     first.as_str() == *step && is_same(others, more)
 }
 
+// Whether the token that a link leads to is known to be of this kind.
 fn is_kind(kind: Option<Kind>, wanted: Kind) -> bool
     ensures { result ≡ is_kind kind wanted }
 {

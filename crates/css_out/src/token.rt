@@ -59,6 +59,7 @@ impl<'a, 's> Token<'a, 's> {
         }
     }
 
+    // A member of the value: `var()` of the token that it refers to, or its own pieces.
     fn member<T: Spell>(
         &self,
         line: &mut Line,

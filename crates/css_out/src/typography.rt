@@ -64,6 +64,7 @@ const HEIGHT: Member = Member {
 };
 
 impl<'a, 's> Token<'a, 's> {
+    // The name of the typography that the whole value refers to, where it refers to one.
     fn whole_name(&self, whole: Option<&Path<'_>>) -> Result<Option<Bytes>, NoMemory>
         ensures { IfOk result (λ name. name
             ≡ option_map (λ p. css_name self.now.cfg.now.prefix p.now) whole.entry) }
@@ -77,6 +78,8 @@ impl<'a, 's> Token<'a, 's> {
         }
     }
 
+    // One of the five values: that of the typography that the whole value refers to, else `var()` of the token
+    // that it refers to, or its own pieces.
     fn typography_part<T: Spell>(
         &self,
         line: &mut Line,
@@ -98,6 +101,7 @@ impl<'a, 's> Token<'a, 's> {
         }
     }
 
+    // The line of one of the five values, and its name among those that are declared.
     fn typography_line<T: Spell>(
         &self,
         lines: &mut Lines,

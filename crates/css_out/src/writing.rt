@@ -38,6 +38,7 @@ pub fn frame() -> Frame
     FRAME
 }
 
+// Makes the comment that stands for a value which CSS can't spell, and no name.
 fn omitted<'a>(draft: &mut Bytes, name: &'a [u8]) -> Result<Names<'a>, NoMemory>
     ensures { IfOk result (λ names. IsFragment name.now [] (fragment_of names draft.new)) }
 {
@@ -49,6 +50,7 @@ fn omitted<'a>(draft: &mut Bytes, name: &'a [u8]) -> Result<Names<'a>, NoMemory>
 }
 
 impl<'a, 's> Token<'a, 's> {
+    // Makes the one line of a value that has one.
     fn one_line<'n>(
         &self,
         draft: &mut Bytes,
@@ -70,6 +72,7 @@ impl<'a, 's> Token<'a, 's> {
         Ok(Names::one(name))
     }
 
+    // Makes the lines of a value that CSS can spell: five of a typography, else one.
     fn lines<'n>(
         &self,
         draft: &mut Bytes,
@@ -114,6 +117,7 @@ fn has_room(typed: &Typed<'_>)
     }
 }
 
+// The links that are spelled as `var()`: all of them, or none where the configuration says so.
 fn spelled_links<'a, 's>(cfg: &Config, links: &'a Links<'s>) -> &'a [Link<'s>]
     ensures { result.now ≡ spelled_links cfg.now links.now }
 {
@@ -124,6 +128,7 @@ fn spelled_links<'a, 's>(cfg: &Config, links: &'a Links<'s>) -> &'a [Link<'s>]
     }
 }
 
+// Makes the lines of a value, or the comment where CSS can't spell it.
 fn written<'a>(
     alloc: Global,
     draft: &mut Bytes,

@@ -39,6 +39,7 @@ pub(crate) const LIMIT: u128 = 1_000_000_000_000_000_000_000_000_000_000;
 /// No number that is read has more places.
 const MOST_PLACES: u128 = 30;
 
+// The number of this size, below zero where it is negative.
 fn with_sign(negative: bool, size: u128) -> i128
     requires { size < 2 ^ 127 }
     ensures { result ≡ signed negative size }

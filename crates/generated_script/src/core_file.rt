@@ -65,6 +65,7 @@ fn add_alias(out: &mut Bytes, i: u64) -> Result<(), NoMemory>
     Ok(())
 }
 
+// Adds the value of the i-th token as it stands after so many edits: a literal, or a reference to an earlier token.
 fn add_value(out: &mut Bytes, seed: u64, size: u64, edits: u64, i: u64) -> Result<(), NoMemory>
     requires { (seed < 2 ^ 32) × (1 ≤ size) × (size ≤ MOST_TOKENS) × (edits ≤ edit_count)
         × (i < size) }

@@ -52,6 +52,7 @@ pub(crate) fn bare_size(group: &Group<'_>) -> Option<Size>
     Some(size)
 }
 
+// How many members and levels a child has, or none where a group in it extends another.
 #[cycle(size)]
 fn child_size(child: &Child<'_>) -> Option<Size>
     ensures { IfSome result (λ s. IsChildSize (child_view child.now) s.members s.levels) }

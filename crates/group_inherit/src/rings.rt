@@ -63,6 +63,7 @@ fn ring_extension<'t, 's>(nodes: &[Node<'t, 's>], ring: &[usize]) -> Option<&'t 
     None
 }
 
+// The paths of the groups of a ring of numbers.
 fn ring_paths<'s>(
     alloc: Global,
     nodes: &[Node<'_, 's>],

@@ -104,6 +104,7 @@ fn put_token<'s>(
     )
 }
 
+// The path of these names, which are copied.
 fn path_of<'s>(alloc: Global, names: &[Text<'s>]) -> Result<Path<'s>, NoMemory>
     ensures { IfOk result (λ p. p ≡ names.now) }
 {

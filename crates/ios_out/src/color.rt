@@ -34,6 +34,7 @@ fn red_label(space: Space) -> Option<&'static str>
     }
 }
 
+// The call that makes a colour of three parts, of which the first has this label.
 fn color_of(
     label: &'static str,
     red: Quantity,
@@ -53,6 +54,7 @@ fn color_of(
     )
 }
 
+// A colour by its three components, or none where one of them is `none`.
 fn component_color(label: &'static str, color: &Color) -> Option<Content<'static>>
     ensures { option_map content_view result ≡ component_color label.now color.now }
 {
@@ -80,6 +82,7 @@ fn digit(digit: u8) -> u8
     }
 }
 
+// The byte that two digits in lower case are.
 fn byte(high: u8, low: u8) -> u8
     requires high { is_hex_digit high ≡ true }
     requires low { is_hex_digit low ≡ true }
@@ -88,6 +91,7 @@ fn byte(high: u8, low: u8) -> u8
     16 * digit(high) + digit(low)
 }
 
+// A colour by the six digits of its `hex`.
 fn digits_color(alpha: Dec, digits: &[u8; 6]) -> Content<'static>
     requires { IsHex digits.now }
     ensures { Some (content_view result) ≡ digits_color alpha digits.now }
@@ -101,6 +105,7 @@ fn digits_color(alpha: Dec, digits: &[u8; 6]) -> Content<'static>
     )
 }
 
+// A colour by its `hex`, or none where it has no `hex`.
 fn hex_color(color: &Color) -> Option<Content<'static>>
     requires { IsColor color.now }
     ensures { option_map content_view result

@@ -88,6 +88,7 @@ fn append_string(out: &mut Bytes, text: &str) -> Result<(), NoMemory>
     Ok(())
 }
 
+// Appends what a constructor makes of four arguments.
 fn append_made(
     out: &mut Bytes,
     maker: &str,
@@ -129,6 +130,7 @@ pub(crate) fn append_number_line(
 }
 
 impl Content<'_> {
+    // Appends what stands behind the name of the constant: its type, where it has one, and its value.
     fn append_rest(&self, out: &mut Bytes) -> Result<(), NoMemory>
         ensures { OnOk result (out.new ≡ out.old ++ content_text (content_view self.now)) }
     {

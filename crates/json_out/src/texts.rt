@@ -14,6 +14,7 @@ use tk_io::Text;
 use token_tree::Mark;
 use type_rules::Simple;
 
+// Says of a text what its type promises: its items are bytes. The calls below say it of the texts of values.
 fn text_is_bytes(_text: &str)
     ensures { are_bytes _text.now ≡ true }
 {}
@@ -26,6 +27,7 @@ fn texts_are_bytes(texts: &[Text<'_>])
     }
 }
 
+// The same of the families of a simple value.
 fn simple_is_bytes(simple: &Simple<'_>)
     ensures { list_all are_bytes (simple_families simple.now) ≡ true }
 {
@@ -40,6 +42,7 @@ fn simple_is_bytes(simple: &Simple<'_>)
     }
 }
 
+// The same of the families of any value.
 fn families_are_bytes(typed: &Typed<'_>)
     ensures { list_all are_bytes (typed_families typed.now) ≡ true }
 {
@@ -54,6 +57,7 @@ fn families_are_bytes(typed: &Typed<'_>)
     }
 }
 
+// The same of a description.
 fn description_is_bytes(description: Option<&str>)
     ensures { are_bytes (text_or_none (option_map (λ t. t.now) description.entry)) ≡ true }
 {
@@ -63,6 +67,7 @@ fn description_is_bytes(description: Option<&str>)
     }
 }
 
+// The same of the reason of a deprecation.
 fn reason_is_bytes(mark: &Mark<'_>)
     ensures { are_bytes (reason_of mark.now) ≡ true }
 {

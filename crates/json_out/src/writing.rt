@@ -79,6 +79,7 @@ fn append_mark(out: &mut Bytes, mark: &Mark<'_>) -> Result<(), NoMemory>
     }
 }
 
+// Appends what is said of a token beside its value: description, extensions, deprecation.
 fn append_extras(out: &mut Bytes, extras: &Extras<'_>) -> Result<(), NoMemory>
     ensures { OnOk result (out.new ≡ out.old ++ extras_text (extras_view extras.now)) }
 {
@@ -134,6 +135,7 @@ fn before_value(kind: Kind) -> &'static [u8]
     }
 }
 
+// Appends a token's member.
 fn append_member(
     out: &mut Bytes,
     path: &Path<'_>,
@@ -152,6 +154,7 @@ fn append_member(
     Ok(())
 }
 
+// Makes a token's member in the draft, in place of what stood there.
 fn write_member(
     draft: &mut Bytes,
     path: &Path<'_>,

@@ -49,6 +49,7 @@ pub(crate) fn plain_value<'s>(alloc: Global, node: NodeRef<'_, 's>) -> Result<Pl
     plain_leaf(alloc, node)
 }
 
+// The elements of an array without their places.
 #[cycle(copying)]
 fn plain_items<'s>(alloc: Global, items: Items<'_, 's>) -> Result<PlainItems<'s>, NoMemory>
     ensures { IfOk result (λ l. plain_items_view l ≡ plain_each (items_view items.entry)) }
@@ -61,6 +62,7 @@ fn plain_items<'s>(alloc: Global, items: Items<'_, 's>) -> Result<PlainItems<'s>
     Ok(list)
 }
 
+// The members of an object without their places.
 #[cycle(copying)]
 fn plain_fields<'s>(alloc: Global, fields: Fields<'_, 's>) -> Result<PlainFields<'s>, NoMemory>
     ensures { IfOk result (λ l. plain_fields_view l ≡ plain_entries (fields_view fields.entry)) }

@@ -51,6 +51,7 @@ impl<'d, 's> NodeRef<'d, 's> {
         NodeRef { document, at }
     }
 
+    // The row of the table for this value.
     fn span(self) -> Span
         ensures { result ≡ span self.entry.stands.0.0 self.entry.stands.0.1.0
             (start_of (ref_view self.entry)) (end_of (ref_view self.entry))

@@ -87,6 +87,7 @@ fn no_spans(alloc: Global, text: &str) -> Vec<Span>
     nodes
 }
 
+// Reads a text whose offsets fit into 32 bits.
 fn read_short<'s>(alloc: Global, text: &'s str) -> Result<Node<'s>, JsonFault>
     requires { length text.now < 2 ^ 32 }
     ensures found { IfOk result (λ n. IsAnswer text.entry.now (shows (node_view n))) }
@@ -106,6 +107,7 @@ fn read_short<'s>(alloc: Global, text: &'s str) -> Result<Node<'s>, JsonFault>
     }
 }
 
+// Reads a text, where its offsets fit into 32 bits; a longer one is answered by want of memory.
 fn read_text<'s>(alloc: Global, text: &'s str) -> Result<Node<'s>, JsonFault>
     ensures found { IfOk result (λ n. IsAnswer text.entry.now (shows (node_view n))) }
     ensures refused { IfErr result (λ e. IsJsonFault text.entry.now e) }

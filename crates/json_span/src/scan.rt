@@ -38,6 +38,7 @@ pub(crate) fn number_end(text: &str, at: usize) -> Result<usize, usize>
     exponent_end(text, exponent)
 }
 
+// Where a number goes on behind the `-` that may stand here.
 fn minus_end(text: &str, at: usize) -> usize
     requires { at ≤ length text.now }
     ensures { ReadsTo (optional (one 45)) text.now at result }
@@ -63,6 +64,7 @@ fn whole_end(text: &str, at: usize) -> Result<usize, usize>
     }
 }
 
+// Where a number goes on behind its fraction, if it has one; `Err` tells where it stops to be a number.
 fn fraction_end(text: &str, at: usize) -> Result<usize, usize>
     requires { at ≤ length text.now }
     ensures { Scans (optional frac) text.now at result }
@@ -74,6 +76,7 @@ fn fraction_end(text: &str, at: usize) -> Result<usize, usize>
     }
 }
 
+// Where a number ends behind its exponent, if it has one; `Err` tells where it stops to be a number.
 fn exponent_end(text: &str, at: usize) -> Result<usize, usize>
     requires { at ≤ length text.now }
     ensures { Scans (optional exp) text.now at result }
@@ -85,6 +88,7 @@ fn exponent_end(text: &str, at: usize) -> Result<usize, usize>
     }
 }
 
+// Where an exponent goes on behind the sign that may stand here.
 fn sign_end(text: &str, at: usize) -> usize
     requires { at ≤ length text.now }
     ensures { ReadsTo (optional (either_byte 43 45)) text.now at result }
@@ -96,6 +100,7 @@ fn sign_end(text: &str, at: usize) -> usize
     }
 }
 
+// Where one or more digits end; `Err` tells where none stands.
 fn some_digits_end(text: &str, at: usize) -> Result<usize, usize>
     requires { at ≤ length text.now }
     ensures { Scans digits text.now at result }
@@ -107,6 +112,7 @@ fn some_digits_end(text: &str, at: usize) -> Result<usize, usize>
     }
 }
 
+// Where none or more digits end.
 fn digits_end(text: &str, at: usize) -> usize
     requires { at ≤ length text.now }
     ensures { ReadsTo (many digit) text.now at result }

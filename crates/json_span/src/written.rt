@@ -54,6 +54,7 @@ fn put_inside(text: &[u8], out: &mut Bytes) -> Result<(), NoMemory>
     }
 }
 
+// Appends the spelling of a string; where memory runs out a part of it may stand there.
 fn put_string(text: &[u8], out: &mut Bytes) -> Result<(), NoMemory>
     ensures ok { OnOk result (out.new ≡ out.old ++ string_text text.now) }
     ensures err { OnErr result (Extends out.old out.new) }

@@ -27,6 +27,7 @@ fn behind_tilde<'a>(text: &'a str) -> Option<(&'static str, &'a str)>
     None
 }
 
+// Adds a piece of a step behind what stands there.
 fn add(step: &mut String, piece: &str) -> Result<(), NoMemory>
     ensures { OnOk result (string_bytes step.new ≡ string_bytes step.old ++ piece.now) }
 {
@@ -76,6 +77,7 @@ fn append_bytes(step: &[u8], out: &mut Bytes) -> Result<(), NoMemory>
     Ok(())
 }
 
+// Whether a step has neither `~` nor `/`, so that it is its own spelling.
 fn is_plain(step: &[u8]) -> bool
     ensures { IsTrue result ↔ All (λ b. (b ≢ 126) × (b ≢ 47)) step.now }
 {

@@ -55,6 +55,7 @@ fn place_of<'s, V>(entries: &[(Path<'s>, V)], path: &Path<'s>) -> Result<usize, 
     place_by_halves(entries, path)
 }
 
+// The place of a path among entries in order, or where it would stand.
 fn place_by_halves<'s, V>(entries: &[(Path<'s>, V)], path: &Path<'s>) -> Result<usize, usize>
     requires { T (is_sorted names_cmp (entries_view (λ k. k) (λ v. v) entries.now)) }
     ensures { IsKeyPlace (λ e. names_cmp e.0 path.now) entries.now result }

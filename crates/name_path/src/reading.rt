@@ -159,6 +159,7 @@ pub fn read_group<'s>(alloc: Global, text: &Text<'s>) -> Result<Path<'s>, RefSto
     names_alone(path)
 }
 
+// The path, where all its names are ones that a token or group can have.
 fn names_alone<'s>(path: Path<'s>) -> Result<Path<'s>, RefStop>
     ensures path { IfOk result (λ same. (same ≡ path.entry) × AreNames same) }
     ensures bad { IsErrOf result RefStop.BadRef → ¬ AreNames path.entry }

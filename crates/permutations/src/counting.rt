@@ -14,6 +14,7 @@ use crate::part::counts_of;
 use crate::table::Table;
 use resolver_doc::{Item, SetDef, WrittenSource};
 
+// How many choices an item leaves: the contexts of a modifier, or the one of a set.
 fn option_count(item: &Item<'_, '_>) -> u64
     ensures { result ≡ length (picks (item_view item.now)) }
 {
@@ -34,6 +35,7 @@ pub(crate) fn permutation_count(order: &[Item<'_, '_>]) -> u64
     count
 }
 
+// How many sources these come to.
 fn source_count(written: &[WrittenSource<'_, '_>], table: &Table<'_, '_, '_>) -> u64
     requires tells { Tells table.now }
     requires known { HaveRows (length table.now.rows.items) written.now }
@@ -43,6 +45,7 @@ fn source_count(written: &[WrittenSource<'_, '_>], table: &Table<'_, '_, '_>) ->
     counts_of(written, table.rows.as_slice())
 }
 
+// The most sources that one of these contexts comes to.
 fn most_in(contexts: &[SetDef<'_, '_>], table: &Table<'_, '_, '_>) -> u64
     requires tells { Tells table.now }
     requires known { All (λ c. HaveRows (length table.now.rows.items) c.sources) contexts.now }
@@ -57,6 +60,7 @@ fn most_in(contexts: &[SetDef<'_, '_>], table: &Table<'_, '_, '_>) -> u64
     most
 }
 
+// The most sources that a choice of the item comes to.
 fn item_most(item: &Item<'_, '_>, table: &Table<'_, '_, '_>) -> u64
     requires tells { Tells table.now }
     requires known { ItemHasRows (length table.now.rows.items) item.now }

@@ -36,6 +36,7 @@ pub(crate) fn push_empty(alloc: Global, drafts: &mut Vec<Draft<'_, '_>>) -> Resu
     Ok(())
 }
 
+// Appends labels, with a `+` between them and those that stand there.
 fn append_labels(more: &str, labels: &mut String) -> Result<(), NoMemory>
     ensures { OnOk result
         (string_bytes labels.new ≡ joined_labels (string_bytes labels.old) more.now) }
@@ -52,6 +53,7 @@ fn append_labels(more: &str, labels: &mut String) -> Result<(), NoMemory>
     Ok(())
 }
 
+// A copy of a source; of a file its name is copied.
 fn copy_of<'a, 's>(source: &Source<'a, 's>) -> Result<Source<'a, 's>, NoMemory>
     ensures { IfOk result (λ copy. token_source_view copy ≡ token_source_view source.now) }
 {
@@ -74,6 +76,7 @@ fn append_copies<'a, 's>(
     Ok(())
 }
 
+// Adds the labels and the sources of one draft to another.
 fn add<'a, 's>(more: &Draft<'a, 's>, draft: &mut Draft<'a, 's>) -> Result<(), NoMemory>
     ensures { OnOk result
         (draft_view draft.new ≡ with_more (draft_view draft.old) (draft_view more.now)) }
@@ -83,6 +86,7 @@ fn add<'a, 's>(more: &Draft<'a, 's>, draft: &mut Draft<'a, 's>) -> Result<(), No
     Ok(())
 }
 
+// A draft with the labels and the sources of both, in this order.
 fn both<'a, 's>(
     alloc: Global,
     draft: &Draft<'a, 's>,
@@ -97,6 +101,7 @@ fn both<'a, 's>(
     Ok(new)
 }
 
+// Appends the draft with each of the options added to it.
 fn append_each<'a, 's>(
     alloc: Global,
     draft: &Draft<'a, 's>,
@@ -113,6 +118,7 @@ fn append_each<'a, 's>(
     Ok(())
 }
 
+// Each draft with each of the options added to it, draft by draft.
 fn each_with_each<'a, 's>(
     alloc: Global,
     drafts: &[Draft<'a, 's>],
@@ -128,6 +134,7 @@ fn each_with_each<'a, 's>(
     Ok(new)
 }
 
+// Adds one option to all drafts.
 fn add_to_each<'a, 's>(more: &Draft<'a, 's>, drafts: &mut [Draft<'a, 's>]) -> Result<(), NoMemory>
     ensures { OnOk result (drafts_view drafts.new
         ≡ map (λ d. with_more d (draft_view more.now)) (drafts_view drafts.old)) }

@@ -15,6 +15,7 @@ use resolver_doc::WrittenSource;
 use std::alloc::Global;
 use tk_io::NoMemory;
 
+// Pushes parts so that the first of them is the next to be taken off.
 fn push_reversed<'p, 'a, 's>(
     parts: &[Part<'p, 'a, 's>],
     stack: &mut Vec<Part<'p, 'a, 's>>,
@@ -28,6 +29,7 @@ fn push_reversed<'p, 'a, 's>(
     Ok(())
 }
 
+// Takes a part apart: a source goes out, a set leaves its own parts on the stack.
 fn expand<'p, 'a, 's>(
     part: Part<'p, 'a, 's>,
     rows: &[Row<'p, 'a, 's>],

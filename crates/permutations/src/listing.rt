@@ -28,6 +28,7 @@ fn name_by_labels<'s>(alloc: Global, labels: &str) -> Result<Text<'s>, NoMemory>
     Ok(Text::owned(alloc, labels)?)
 }
 
+// The permutation that a draft of all items is.
 fn finished<'a, 's>(alloc: Global, draft: Draft<'a, 's>) -> Result<Perm<'a, 's>, NoMemory>
     ensures { IfOk result (λ p. perm_view p ≡ finished (draft_view draft.entry)) }
 {
@@ -38,6 +39,7 @@ fn finished<'a, 's>(alloc: Global, draft: Draft<'a, 's>) -> Result<Perm<'a, 's>,
     })
 }
 
+// The permutations that drafts of all items are.
 fn all_finished<'a, 's>(
     alloc: Global,
     drafts: Vec<Draft<'a, 's>>,

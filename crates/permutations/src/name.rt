@@ -8,12 +8,14 @@ ghost use Rattle.permutations.specs.Name.{is_unescaped, upper_digit, escaped_byt
 
 use tk_io::NoMemory;
 
+// Whether the name of a permutation has this byte as it is.
 fn is_unescaped(byte: u8) -> bool
     ensures { result ≡ is_unescaped byte }
 {
     byte.is_ascii_alphanumeric() || byte == b'_' || byte == b'-'
 }
 
+// Whether the name of a permutation has all these bytes as they are.
 fn are_unescaped(name: &[u8]) -> bool
     ensures { result ≡ list_all is_unescaped name.now }
 {

@@ -21,6 +21,7 @@ use resolver_doc::{Item, SetDef, WrittenSource};
 use std::alloc::Global;
 use tk_io::NoMemory;
 
+// The sources that a list of the document comes to.
 fn sources_from<'p, 'a, 's>(
     alloc: Global,
     written: &'p [WrittenSource<'a, 's>],
@@ -36,6 +37,7 @@ fn sources_from<'p, 'a, 's>(
     Ok(sources)
 }
 
+// A modifier and one of its contexts, as the name of a permutation has them.
 fn label_of(alloc: Global, modifier: &str, context: &str) -> Result<String, NoMemory>
     ensures { IfOk result (λ text. string_bytes text
         ≡ label (record { modifier = modifier.now; context = context.now })) }
@@ -47,6 +49,7 @@ fn label_of(alloc: Global, modifier: &str, context: &str) -> Result<String, NoMe
     Ok(text)
 }
 
+// The choice of a context: its label, and what its sources come to.
 fn context_option<'p, 'a, 's>(
     alloc: Global,
     modifier: &str,
@@ -64,6 +67,7 @@ fn context_option<'p, 'a, 's>(
     Ok(Draft { labels, sources })
 }
 
+// The choices of a modifier, one for each context.
 fn context_options<'p, 'a, 's>(
     alloc: Global,
     modifier: &str,
@@ -83,6 +87,7 @@ fn context_options<'p, 'a, 's>(
     Ok(options)
 }
 
+// The one choice of a set, which has no label.
 fn set_options<'p, 'a, 's>(
     alloc: Global,
     written: &'p [WrittenSource<'a, 's>],
@@ -103,6 +108,7 @@ fn set_options<'p, 'a, 's>(
     Ok(options)
 }
 
+// The choices that an item leaves, as drafts.
 fn options_of<'p, 'a, 's>(
     alloc: Global,
     item: &'p Item<'a, 's>,

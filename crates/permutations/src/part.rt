@@ -27,6 +27,7 @@ pub(crate) struct Row<'p, 'a, 's> {
     pub(crate) count: u64,
 }
 
+// The part that a set comes to: none where it has no parts, its one part, or the set with its number.
 fn set_part<'p, 'a, 's>(number: usize, parts: &[Part<'p, 'a, 's>]) -> Option<Part<'p, 'a, 's>>
     ensures { option_to_list (option_map part_view result)
         ≡ set_parts number (parts_view parts.now) }
@@ -38,6 +39,7 @@ fn set_part<'p, 'a, 's>(number: usize, parts: &[Part<'p, 'a, 's>]) -> Option<Par
     }
 }
 
+// The part that a source comes to, or none for a set that comes to no source.
 fn part_of<'p, 'a, 's>(
     source: &'p WrittenSource<'a, 's>,
     rows: &[Row<'p, 'a, 's>],
@@ -72,6 +74,7 @@ pub(crate) fn parts_of<'p, 'a, 's>(
     Ok(parts)
 }
 
+// How many sources a source comes to, by the rows of sets.
 fn count_of(source: &WrittenSource<'_, '_>, rows: &[Row<'_, '_, '_>]) -> u64
     requires { HasRow (length rows.now) (source_view source.now) }
     ensures { result ≡ count_in (rows_view rows.now) (source_view source.now) }

@@ -29,6 +29,7 @@ fn set_order(alloc: Global, plan: &Resolver<'_, '_>) -> Result<Vec<usize>, NoMem
     }
 }
 
+// Pushes a row without parts for each of so many sets.
 fn push_empty_rows(
     alloc: Global,
     sets: usize,
@@ -65,6 +66,7 @@ fn put_row<'p, 'a, 's>(
     Ok(())
 }
 
+// Puts the rows of sets in an order in which each comes after those that it names.
 fn fill<'p, 'a, 's>(
     alloc: Global,
     sets: &'p [SetDef<'a, 's>],

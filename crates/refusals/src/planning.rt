@@ -16,6 +16,7 @@ use tk_io::{Bytes, NoMemory};
 
 const RESOLVER: &str = "resolver.json";
 
+// What is printed of a rule that `resolver.json` breaks at a span.
 fn refused(
     alloc: Global,
     files: &Files<'_>,

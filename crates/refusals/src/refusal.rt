@@ -44,6 +44,7 @@ fn column_of(bytes: &[u8], start: usize) -> usize
     }
 }
 
+// Appends a number in decimal digits.
 fn append_number(out: &mut Bytes, n: usize) -> Result<(), NoMemory>
     ensures { OnOk result (out.new ≡ out.old ++ decimal n) }
 {

@@ -18,6 +18,7 @@ use json_span::{Fields, NodeRef};
 use std::alloc::Global;
 use tk_io::NoMemory;
 
+// Takes in the breaks of an item in place, by what its `type` says that it is.
 fn typed(
     alloc: Global,
     owner: NodeRef<'_, '_>,
@@ -42,6 +43,7 @@ fn typed(
     Ok(())
 }
 
+// Takes in the breaks of an item in place, whose `type` is this.
 fn item_type(
     alloc: Global,
     owner: NodeRef<'_, '_>,
@@ -59,6 +61,7 @@ fn item_type(
     typed(alloc, owner, fields, node, word.as_str(), first)
 }
 
+// Takes in the breaks of an item that is an object: a reference, or a set or modifier in place.
 fn item_members(
     alloc: Global,
     owner: NodeRef<'_, '_>,
@@ -78,6 +81,7 @@ fn item_members(
     item_type(alloc, owner, fields, node, first)
 }
 
+// Takes in the breaks of an item of the order.
 fn item(alloc: Global, node: NodeRef<'_, '_>, first: &mut Option<Break>) -> Result<(), NoMemory>
     ensures { OnOk result (first.new ≡ with_breaks first.old (item_form (ref_view node.entry))) }
 {
@@ -88,6 +92,7 @@ fn item(alloc: Global, node: NodeRef<'_, '_>, first: &mut Option<Break>) -> Resu
     item_members(alloc, node, &fields, first)
 }
 
+// Takes in the breaks of the list of items.
 fn items(alloc: Global, node: NodeRef<'_, '_>, first: &mut Option<Break>) -> Result<(), NoMemory>
     ensures { OnOk result
         (first.new ≡ with_breaks first.old (list_with item_form (ref_view node.entry))) }
@@ -102,6 +107,7 @@ fn items(alloc: Global, node: NodeRef<'_, '_>, first: &mut Option<Break>) -> Res
     Ok(())
 }
 
+// Takes in the breaks of `resolutionOrder`, which the document needs.
 fn order(
     alloc: Global,
     root: NodeRef<'_, '_>,
@@ -119,6 +125,7 @@ fn order(
     items(alloc, node, first)
 }
 
+// Takes in the breaks of each member of `sets`.
 fn each_set(alloc: Global, node: NodeRef<'_, '_>, first: &mut Option<Break>) -> Result<(), NoMemory>
     ensures { OnOk result
         (first.new ≡ with_breaks first.old (each_value set_form (ref_view node.entry))) }
@@ -135,6 +142,7 @@ fn each_set(alloc: Global, node: NodeRef<'_, '_>, first: &mut Option<Break>) -> 
     Ok(())
 }
 
+// Takes in the breaks of `sets`, where the document has it.
 fn sets(alloc: Global, fields: &Fields<'_, '_>, first: &mut Option<Break>) -> Result<(), NoMemory>
     ensures { OnOk result (first.new ≡ with_breaks first.old
         (optional_member (each_value set_form)
@@ -146,6 +154,7 @@ fn sets(alloc: Global, fields: &Fields<'_, '_>, first: &mut Option<Break>) -> Re
     each_set(alloc, node, first)
 }
 
+// Takes in the breaks of each member of `modifiers`.
 fn each_modifier(
     alloc: Global,
     node: NodeRef<'_, '_>,
@@ -166,6 +175,7 @@ fn each_modifier(
     Ok(())
 }
 
+// Takes in the breaks of `modifiers`, where the document has it.
 fn modifiers(
     alloc: Global,
     fields: &Fields<'_, '_>,
@@ -181,6 +191,7 @@ fn modifiers(
     each_modifier(alloc, node, first)
 }
 
+// Takes in the break of `version`, which the document needs.
 fn version(alloc: Global, root: NodeRef<'_, '_>, first: &mut Option<Break>) -> Result<(), NoMemory>
     ensures { OnOk result (first.new ≡ with_breaks first.old (version_form (ref_view root.entry))) }
 {
@@ -202,6 +213,7 @@ fn version(alloc: Global, root: NodeRef<'_, '_>, first: &mut Option<Break>) -> R
     Ok(())
 }
 
+// Takes in the breaks of all members of the document.
 fn members(
     alloc: Global,
     root: NodeRef<'_, '_>,

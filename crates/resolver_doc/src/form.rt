@@ -39,6 +39,7 @@ fn is_text(node: NodeRef<'_, '_>) -> bool
     }
 }
 
+// Takes in a break where the value is no text.
 fn text(node: NodeRef<'_, '_>, first: &mut Option<Break>)
     ensures { first.new ≡ with_breaks first.old (text_form (ref_view node.entry)) }
 {
@@ -47,6 +48,7 @@ fn text(node: NodeRef<'_, '_>, first: &mut Option<Break>)
     }
 }
 
+/// Takes in a break where there is a member of this name that is no text.
 pub(crate) fn optional_text(fields: &Fields<'_, '_>, name: &str, first: &mut Option<Break>)
     ensures { first.new ≡ with_breaks first.old
         (optional_member text_form (value_of_name name.now (fields_view fields.now))) }
@@ -56,6 +58,7 @@ pub(crate) fn optional_text(fields: &Fields<'_, '_>, name: &str, first: &mut Opt
     }
 }
 
+/// Takes in a break where there is no member of this name, or it is no text.
 pub(crate) fn needed_text(
     owner: NodeRef<'_, '_>,
     fields: &Fields<'_, '_>,
@@ -83,6 +86,7 @@ pub(crate) fn is_counted(alloc: Global, field: Field<'_, '_>) -> Result<bool, No
     })
 }
 
+// Takes in a break at the name of each member that stands beside `$ref`.
 fn neighbors(
     alloc: Global,
     fields: &Fields<'_, '_>,
@@ -99,12 +103,14 @@ fn neighbors(
     Ok(())
 }
 
+/// Whether an object is a reference: it has a member `$ref`.
 pub(crate) fn is_reference(fields: &Fields<'_, '_>) -> bool
     ensures { result ≡ has_ref (fields_view fields.now) }
 {
     fields.get("$ref").is_some()
 }
 
+/// Takes in the breaks of a reference: its text, and what stands beside it.
 pub(crate) fn reference(
     alloc: Global,
     fields: &Fields<'_, '_>,
@@ -118,6 +124,7 @@ pub(crate) fn reference(
     Ok(())
 }
 
+// Takes in the breaks of a source: an object, and where it is a reference those of that.
 fn source(alloc: Global, node: NodeRef<'_, '_>, first: &mut Option<Break>) -> Result<(), NoMemory>
     ensures { OnOk result (first.new ≡ with_breaks first.old (source_form (ref_view node.entry))) }
 {
@@ -131,6 +138,7 @@ fn source(alloc: Global, node: NodeRef<'_, '_>, first: &mut Option<Break>) -> Re
     Ok(())
 }
 
+// Takes in the breaks of a list of sources.
 fn sources(alloc: Global, node: NodeRef<'_, '_>, first: &mut Option<Break>) -> Result<(), NoMemory>
     ensures { OnOk result (first.new ≡ with_breaks first.old (sources_form (ref_view node.entry))) }
 {
@@ -144,6 +152,7 @@ fn sources(alloc: Global, node: NodeRef<'_, '_>, first: &mut Option<Break>) -> R
     Ok(())
 }
 
+/// Takes in the breaks of the members of a set.
 pub(crate) fn set_members(
     alloc: Global,
     owner: NodeRef<'_, '_>,
@@ -160,6 +169,7 @@ pub(crate) fn set_members(
     sources(alloc, node, first)
 }
 
+/// Takes in the breaks of a set.
 pub(crate) fn set(
     alloc: Global,
     node: NodeRef<'_, '_>,
@@ -187,6 +197,7 @@ fn has_context(alloc: Global, name: &str, fields: &Fields<'_, '_>) -> Result<boo
     Ok(false)
 }
 
+// Takes in the breaks of each context.
 fn each_context(
     alloc: Global,
     fields: &Fields<'_, '_>,
@@ -203,6 +214,7 @@ fn each_context(
     Ok(())
 }
 
+// Whether the object has a member whose name begins with no `$`.
 fn counts_some(alloc: Global, fields: &Fields<'_, '_>) -> Result<bool, NoMemory>
     ensures { IfOk result (λ some. some ≡ counts_some (fields_view fields.now)) }
 {
@@ -214,6 +226,7 @@ fn counts_some(alloc: Global, fields: &Fields<'_, '_>) -> Result<bool, NoMemory>
     Ok(false)
 }
 
+// Takes in the breaks of `contexts`: an object of lists of sources, of which there is one or more.
 fn contexts(alloc: Global, node: NodeRef<'_, '_>, first: &mut Option<Break>) -> Result<(), NoMemory>
     ensures { OnOk result
         (first.new ≡ with_breaks first.old (contexts_form (ref_view node.entry))) }
@@ -243,6 +256,7 @@ fn names_context(alloc: Global, name: &str, fields: &Fields<'_, '_>) -> Result<b
     has_context(alloc, name, &contexts)
 }
 
+// Takes in the breaks of a `default`: a text that names a context.
 fn default(
     alloc: Global,
     fields: &Fields<'_, '_>,
@@ -263,6 +277,7 @@ fn default(
     Ok(())
 }
 
+// Takes in the breaks of `contexts`, which a modifier needs.
 fn needed_contexts(
     alloc: Global,
     owner: NodeRef<'_, '_>,
@@ -279,6 +294,7 @@ fn needed_contexts(
     contexts(alloc, node, first)
 }
 
+// Takes in the breaks of `default`, where a modifier has it.
 fn optional_default(
     alloc: Global,
     fields: &Fields<'_, '_>,
@@ -294,6 +310,7 @@ fn optional_default(
     default(alloc, fields, node, first)
 }
 
+/// Takes in the breaks of the members of a modifier.
 pub(crate) fn modifier_members(
     alloc: Global,
     owner: NodeRef<'_, '_>,
@@ -307,6 +324,7 @@ pub(crate) fn modifier_members(
     optional_default(alloc, fields, first)
 }
 
+/// Takes in the breaks of a modifier.
 pub(crate) fn modifier(
     alloc: Global,
     node: NodeRef<'_, '_>,

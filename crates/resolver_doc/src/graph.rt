@@ -23,6 +23,7 @@ fn row(alloc: Global, sources: &[WrittenSource<'_, '_>]) -> Result<Vec<usize>, N
     Ok(row)
 }
 
+// The numbers below this one, in order.
 fn numbers_below(alloc: Global, n: usize) -> Result<Vec<usize>, NoMemory>
     ensures { IfOk result (λ row. row.items ≡ range_with_len 0 n) }
 {

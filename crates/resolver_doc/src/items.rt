@@ -225,6 +225,7 @@ fn named_item<'a, 's>(
     Ok(Item::Set(Written::new(alloc)))
 }
 
+// An item of the order: the set or modifier that it names, or that stands in place.
 fn item<'a, 's>(
     alloc: Global,
     known: &Known<'a, 's>,

@@ -61,6 +61,7 @@ pub(crate) fn members<'a, 's>(
     Ok(members)
 }
 
+// Notes the number of a member under the pointer that names it, unless an earlier member has that pointer.
 fn add_number(
     alloc: Global,
     name: &str,

@@ -34,6 +34,7 @@ struct Said<'a, 's> {
     first: Option<Break>,
 }
 
+// The refusal of a break that has no ring.
 fn broken<'s>(alloc: Global, found: Break) -> PlanFault<'s>
     ensures { result ≡ break_fault found [] }
 {

@@ -100,6 +100,7 @@ fn ring_string<'a, 's>(
     }
 }
 
+// The names of the sets of a ring of numbers.
 fn ring_names<'s>(
     alloc: Global,
     known: &Known<'_, 's>,

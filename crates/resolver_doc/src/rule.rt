@@ -54,6 +54,7 @@ impl PlanRule {
     }
 }
 
+// Whether a break is told before another one: it starts first, or it starts there too and its rule comes first.
 fn is_before(new: Break, old: Break) -> bool
     ensures { result ≡ is_before new old }
 {

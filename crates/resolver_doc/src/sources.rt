@@ -21,6 +21,7 @@ use json_span::NodeRef;
 use std::alloc::Global;
 use tk_io::{NoMemory, Text};
 
+// What stands behind a `./` at the beginning of a path.
 fn behind_dot(text: &str) -> Option<&str>
     ensures { MatchOption result
         ((rest : List ℕ) → text.now ≢ full_stop ∷ (solidus ∷ rest))
@@ -92,6 +93,7 @@ fn set_or_file<'a, 's>(
     }
 }
 
+// The source that a reference names: a set, or else a file.
 fn named<'a, 's>(
     alloc: Global,
     known: &Known<'a, 's>,

@@ -73,6 +73,7 @@ fn lay<'s>(
     }
 }
 
+// The group without members, over which the first source is laid.
 fn no_tree<'s>(alloc: Global) -> Group<'s>
     ensures { group_view result ≡ empty_group }
 {

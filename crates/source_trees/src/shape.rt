@@ -31,6 +31,7 @@ impl<'s> fmt::Debug for FileShape<'s> {
 /// The shapes of files by their paths.
 pub type Shapes<'s> = TextMap<FileShape<'s>>;
 
+// The shape of a file whose text breaks a rule at a span.
 fn broken<'s>(fault: SourceFault, file: &'s str, start: usize, end: usize) -> FileShape<'s>
     ensures { result ≡ FileShape.Breaks
         (record { fault = fault; file = file.entry; start = start; end = end }) }

@@ -1,4 +1,13 @@
 //! What the tokens of a flat tree come to: the first rule that one of them breaks, or four files that denote their values.
+//!
+//! A *cell* is what one token comes to: what it gives to each of the four platforms, or the first rule that it breaks. Cells
+//! are seen in contracts (`TokenCell`) and kept as two things: the *pages*, which are the four files that all tokens of the
+//! tree give, with the names of all tokens one behind another, and for each token a *row*, which says where its lines and
+//! names stand in the pages, or which rule it breaks. In a row, `Shown` is what a token shows on one platform: the place of
+//! its lines in the file and a *run* of names, from the first to behind the last. The *drafts* are the buffers in which a
+//! token's lines and names are made before they are added to the pages; one token after another uses them. A token is *lone*
+//! where it is known to refer to no other token, so that its cell can be taken from an earlier tree in which it stands the
+//! same.
 #![tactic(auto)]
 
 mod adding;

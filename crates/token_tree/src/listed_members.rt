@@ -65,6 +65,7 @@ impl<'d, 's> ListedMembers<'d, 's> {
         Ok(())
     }
 
+    // Notes the value of a member whose name is that of a property, unless an earlier member has the name.
     fn note_named(&mut self, name: &str, value: NodeRef<'d, 's>)
         ensures { IsNoted name.now (ref_view value.entry) self.old self.new }
     {

@@ -60,6 +60,7 @@ fn is_text(node: NodeRef<'_, '_>) -> bool
     }
 }
 
+// Whether a value is one that `$deprecated` can have: true, false or a text.
 fn is_mark(node: NodeRef<'_, '_>) -> bool
     ensures { result ≡ is_mark (json_view node.entry) }
 {
@@ -107,6 +108,7 @@ pub(crate) fn target_in<'s>(
     }
 }
 
+// Whether the value of a property has the form that a property of this name needs.
 fn has_form(alloc: Global, name: &str, node: NodeRef<'_, '_>) -> Result<bool, NoMemory>
     ensures { IfOk result (λ b. b ≡ has_form name.now (json_view node.entry)) }
 {

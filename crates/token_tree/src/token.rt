@@ -21,6 +21,7 @@ use std::alloc::Global;
 use std::rc::Rc;
 use tk_io::{NoMemory, Text};
 
+// Looks for the first break of a member of a token.
 fn check_member(alloc: Global, valued: bool, field: Field<'_, '_>) -> Result<(), ShapeFault>
     ensures ok { OnOk result (token_member_breaks valued (field_view field.entry) ≡ []) }
     ensures broken { IfErr result
@@ -37,6 +38,7 @@ fn check_member(alloc: Global, valued: bool, field: Field<'_, '_>) -> Result<(),
     Ok(())
 }
 
+// Looks for the first break of a token, whose members these are.
 fn check_token(alloc: Global, fields: &Fields<'_, '_>, valued: bool) -> Result<(), ShapeFault>
     requires { valued ≡ has (codes "$value") (fields_view fields.now) }
     ensures ok { OnOk result (token_breaks (fields_view fields.now) ≡ []) }

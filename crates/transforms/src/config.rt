@@ -157,6 +157,7 @@ fn base_in(value: &Value) -> Option<u8>
     }
 }
 
+// Whether a key is this word.
 fn is(key: &str, word: &str) -> bool
     ensures { result ≡ bytes_eq key.now word.now }
 {
@@ -182,6 +183,7 @@ fn is_setting(key: &str, value: &Value) -> bool
     false
 }
 
+// The first key, in byte order, that is not known or has a value that it can't have.
 fn first_refused(table: &Table) -> Option<&str>
     ensures is { option_map (λ key. key.now) result ≡ first_refused (table_view table.now) }
     ensures first { IfSome result (λ key. IsFirstRefused (table_view table.now) key.now) }
@@ -234,6 +236,7 @@ fn boolean_under(table: &Table, key: &str, default: bool) -> bool
     value.as_bool().unwrap_or(default)
 }
 
+// The settings of a table in which no key is refused.
 fn settings_in(alloc: Global, table: &Table) -> Result<Config, NoMemory>
     ensures { IfOk result (λ config. config ≡ settings_in (table_view table.now)) }
 {

@@ -44,6 +44,7 @@ fn append_characters(platform: Platform, name: &str, out: &mut Bytes) -> Result<
     Ok(())
 }
 
+// Whether the platform keeps each byte of a name, so that the name is its own spelling.
 fn is_kept_whole(platform: Platform, name: &[u8]) -> bool
     ensures { result ≡ list_all (is_kept platform) name.now }
 {
@@ -62,6 +63,7 @@ fn append_name(platform: Platform, name: &str, out: &mut Bytes) -> Result<(), No
     Ok(())
 }
 
+// Appends each name with what joins names on the platform before it.
 fn append_behind_joints(
     platform: Platform,
     names: &[Text<'_>],

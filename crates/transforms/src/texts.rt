@@ -40,6 +40,7 @@ fn end_behind(start: usize, len: usize) -> Option<u32>
     Some(end as u32)
 }
 
+// Where the i-th text starts: where the one before it ends.
 fn start_of(ends: &[u32], i: usize) -> usize
     ensures { result ≡ start_from 0 ends.now i }
 {
@@ -52,6 +53,7 @@ fn start_of(ends: &[u32], i: usize) -> usize
     }
 }
 
+// The bytes from one place to another.
 fn between(bytes: &[u8], start: usize, end: usize) -> &[u8]
     requires order { start ≤ end }
     requires fits { end ≤ length bytes.now }

@@ -53,6 +53,7 @@ fn components_under<'s>(
     under(alloc, "components", components_of(alloc, space, plain))
 }
 
+// An alpha: a number from 0 to 1.
 fn alpha_of<'s>(alloc: Global, plain: &Plain<'s>) -> Result<Dec, ValueFault<'s>>
     ensures ok { IfOk result (λ x. alpha_in (plain_view plain.now) ≡ Ok x) }
     ensures broken { IfErr result (IsBreak (alpha_in (plain_view plain.now))) }
@@ -104,6 +105,7 @@ fn hex_digits(text: &str) -> Option<[u8; 6]>
     Some(in_lower_case(digits))
 }
 
+// The digits of a `hex`, in lower case.
 fn hex_of<'s>(alloc: Global, plain: &Plain<'s>) -> Result<Option<[u8; 6]>, ValueFault<'s>>
     ensures ok { IfOk result (λ x. hex_in (plain_view plain.now) ≡ Ok x) }
     ensures broken { IfErr result (IsBreak (hex_in (plain_view plain.now))) }

@@ -26,6 +26,7 @@ pub(crate) struct Components {
     pub third: Option<Dec>,
 }
 
+// A component that is a text: `none` alone is one.
 fn component_of_word<'s>(alloc: Global, word: &str) -> Result<Option<Dec>, ValueFault<'s>>
     ensures ok { IfOk result (λ x. component_of_word word.now ≡ Ok x) }
     ensures broken { IfErr result (IsBreak (component_of_word word.now)) }
@@ -36,6 +37,7 @@ fn component_of_word<'s>(alloc: Global, word: &str) -> Result<Option<Dec>, Value
     Err(broken(alloc, ValueRule::ValueShape))
 }
 
+// A component that is no text: a number.
 fn component_of_number<'s>(alloc: Global, plain: &Plain<'s>) -> Result<Option<Dec>, ValueFault<'s>>
     ensures ok { IfOk result (λ x. component_of_number (plain_view plain.now) ≡ Ok x) }
     ensures broken { IfErr result (IsBreak (component_of_number (plain_view plain.now))) }
@@ -65,6 +67,7 @@ impl<'s> Part<'s> for Component {
     }
 }
 
+// The three components of a list, each a number or `none`.
 fn three_components<'s>(alloc: Global, plain: &Plain<'s>) -> Result<Components, ValueFault<'s>>
     ensures ok { IfOk result (λ x. three_components (plain_view plain.now) ≡ Ok x) }
     ensures broken { IfErr result (IsBreak (three_components (plain_view plain.now))) }
@@ -98,6 +101,7 @@ fn ranged_component<'s>(
     }
 }
 
+// The i-th component, where it lies in its range; a break is told with the index as its first step.
 fn ranged_at<'s>(
     alloc: Global,
     i: usize,

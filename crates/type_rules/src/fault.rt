@@ -138,6 +138,7 @@ fn before<'s>(alloc: Global, step: Text<'s>, steps: &Trail<'s>) -> Result<Trail<
     Ok(trail)
 }
 
+// A fault of a part as its owner tells it: with one more step before the place.
 fn outside<'s>(alloc: Global, step: Text<'s>, fault: ValueFault<'s>) -> ValueFault<'s>
     ensures { IsOutside step.entry fault.entry result }
 {
@@ -158,6 +159,7 @@ fn index_text<'s>(alloc: Global, i: usize) -> Result<Text<'s>, NoMemory>
     Text::owned(alloc, buffer.format(i))
 }
 
+// The same of a part that is the i-th item of a list.
 fn outside_item<'s>(alloc: Global, i: usize, fault: ValueFault<'s>) -> ValueFault<'s>
     ensures { IsOutside (decimal i) fault.entry result }
 {

@@ -13,6 +13,7 @@ use dec_fix::Dec;
 use json_span::Plain;
 use std::alloc::Global;
 
+// A number and its unit, of an object with `value` and `unit`.
 fn measure_of_object<'s, U: Copy>(
     alloc: Global,
     rule: ValueRule,

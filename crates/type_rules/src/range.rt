@@ -31,6 +31,7 @@ impl Range {
     /// An angle in degrees.
     pub const HUE: Range = Range::Within(0, 360);
 
+    // Whether the number lies in the range, its ends included.
     fn holds(self, number: &Dec) -> bool
         ensures { result ≡ holds self number.now }
     {

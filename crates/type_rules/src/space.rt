@@ -102,6 +102,7 @@ impl Space {
 }
 
 impl Ranges {
+    // The ranges of three components.
     fn of(first: Range, second: Range, third: Range) -> Ranges
         ensures { result ≡ record { first = first; second = second; third = third } }
     {
