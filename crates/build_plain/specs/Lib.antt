@@ -13,7 +13,24 @@
 -- kept of a build: the trees of the files in use, what each permutation's sources come to, and its
 -- cells; `assemble` makes the outputs of these alone.
 --
--- The promises, with the calls and clauses that carry them, stand in docs/PROOFS.md.
+-- What is promised, with the calls and clauses that carry it:
+-- * the outputs of files are a function of the files alone: the one refusal of a configuration or a
+--   plan that breaks a rule, or for each permutation of the plan its four files or the refusal of
+--   the first of its breaks in the order of the rules (`build`: `ok`; `one_build`)
+-- * each file in use is one step of `parses`, whatever names it, each merged tree one of `merges`,
+--   each token of a flat tree one of `evals`; no more are counted where memory runs out (`build`:
+--   `work`, `at_most`)
+-- * the parts of files (their trees, what each permutation's sources come to, its cells) are made
+--   with the same counted work; put together they give the outputs that `build` gives, without a
+--   step (`parts_of`: `ok`, `work`, `at_most`; `assemble`)
+-- * files have outputs, and one alone: any map of files whose texts are texts of a program (UTF-8,
+--   of at most 2^64 bytes) has outputs, and any files have an amount of work (`each_build`:
+--   `outputs`, `work`; `one_build`)
+-- * the outputs denote what tokens mean: of the outputs that a build gives, each permutation of the
+--   plan has either four files under its name, which denote the values of the tokens of its flat
+--   tree, each by the reading of its language, name for name and no other, or the one file that
+--   tells the first of its breaks, and never both; at every path of the outputs stands such a file
+--   (`outputs_denote`: `each`, `either`, `no_other`)
 
 pub mod Breaks
 pub mod Out

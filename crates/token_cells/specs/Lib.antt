@@ -7,7 +7,26 @@
 -- part of its kind (composite_rules), no two tokens share a name (transforms), paths and
 -- definitions are sound (source_trees).
 --
--- The promises, with the calls and clauses that carry them, stand in docs/PROOFS.md.
+-- What is promised, with the calls and clauses that carry it:
+-- * a token comes to its four fragments or to its first break, as the flat tree, the path and the
+--   configuration decide; cells hold places and no offsets; each is one step, also where it is
+--   taken from an earlier tree (`cell`: `cell`, `step`; `cells_of`; `one_cells`)
+-- * a token from which no walk of references leads to a change comes in a new tree to what it came
+--   to in the old one, wherever its file stands (`unchanged_cells`)
+-- * each token of a flat tree that texts define comes to something under settings that a
+--   configuration can have, and to one thing (`each_cell`: `one`, `all`; `one_cells`)
+-- * the text of the first break of a flat tree's tokens, and none exactly where there is none; a
+--   sheet is the fragments of its tokens in their format's frame (`verdict_text`, `sheet_of`)
+-- * sheets denote what tokens mean: where cells have no break, the bytes of the style sheet are
+--   read as one sheet that declares exactly the names of the tokens, each with the value that the
+--   token's whole value means, read under its kind, after 256 rounds of `var()`; each name that
+--   stands for a part is that of a token with that part as its value; and the files for Android,
+--   Swift and programs have exactly the names and values that their platforms are to have
+--   (`sheets_denote`, `other_sheets_denote`)
+-- * what is told of a token's break holds: a cycle is real, a wrong spelling and a lost target
+--   stand where they are told, and a rule of values is broken there by what the token means; a
+--   clash that is told is one, and none is told exactly where no token has a name of an earlier one
+--   (`breaks_are_real`, `clashes_are_real`)
 
 pub mod TokenCell
 pub mod Cell
