@@ -66,7 +66,7 @@ class Measures(Room):
         lines = self.table(self.program("small", SMALL), "--runs", "1", "chains of 61")
         self.assertEqual(lines[0], ["script", "word", "MB", "seconds", "MB/s", "peak, MB"])
         self.assertEqual([line[:3] for line in lines[2:]], [["250 chains of 61 groups", word, "0.10"] for word in ("build", "replay")])
-        self.assertEqual(len(self.table(self.program("small", SMALL), "--runs", "1", "--word", "build", "of all types")), 2 + 4)
+        self.assertEqual(len(self.table(self.program("small", SMALL), "--runs", "1", "--word", "build", "of all types")), 2 + 5)
 
     def test_words_and_script(self):
         program = self.program("keeps", f'#!/bin/sh\nexec >>"{self.at("words")}"\necho "$@"\nhead -c 20\necho\n')
