@@ -48,6 +48,7 @@ CASES = {
         ('{"a": ||#fff}', "take the comment away: JSON has none; a token may have a `$description`"),
         ('{"a": ||red}', "write a value here: an object, a list, a text in quotation marks, or a number"),
         ("{}||{}", "write one object in a file, and nothing behind it"),
+        ("{}||}", "take `}` away: each bracket before it is closed"),
         ('{\n||<<<<<<< HEAD\n"a": {}', "settle the merge, and take its marks away"),
         ("||name;value;unit\nsmall;4;px\n", "write JSON: this looks like a table (CSV)"),
         ("n||ame,value\nsmall,4px\n", "write JSON: this looks like a table (CSV)"),
@@ -73,7 +74,9 @@ CASES = {
     "shape-property": [
         ('{"$type":|"spacing"|}', "write `dimension`, which takes such values"),
         ('{"$type":|"Color"|}', "write `color`, which takes such values"),
-        ('{"$type":|"asset"|}', "write one of the types `color`, `dimension`, `fontFamily`, `fontWeight`, `duration`, `cubicBezier`, `number`, `strokeStyle`, `border`, `transition`, `shadow`, `gradient` or `typography`"),
+        ('{"$type":|"zebra"|}', "write one of the types `color`, `dimension`, `fontFamily`, `fontWeight`, `duration`, `cubicBezier`, `number`, `strokeStyle`, `border`, `transition`, `shadow`, `gradient` or `typography`"),
+        ('{"$type":|"boolean"|}', "leave the token out, or put its value under `$extensions`: there is no such type"),
+        ('{"a":{},"b":{"$extends":|"a"|}}', "write `{a}`"),
         ('{"$description":|1|}', "write a text in quotation marks"),
         ('{"$extensions":|1|}', "write an object"),
         ('{"$deprecated":|1|}', "write `true`, `false` or a text"),
@@ -103,6 +106,7 @@ CASES = {
         ('{"space":{"small":{"$value":1}},"a":{"$value":|"{space.smal}"|}}', "write `{space.small}`, or add what is named"),
         ('{"core":{"ink":{"$value":1}},"a":{"$value":|"{ink}"|}}', "write `{core.ink}`, or add what is named"),
         ('{"b":{"$value":1},"a":{"$value":|"{b.value}"|}}', "write `{b}`, without `.value`"),
+        ('{"b":{"$value":1},"a":{"$value":|"{ b }"|}}', "write `{b}`, without blanks"),
         ('{"b":{"c":{"$value":1}},"a":{"$value":|"{b}"|}}', "name a token: {b} is a group, with {b.c} in it"),
         ('{"b":{"c":{"$value":1}},"a":{"$value":|"{b/c}"|}}', "write `{b.c}`, or add what is named"),
         ('{"b":{"$value":1},"a":{"$value":|"{b * 2}"|}}', "write the value that this comes to: tokc does no arithmetic"),
@@ -137,6 +141,13 @@ CASES = {
         ('{"a":{"$type":"dimension","$value":|"1px {b}"|}}', "write a value without a reference in a text: a reference stands alone, as `{a.b}`"),
         ('{"a":{"$type":"dimension","$value":|{"value":4}|}}', "add `unit`"),
         ('{"a":{"$type":"shadow","$value":|{"color":"{c}","offsetX":1}|}}', "add `offsetY` and `blur` and `spread`"),
+        ('{"a":{"$type":"shadow","$value":|{"color":"{c}","x":1,"y":2,"blur":3}|}}', "write `offsetX` and `offsetY` in place of `x` and `y`"),
+        ('{"s":{"$value":2},"a":{"$type":"number","$value":|"s"|}}', "write `{s}`"),
+        ('{"s":{"$value":2},"a":{"$type":"number","$value":|"#/s"|}}', "write `{s}`"),
+        ('{"a":{"$type":"number","$value":|"50%"|}}', "write `0.5` for 50%"),
+        ('{"a":{"$type":"cubicBezier","$value":|"ease-out"|}}', "write `[0, 0, 0.58, 1]`"),
+        ('{"a":{"$type":"cubicBezier","$value":|"cubic-bezier(.2, 0, 0, 1)"|}}', "write `[0.2, 0, 0, 1]`"),
+        ('{"a":{"$type":"cubicBezier","$value":|"spring"|}}', "write a curve as a list of four numbers, as `[0.2, 0, 0, 1]`"),
         ('{"a":{"$type":"gradient","$value":|{}|}}', "write a gradient as a list of stops with `color` and `position`"),
         ('{"a":{"$value":|true|}}', "write the form that the manual has for its type under 'Types'"),
     ],
@@ -318,6 +329,20 @@ class Advice(unittest.TestCase):
         for component, wanted in (('"50%"', "write `50`"), ("true", 'write a number, or `"none"`')):
             text = f'{{"c":{{"$type":"color","$value":{{"colorSpace":"hsl","components":[0,|{component}|,0]}}}}}}'
             self.assertEqual(told("value-shape", "tokens.json", text, (), [("place", '"#/c/$value/components/1"')]), wanted)
+
+    def test_components(self):
+        text = '{"c":{"$type":"color","$value":{"colorSpace":"srgb","components":|[0,0]|}}}'
+        wanted = 'write three components, each a number or `"none"`; an alpha stands by itself, as `"alpha": 1`'
+        self.assertEqual(told("value-shape", "tokens.json", text, (), [("place", '"#/c/$value/components"')]), wanted)
+
+    def test_a_token_of_another_type(self):
+        text = '{"s":{"$type":"number","$value":2},"b":{"$type":"border","$value":{"color":|"{s}"|}}}'
+        self.assertEqual(told("value-shape", "tokens.json", text, (), [("place", '"#/b/$value/color"')]), "name a token of type `color`: {s} leads to one of type `number`")
+
+    def test_a_group_that_extends_itself(self):
+        text, one, two = '{"a":{"$extends":|"{a}"|}}', ("ring", '"#/a"'), ("ring", '"#/b"')
+        self.assertEqual(told("extends-cycle", "tokens.json", text, (), [one]), "name another group: this one extends itself")
+        self.assertEqual(told("extends-cycle", "tokens.json", text, (), [one, two]), "put what both share into a third group that both extend")
 
     def test_a_token_that_names_itself(self):
         text = '{"a":{"$value":|"{a}"|}}'

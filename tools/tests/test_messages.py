@@ -168,7 +168,7 @@ tokens/dark.json:1:3: json-syntax: no JSON text goes on like this
   1 | {}}
     |   ^
 note: in theme=dark
-help: write one object in a file, and nothing behind it
+help: take `}` away: each bracket before it is closed
 tokens/core.json:1:6: shape-member: a member of a group is an object: a token or a group
   1 | {"a":1}
     |      ^

@@ -29,6 +29,14 @@ OTHER_KINDS = {
     "fontFamilies": "fontFamily", "font": "fontFamily", "fontWeights": "fontWeight", "colour": "color", "colors": "color", "time": "duration",
     "easing": "cubicBezier", "stroke": "strokeStyle",
 }
+# Types of other tools that no kind stands for.
+NO_KINDS = {"asset", "boolean", "composition", "content", "link", "other", "string", "text"}
+# Members that other tools name otherwise.
+OTHER_PARTS = {"offsetX": "x", "offsetY": "y", "timingFunction": "easing", "blur": "radius", "colorSpace": "space", "dashArray": "dashes"}
+# Curves that style sheets have as words (CSS Easing Functions).
+CURVES = {
+    "linear": "0, 0, 1, 1", "ease": "0.25, 0.1, 0.25, 1", "ease-in": "0.42, 0, 1, 1", "ease-out": "0, 0, 0.58, 1", "ease-in-out": "0.42, 0, 0.58, 1",
+}
 OTHER_SPACES = {"rgb": "srgb", "rgba": "srgb", "p3": "display-p3", "hsla": "hsl", "hsv": "hsl` or `hwb", "hsb": "hsl` or `hwb", "xyz": "xyz-d65"}
 
 # The members that a value of a kind needs.
@@ -72,7 +80,6 @@ ALWAYS = {
     "plan-permutations": "join modifiers whose contexts do not go with all others",
     "plan-sources": "name a set once",
     "shape-root-token": "give it a `$value`, or another name",
-    "extends-cycle": "put what both share into a third group that both extend",
     "extends-count": "extend the few groups that share something, and not groups that hold groups that extend again",
     "extends-height": "extend at a higher level, or with less depth",
     "alias-depth": "refer to the token at the end of the chain",
@@ -226,6 +233,8 @@ def between(text, before, rest, wants, opened):
         return "write a colon between the name and its value"
     if wants in (places.NAME, places.FIRST_NAME):
         return 'write each name in double quotation marks, as `"size": {}`'
+    if wants == places.END and rest[0] in "}]":
+        return f"take `{rest[0]}` away: each bracket before it is closed"
     if wants == places.END:
         return "write one object in a file, and nothing behind it"
     return "write a value here: an object, a list, a text in quotation marks, or a number"
@@ -342,6 +351,8 @@ def shape_property(place):
     name, text = place.name(), place.node().text()
     if name == "$type" and text is not None:
         return kind_of(text)
+    if name == "$extends" and text is not None and tuple(text.split(".")) in place.tokens.groups():
+        return f"write `{{{text}}}`"
     what = {
         "$type": f"write one of the types {ticked(KINDS)}", "$description": "write a text in quotation marks", "$extensions": "write an object",
         "$deprecated": "write `true`, `false` or a text", "$extends": "write a text, as `{a.b}` for a group",
@@ -352,6 +363,8 @@ def shape_property(place):
 
 def kind_of(text):
     """What to do about a type that is none."""
+    if text in NO_KINDS:
+        return "leave the token out, or put its value under `$extensions`: there is no such type"
     near = OTHER_KINDS.get(text) or closest(text, KINDS)
     return f"write `{near}`, which takes such values" if near else f"write one of the types {ticked(KINDS)}"
 
@@ -370,6 +383,15 @@ def extends_target(place):
         return f"name a group: {spelled(path)} is a token"
     near = nearest(path, place.tokens.groups())
     return f"write `{spelled(near)}`, which is a group" if near else "name a group that a token file writes, as `{a.b}`"
+
+
+def extends_cycle(place):
+    return "name another group: this one extends itself" if is_own_ring(place) else "put what both share into a third group that both extend"
+
+
+def is_own_ring(place):
+    """Whether a cycle leads from one place or group to itself."""
+    return len([word for word, _ in place.refusal.further if word == "ring"]) == 1
 
 
 def nearest(path, paths):
@@ -409,7 +431,9 @@ def alias_target(place):
     if found is None:
         return "name a token that a token file writes, as `{a.b}`"
     path, steps = found
-    tokens = place.tokens
+    tokens, bare = place.tokens, tuple(it.strip() for it in path)
+    if bare != path and bare in tokens.paths():
+        return f"write `{spelled(bare)}`, without blanks"
     if path in tokens.paths() and steps:
         return f"name a part that the value of {spelled(path)} has"
     if ARITHMETIC.search(".".join(path)):
@@ -425,8 +449,7 @@ def alias_target(place):
 
 
 def alias_cycle(place):
-    rings = [it for it, _ in place.refusal.further if it == "ring"]
-    return "name another token, or write a value: this one names itself" if len(rings) == 1 else "give one of them a value of its own"
+    return "name another token, or write a value: this one names itself" if is_own_ring(place) else "give one of them a value of its own"
 
 
 def named_here(place):
@@ -443,6 +466,7 @@ def named_here(place):
 # Values.
 
 LENGTH, TIME, NUMBER = re.compile(r"(-?\d*\.?\d+)\s*(px|rem)"), re.compile(r"(-?\d*\.?\d+)\s*(ms|s)"), re.compile(r"-?\d+(\.\d+)?")
+SHARE = re.compile(r"(-?\d+(?:\.\d+)?)\s*%")
 HEX = re.compile(r"#([0-9a-fA-F]{3,4}|[0-9a-fA-F]{6}|[0-9a-fA-F]{8})")
 
 
@@ -493,13 +517,18 @@ def value_shape(place):
     node, kind = place.node(), place.kind()
     if place.name() == "lineHeight":
         return "write a number: the height over the font's size, as `1.5`"
+    if place.names()[-1:] == ["components"]:
+        return 'write three components, each a number or `"none"`; an alpha stands by itself, as `"alpha": 1`'
     if place.names()[-2:-1] == ["components"]:
-        share_of = re.fullmatch(r"(-?\d+(?:\.\d+)?)%", node.text() or "")
+        share_of = SHARE.fullmatch(node.text() or "")
         return f"write `{share_of[1]}`" if share_of else 'write a number, or `"none"`'
     if node.text() is not None:
         return text_value(place, node.text(), kind)
     if isinstance(node.value, places.Members):
         lacking = [it for it in NEEDED.get(kind, []) if node.get(it) is None]
+        others = [it for it in lacking if node.get(OTHER_PARTS.get(it, "")) is not None]
+        if others:
+            return f"write {' and '.join(f'`{it}`' for it in others)} in place of {' and '.join(f'`{OTHER_PARTS[it]}`' for it in others)}"
         if 0 < len(lacking) < len(NEEDED[kind]):
             return f"add {' and '.join(f'`{it}`' for it in lacking)}"
     if isinstance(node.value, (int, float)) and kind in ("dimension", "duration"):
@@ -553,8 +582,27 @@ def text_value(place, text, kind):
     return remedy_of_text(place, text, kind) + (OR_LEGACY if is_legacy(place, text) else "")
 
 
+def reference_of(place, text):
+    """A token that a text names without braces, as a reference, or None."""
+    pointed = pointed_at(text)
+    path = pointed[0] if pointed and not pointed[1] else tuple(text.lstrip("$").split("."))
+    return spelled(path) if path in place.tokens.paths() else None
+
+
+def curve_of(text):
+    """A curve that style sheets spell so, as a list, or None."""
+    call = re.fullmatch(r"cubic-bezier\(\s*([^()]*?)\s*\)", text)
+    numbers = [number(it) for it in re.split(r"\s*,\s*", call[1])] if call else []
+    return CURVES.get(text) or (", ".join(numbers) if len(numbers) == 4 and all(map(NUMBER.fullmatch, numbers)) else None)
+
+
 def remedy_of_text(place, text, kind):
     """What to do about a text in the place of another value."""
+    reference, curve = reference_of(place, text), curve_of(text) if kind == "cubicBezier" else None
+    if reference or curve:
+        return f"write `{reference}`" if reference else f"write `[{curve}]`"
+    if kind == "number" and SHARE.fullmatch(text):
+        return f"write `{float(SHARE.fullmatch(text)[1]) / 100:g}` for {text}"
     if re.fullmatch(r"\{[^{}]*|[^{}]*\}", text):
         return f"write the reference with both braces: `{{{text.strip('{}')}}}`"
     if ARITHMETIC.search(text) and "{" in text:
@@ -642,7 +690,7 @@ def one_of(words):
 REMEDIES = {
     "config-toml": config_toml, "config-key": config_key, "json-syntax": json_syntax, "plan-shape": plan_shape,
     "plan-default": plan_default, "plan-reference": plan_reference, "file-missing": file_missing, "shape-root": shape_root, "shape-name": shape_name,
-    "shape-member": shape_member, "shape-property": shape_property, "shape-token-child": shape_token_child, "extends-target": extends_target,
+    "shape-member": shape_member, "shape-property": shape_property, "shape-token-child": shape_token_child, "extends-target": extends_target, "extends-cycle": extends_cycle,
     "alias-syntax": alias_syntax, "alias-target": alias_target, "alias-cycle": alias_cycle, "type-missing": type_missing, "value-shape": value_shape, "dimension-unit": dimension_unit,
     "color-range": color_range, "color-alpha": color_alpha, "color-hex": color_hex, "color-space": color_space,
     "weight-word": weight_word, "legacy-text": legacy_text, "stroke-word": one_of(STROKES), "stroke-cap": one_of(CAPS),
@@ -674,9 +722,21 @@ def behind(place):
     return Place(place.refusal._replace(file=found.file), place.tokens, node.start, node.end, place.kind())
 
 
+def other_kind(place, led):
+    """What to do where a reference leads to the whole value of a token that says another type, or None."""
+    steps = [it.get("$type") for _, it in led.steps]
+    said = next((it.text() for it in reversed(steps) if it is not None), None)
+    if led is place or place.kind() is None or said not in KINDS or said == place.kind():
+        return None
+    return f"name a token of type `{place.kind()}`: {spelled(named_by(place.node())[0])} leads to one of type `{said}`"
+
+
 def advice(place):
     """What to do about a refusal, or None for a rule that isn't known."""
     rule = place.refusal.rule
     if rule in OF_VALUES and place.steps:
-        place = behind(place)
+        place, told_at = behind(place), place
+        said = other_kind(told_at, place)
+        if said:
+            return said
     return REMEDIES[rule](place) if rule in REMEDIES else ALWAYS.get(rule)
