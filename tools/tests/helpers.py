@@ -13,10 +13,25 @@ TOKC = os.path.join(TOP, "tokc")
 TOKC_DIR = os.path.join(TOP, "tools", "tokc-dir")
 SECONDS = 60
 
+# The program that is proved, and the one that is compiled without a check of its proof.
+PROGRAMS = [os.path.join(TOP, "crates", "tokc", "out", *parts) for parts in (("tokc",), ("unproved", "tokc"))]
+FIRST = os.path.join(TOP, "examples", "first.script")
+
 # Keeps the script that it is given, and answers with what stands in the folder to which `now` leads when it starts.
 STAND_IN = """#!/bin/sh
 cd "${0%/*}" && cd now && cat >../script && cat stream && cat said >&2 && exit "$(cat status)"
 """
+
+
+def make_program():
+    """Compiles the program, which takes minutes, where no `rt ci` went before."""
+    with open(FIRST, "rb") as first:
+        subprocess.run([TOKC, "build"], stdin=first, stdout=subprocess.DEVNULL, check=True)
+
+
+def program():
+    """The program that was made last."""
+    return max(filter(os.path.exists, PROGRAMS), key=os.path.getmtime)
 
 
 def load_tool(name):
@@ -35,13 +50,13 @@ class Ran(NamedTuple):
     err: str
 
 
-def run(words, given=b"", tokc=None, at=TOP):
+def run(words, given=b"", tokc=None, at=TOP, seconds=SECONDS):
     """Runs a command in a folder, with another program for tokc where one is given."""
     env = dict(os.environ, PYTHONDONTWRITEBYTECODE="1")
     env.pop("TOKC", None)
     if tokc:
         env["TOKC"] = tokc
-    ran = subprocess.run(words, input=given, capture_output=True, cwd=at, env=env, timeout=SECONDS, check=False)
+    ran = subprocess.run(words, input=given, capture_output=True, cwd=at, env=env, timeout=seconds, check=False)
     return Ran(ran.returncode, ran.stdout.decode(), ran.stderr.decode())
 
 

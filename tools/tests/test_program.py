@@ -7,22 +7,9 @@ import subprocess
 import time
 import unittest
 
-from helpers import TOKC, TOP, Room, read, run, tree, write
+from helpers import FIRST, TOKC, TOP, Room, make_program, program, read, run, tree, write
 
-# The program that is proved, and the one that is compiled without a check of its proof.
-PROGRAMS = [os.path.join(TOP, "crates", "tokc", "out", *parts) for parts in (("tokc",), ("unproved", "tokc"))]
-FIRST = os.path.join(TOP, "examples", "first.script")
-
-
-def setUpModule():
-    """Compiles the program, which takes minutes, where no `rt ci` went before."""
-    with open(FIRST, "rb") as first:
-        subprocess.run([TOKC, "build"], stdin=first, stdout=subprocess.DEVNULL, check=True)
-
-
-def program():
-    """The program that was made last."""
-    return max(filter(os.path.exists, PROGRAMS), key=os.path.getmtime)
+setUpModule = make_program
 
 
 class Words(Room):
