@@ -1,4 +1,4 @@
-"""The table of crates/whole_scripts has what it is to have, and `make-scripts` makes it over a program that stands in for another compiler."""
+"""The table of crates/stored_scripts has what it is to have, and `make-scripts` makes it over a program that stands in for another compiler."""
 import os
 import re
 import subprocess
@@ -12,15 +12,14 @@ sys.path.insert(0, os.path.join(TOP, "tools"))
 from tokcdir import refusal
 
 TOOL = os.path.join(TOP, "tools", "make-scripts")
-TABLE = os.path.join(TOP, "crates", "whole_scripts", "stdin")
-HEAD = re.compile(rb"(build|replay) ([0-9]+) ([0-9]+) ([01])\n")
-
 
 MAKE = load_tool("make-scripts")
+LARGE = MAKE.large_cases.rows()
 RULES = set(refusal.SENTENCES)
 
 
 class Row(NamedTuple):
+    name: str
     word: str
     script: bytes
     stream: bytes
@@ -28,17 +27,11 @@ class Row(NamedTuple):
 
 
 def rows_of(data):
-    """The rows of a table. Fails where it is none."""
-    found, at = [], 0
-    while at < len(data):
-        head = HEAD.match(data, at)
-        middle = head.end() + int(head[2])
-        end = middle + int(head[3])
-        if data[end:end + 1] != b"\n":
-            raise ValueError(f"no end of a row at {end}")
-        found.append(Row(head[1].decode(), data[head.end():middle], data[middle:end], int(head[4])))
-        at = end + 1
-    return found
+    """The rows of a table, and of them those of the scripts that are no large ones, as they are. Fails where it is none."""
+    found = MAKE.script_table.rows_of(data)
+    plain = MAKE.script_table.plain
+    count = len(found) - len(LARGE)
+    return found, [Row(it.name, it.words, plain(it.script), plain(it.stream), it.status) for it in found[:count]]
 
 
 class Table(unittest.TestCase):
@@ -46,16 +39,20 @@ class Table(unittest.TestCase):
 
     @classmethod
     def setUpClass(cls):
-        cls.rows = rows_of(read(TABLE))
+        cls.all, cls.rows = rows_of(read(MAKE.TABLE))
 
     def test_the_scripts_are_those_that_are_made(self):
         made = MAKE.rows()
-        self.assertEqual(len(self.rows), len(made))
+        self.assertEqual([it.name for it in self.rows], [it.name for it in made])
         by_hand = len(MAKE.CASES)
         self.assertEqual([(it.word, it.script) for it in self.rows[:by_hand]], [(it.word, it.script) for it in made[:by_hand]])
 
+    def test_the_large_scripts_and_streams_are_those_that_are_made(self):
+        self.assertEqual(self.all[len(self.rows):], LARGE)
+
     def test_the_crate_counts_as_many(self):
-        self.assertEqual(read(os.path.join(os.path.dirname(TABLE), "stdout")).decode(), f"{len(self.rows)} rows\n")
+        told = read(os.path.join(os.path.dirname(MAKE.TABLE), "stdout")).decode()
+        self.assertEqual(told.splitlines()[0], f"{len(self.all)} scripts answered")
 
     def test_each_rule_stands_in_a_stream(self):
         told = {rule.decode() for row in self.rows for rule in MAKE.RULE.findall(row.stream)}
@@ -75,7 +72,7 @@ class Table(unittest.TestCase):
         self.assertTrue(any(b"commit 4\n" in row.stream for row in self.rows))
 
     def test_the_size(self):
-        self.assertLess(len(read(TABLE)), 3_000_000)
+        self.assertLess(len(read(MAKE.TABLE)), 3_000_000)
         self.assertLess(max(len(row.stream) for row in self.rows), 100_000)
 
     def test_streams_and_statuses_agree(self):
@@ -101,12 +98,16 @@ class Makes(Room):
     def test_the_table(self):
         stream = "".join(f"rule {rule}\n" for rule in sorted(RULES))
         status, out, err = self.make(self.program(stream, "exit 1"))
-        found = rows_of(out)
+        table, found = rows_of(out)
         self.assertEqual(status, 0)
         self.assertEqual([(it.word, it.script) for it in found], [(it.word, it.script) for it in MAKE.rows()])
         self.assertEqual({(it.stream, it.status) for it in found}, {(stream.encode(), 1)})
+        self.assertEqual(table[len(found):], LARGE)
         self.assertEqual(err[:-1], [f"{len(found):5} {rule}" for rule in sorted(RULES)])
-        self.assertEqual(err[-1], f"{len(found)} scripts, {len(found)} of them refused at the end; {len(RULES)} rules; {len(out)} bytes")
+        self.assertEqual(err[-1], f"{len(found)} scripts, {len(found)} of them refused at the end; {len(RULES)} rules; {len(out) - sum(len(it.line()) for it in LARGE)} bytes")
+
+    def test_the_large_scripts_alone(self):
+        self.assertEqual(self.make("--large"), (0, read(MAKE.TABLE), []))
 
     def test_answers_that_can_not_stand_there(self):
         cases = [("", "exit 3", "status 3: "), ("", "echo odd >&2", "status 0: odd"), ("rule json-depth\n", "exit 1", "no refusal tells its rule")]
@@ -130,7 +131,8 @@ class RandomScripts(unittest.TestCase):
         self.assertEqual(len({MAKE.script_of(commits(seed)) for seed in range(20)}), 20)
 
     def test_names_are_as_they_are_told(self):
-        self.assertEqual(len({it.name for it in MAKE.cases()}), len(MAKE.cases()))
+        names = [it.name for it in [*MAKE.cases(), *LARGE]]
+        self.assertEqual(len(set(names)), len(names))
 
 
 if __name__ == "__main__":

@@ -1,4 +1,4 @@
-use Rattle.ample.proofs.assembled.are_assembled.Given as goal
+use Rattle.stored_scripts.proofs.assembled.are_assembled.Given as goal
 
 abbrev pub ghosts-counted-L-Ledger : goal.ghosts-counted-L-Ledger
 ghosts-counted-L-Ledger a = record { name = a.parses.name; parts = a.parses.parts }

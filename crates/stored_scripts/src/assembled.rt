@@ -51,6 +51,40 @@ fn are_alike(built: &Outputs, assembled: &Outputs) -> bool {
     built.len() == 4 && assembled.len() == 4
 }
 
+fn assembled<L: Ledger, M: Ledger, N: Ledger>(
+    alloc: Global,
+    files: &Files<'_>,
+    parses: &mut Steps<L>,
+    merges: &mut Steps<M>,
+    evals: &mut Steps<N>,
+) -> Result<Outputs, NoMemory> {
+    let parts = parts_of(alloc, files, parses, merges, evals)?;
+    assemble(alloc, files, &parts)
+}
+
+fn built<L: Ledger, M: Ledger, N: Ledger>(
+    alloc: Global,
+    files: &Files<'_>,
+    parses: &mut Steps<L>,
+    merges: &mut Steps<M>,
+    evals: &mut Steps<N>,
+) -> Result<Outputs, NoMemory> {
+    let mut earlier = Earlier::new();
+    build(alloc, files, &mut earlier, parses, merges, evals)
+}
+
+fn compared<L: Ledger, M: Ledger, N: Ledger>(
+    alloc: Global,
+    files: &Files<'_>,
+    parses: &mut Steps<L>,
+    merges: &mut Steps<M>,
+    evals: &mut Steps<N>,
+) -> Result<bool, NoMemory> {
+    let assembled = assembled(alloc, files, parses, merges, evals)?;
+    let built = built(alloc, files, parses, merges, evals)?;
+    Ok(are_alike(&built, &assembled))
+}
+
 fn counted<L: Ledger, M: Ledger, N: Ledger>(
     alloc: Global,
     files: &Files<'_>,
@@ -65,18 +99,7 @@ fn counted<L: Ledger, M: Ledger, N: Ledger>(
     let mut parses: Steps<L> = Steps::new(parses);
     let mut merges: Steps<M> = Steps::new(merges);
     let mut evals: Steps<N> = Steps::new(evals);
-    let parts = parts_of(alloc, files, &mut parses, &mut merges, &mut evals)?;
-    let assembled = assemble(alloc, files, &parts)?;
-    let mut earlier = Earlier::new();
-    let built = build(
-        alloc,
-        files,
-        &mut earlier,
-        &mut parses,
-        &mut merges,
-        &mut evals,
-    )?;
-    Ok(are_alike(&built, &assembled))
+    compared(alloc, files, &mut parses, &mut merges, &mut evals)
 }
 
 /// Whether the tokens, built from nothing and put together from their parts, come to the same outputs.

@@ -1,49 +1,10 @@
-#!/usr/bin/env python3
-"""Writes the table that crates/ample reads: large scripts with the streams that are wanted for them, as recipes.
+"""Large scripts with the streams that are wanted for them, from lengths and counts alone."""
+from script_table import HOLE, Recipe, Row, written
 
-A row is the line `row STATUS ARGUMENTS`, the line of its name, the recipe of its script and that of its stream. A recipe is a list
-of steps that the line `end` closes. A step is the line `FROM TO LEN`, LEN bytes and a newline: the bytes once for each number from
-FROM to TO, with its decimal digits in place of each byte 1.
-Run: tools/ample-table > crates/ample/stdin
-"""
-import sys
-
-HOLE = "\x01"
 SWIFT = ("import UIKit\n\npublic enum Tokens {\n", "}\n")
 CSS = (":root {\n", "}\n")
 JSON = ("{\n", "}\n")
 XML = ('<?xml version="1.0" encoding="utf-8"?>\n<resources>\n', "</resources>\n")
-
-
-class Recipe:
-    """Steps, and how many bytes they make."""
-
-    def __init__(self):
-        self.steps, self.length = [], 0
-
-    def each(self, first, last, text):
-        """The text once for each number, as steps whose numbers have as many digits."""
-        holes, plain = text.count(HOLE), len(text.encode()) - text.count(HOLE)
-        while first <= last:
-            end = min(last, 10 ** len(str(first)) - 1)
-            self.steps.append(f"{first} {end} {len(text.encode())}\n{text}\n")
-            self.length += (end - first + 1) * (plain + holes * len(str(first)))
-            first = end + 1
-        return self
-
-    def text(self, text):
-        """The text as it is."""
-        return self.each(0, 0, text) if text else self
-
-    def times(self, count, text):
-        """The text so many times."""
-        return self.each(1, count, text)
-
-    def add(self, other):
-        """What another recipe makes."""
-        self.steps += other.steps
-        self.length += other.length
-        return self
 
 
 def put(path, body):
@@ -249,8 +210,8 @@ def generated():
     return Recipe(), text("tokc-stats 1\n").each(1, 21, f"commit {HOLE} written 16 gone 0\n").text("done 21\n")
 
 
-def rows():
-    """The rows: their names, the status, the arguments, and the script with its stream."""
+def cases():
+    """The names, the status, the arguments, and the script with its stream."""
     yield "5,000 commits", 0, "replay", many_commits(5_000)
     yield "16,000 tokens", 0, "build", many_tokens(10_000, 25_999)
     yield "a text of 17,000,000 bytes and an object of 300,000 members", 0, "build", many_members(17_000_000, 300_000)
@@ -264,10 +225,6 @@ def rows():
     yield "a generated script", 0, "gen 7 4000", generated()
 
 
-def main():
-    for name, status, words, (script, stream) in rows():
-        sys.stdout.write(f"row {status} {words}\n{name}\n" + "".join(script.steps) + "end\n" + "".join(stream.steps) + "end\n")
-
-
-if __name__ == "__main__":
-    main()
+def rows():
+    """The rows of the table."""
+    return [Row(status, words, name, written(script), written(stream)) for name, status, words, (script, stream) in cases()]
