@@ -12,8 +12,6 @@ mod running;
 mod status;
 mod stop;
 mod telling;
-#[cfg(test)]
-mod tests;
 mod wiring;
 mod workspace;
 

@@ -1,6 +1,6 @@
 //! Runs without a failing call that write all, with what an independent compiler writes.
 
-use crate::Status;
+use token_cli::Status;
 
 /// A run without a failing call: the arguments, the script, and what is written, what is said and how it ends.
 pub struct Case {

@@ -1,19 +1,18 @@
 //! Runs of the command line: what is written, what is said of a failure, and how it ends.
 
-mod calls;
 mod stops;
 mod table;
 
 use self::stops::STOPS;
 use self::table::{CASES, Case};
-use crate::{Status, run, run_clean};
-use std::alloc::Global;
+use std::alloc::{AllocError, Global};
 use std::process::Abort;
 use std::test::Fail;
 use tk_io::{CleanSource, MemSink, MemSource};
+use token_cli::{Status, run, run_clean};
 
 // Arguments that stand between blanks.
-fn words_of(alloc: Global, line: &str) -> Result<Vec<String>, Fail> {
+fn words_of(alloc: Global, line: &str) -> Result<Vec<String>, AllocError> {
     let mut words = Vec::new(alloc);
     for word in line.split(' ') {
         words.push(String::from_str(alloc, word)?)?;
@@ -22,13 +21,10 @@ fn words_of(alloc: Global, line: &str) -> Result<Vec<String>, Fail> {
 }
 
 // Whether the run writes, says and answers what the case says, where these calls fail by their numbers.
-fn runs_so(
-    alloc: Global,
-    case: &Case,
-    read_fails: &[u64],
-    report_fails: &[u64],
-) -> Result<bool, Fail> {
-    let words = words_of(alloc, case.words)?;
+fn runs_so(alloc: Global, case: &Case, read_fails: &[u64], report_fails: &[u64]) -> bool {
+    let Ok(words) = words_of(alloc, case.words) else {
+        return false;
+    };
     let mut room = [0u8; 8000];
     let mut error_room = [0u8; 100];
     let mut src = MemSource::new(case.script, read_fails);
@@ -36,32 +32,28 @@ fn runs_so(
     let mut err = MemSink::new(report_fails, 3, &mut error_room);
     let ended = run(alloc, words.as_slice(), &mut src, &mut out, &mut err);
     let told = out.written() == case.written.as_bytes() && err.written() == case.said.as_bytes();
-    Ok(told && ended == case.status)
+    told && ended == case.status
+}
+
+// Asserts that a row of a table holds, and names it by its number and its arguments where it does not.
+fn check_row(rt: &impl Abort, holds: bool, row: usize, words: &str) {
+    assert!(rt; holds, "row {row}: {words}");
 }
 
 #[test]
-fn runs_write_and_say_what_their_words_ask_for(rt: HostRuntime) -> Result<(), Fail> {
+fn runs_write_and_say_what_their_words_ask_for(rt: HostRuntime) {
     for (i, case) in CASES.iter().enumerate() {
-        assert!(rt;
-            runs_so(rt.alloc(), case, &[], &[])?,
-            "case {i}: {}",
-            case.words
-        );
-        assert_eq!(rt; case.status.number() == 0, case.status == Status::Done);
+        check_row(&rt, runs_so(rt.alloc(), case, &[], &[]), i, case.words);
+        let is_done = case.status == Status::Done;
+        check_row(&rt, (case.status.number() == 0) == is_done, i, case.words);
     }
-    Ok(())
 }
 
 #[test]
-fn runs_that_stop_write_nothing_and_say_why(rt: HostRuntime) -> Result<(), Fail> {
+fn runs_that_stop_write_nothing_and_say_why(rt: HostRuntime) {
     for (i, case) in STOPS.iter().enumerate() {
-        assert!(rt;
-            runs_so(rt.alloc(), case, &[], &[])?,
-            "case {i}: {}",
-            case.words
-        );
+        check_row(&rt, runs_so(rt.alloc(), case, &[], &[]), i, case.words);
     }
-    Ok(())
 }
 
 static READ_FAULT: Case = Case {
@@ -81,10 +73,9 @@ static UNSAID: Case = Case {
 };
 
 #[test]
-fn a_read_that_fails_ends_the_run(rt: HostRuntime) -> Result<(), Fail> {
-    assert!(rt; runs_so(rt.alloc(), &READ_FAULT, &[1], &[])?);
-    assert!(rt; runs_so(rt.alloc(), &UNSAID, &[1], &[1])?);
-    Ok(())
+fn a_read_that_fails_ends_the_run(rt: HostRuntime) {
+    assert!(rt; runs_so(rt.alloc(), &READ_FAULT, &[1], &[]));
+    assert!(rt; runs_so(rt.alloc(), &UNSAID, &[1], &[1]));
 }
 
 static GENERATED: Case = Case {
@@ -105,13 +96,12 @@ static UNREAD_USAGE: Case = Case {
 
 // Each read of the source would fail.
 #[test]
-fn neither_gen_nor_other_words_read_the_source(rt: HostRuntime) -> Result<(), Fail> {
-    assert!(rt; runs_so(rt.alloc(), &GENERATED, &[1], &[])?);
-    assert!(rt; runs_so(rt.alloc(), &UNREAD_USAGE, &[1], &[])?);
-    Ok(())
+fn neither_gen_nor_other_words_read_the_source(rt: HostRuntime) {
+    assert!(rt; runs_so(rt.alloc(), &GENERATED, &[1], &[]));
+    assert!(rt; runs_so(rt.alloc(), &UNREAD_USAGE, &[1], &[]));
 }
 
-static TWO_COMMITS: &[u8] =
+const TWO_COMMITS: &[u8] =
     b"tokc-script 1\nput tokens.json 2\n{}\ncommit\ndel tokens.json\ncommit\n";
 
 /// The pieces of its stream, each with the number of the call that writes it.
@@ -159,17 +149,19 @@ static STATS_PIECES: [(u64, &str); 4] = [
 ];
 
 // Whether the run in which this write fails has written the pieces before it.
-fn stops_at(alloc: Global, word: &str, fails: u64, written: &[u8]) -> Result<bool, Fail> {
-    let words = words_of(alloc, word)?;
+fn stops_at(alloc: Global, word: &str, fails: u64, written: &[u8]) -> bool {
+    let Ok(words) = words_of(alloc, word) else {
+        return false;
+    };
     let mut room = [0u8; 2000];
     let mut error_room = [0u8; 100];
-    let mut src = MemSource::new(TWO_COMMITS, &[]);
     let numbers = [fails];
+    let mut src = MemSource::new(TWO_COMMITS, &[]);
     let mut out = MemSink::new(&numbers, 2000, &mut room);
     let mut err = MemSink::new(&[], 100, &mut error_room);
     let ended = run(alloc, words.as_slice(), &mut src, &mut out, &mut err);
     let told = out.written() == written && err.written() == "tokc: write failed\n".as_bytes();
-    Ok(told && ended == Status::WriteFault)
+    told && ended == Status::WriteFault
 }
 
 fn check_writes(
@@ -180,10 +172,8 @@ fn check_writes(
 ) -> Result<(), Fail> {
     let mut written = Vec::new(alloc);
     for (number, piece) in pieces {
-        assert!(rt;
-            stops_at(alloc, word, *number, written.as_slice())?,
-            "{word}: write {number}"
-        );
+        let stops = stops_at(alloc, word, *number, written.as_slice());
+        assert!(rt; stops, "{word}: write {number}");
         written.extend_from_slice(piece.as_bytes())?;
     }
     Ok(())
@@ -195,19 +185,27 @@ fn a_write_that_fails_leaves_the_pieces_before_it(rt: HostRuntime) -> Result<(),
     check_writes(&rt, rt.alloc(), "stats", &STATS_PIECES)
 }
 
-// The status of a run over a source and sinks that never fail.
-fn clean(alloc: Global, line: &str, script: &[u8]) -> Result<Status, Fail> {
-    let words = words_of(alloc, line)?;
+// The status of a run over a source and sinks that never fail. None where memory ran out for its arguments.
+fn clean(alloc: Global, line: &str, script: &[u8]) -> Option<Status> {
+    let Ok(words) = words_of(alloc, line) else {
+        return None;
+    };
     let mut src = CleanSource::new(script);
-    Ok(run_clean(alloc, words.as_slice(), &mut src))
+    Some(run_clean(alloc, words.as_slice(), &mut src))
 }
 
+static CLEAN: [(&str, &[u8], Status); 5] = [
+    ("replay", TWO_COMMITS, Status::Refused),
+    ("stats", TWO_COMMITS, Status::Refused),
+    ("stats", b"commit", Status::BadScript),
+    ("gen 0 1", b"commit", Status::Done),
+    ("gen 0 01", b"commit", Status::Usage),
+];
+
 #[test]
-fn a_clean_run_ends_by_its_words_and_script(rt: HostRuntime) -> Result<(), Fail> {
-    assert_eq!(&rt; clean(rt.alloc(), "replay", TWO_COMMITS)?, Status::Refused);
-    assert_eq!(&rt; clean(rt.alloc(), "stats", TWO_COMMITS)?, Status::Refused);
-    assert_eq!(&rt; clean(rt.alloc(), "stats", b"commit")?, Status::BadScript);
-    assert_eq!(&rt; clean(rt.alloc(), "gen 0 1", b"commit")?, Status::Done);
-    assert_eq!(&rt; clean(rt.alloc(), "gen 0 01", b"commit")?, Status::Usage);
-    Ok(())
+fn a_clean_run_ends_by_its_words_and_script(rt: HostRuntime) {
+    for (i, (words, script, status)) in CLEAN.iter().enumerate() {
+        let ended = clean(rt.alloc(), words, script);
+        check_row(&rt, ended == Some(*status), i, words);
+    }
 }

@@ -1,7 +1,7 @@
 //! Arguments that are no command and scripts that have no reading, with what is said of them.
 
 use super::table::Case;
-use crate::Status;
+use token_cli::Status;
 
 pub static STOPS: [Case; 11] = [
     Case {

@@ -48,17 +48,19 @@ fn leaf(alloc: Global, text: &str) -> Option<(ValueType, Option<bool>, bool, usi
     Some((node.value_type(), node.as_bool(), node.is_null(), length))
 }
 
+static LEAVES: [(&str, (ValueType, Option<bool>, bool, usize)); 6] = [
+    ("true", (ValueType::Boolean, Some(true), false, 0)),
+    ("null", (ValueType::Null, None, true, 0)),
+    ("-1.5", (ValueType::Number, None, false, 4)),
+    (r#""\u00e9""#, (ValueType::String, None, false, 2)),
+    ("[1, 2]", (ValueType::Array, None, false, 2)),
+    ("{}", (ValueType::Object, None, false, 0)),
+];
+
 #[test]
 fn values_have_types_and_lengths(rt: HostRuntime) {
-    for (text, expected) in [
-        ("true", (ValueType::Boolean, Some(true), false, 0)),
-        ("null", (ValueType::Null, None, true, 0)),
-        ("-1.5", (ValueType::Number, None, false, 4)),
-        (r#""\u00e9""#, (ValueType::String, None, false, 2)),
-        ("[1, 2]", (ValueType::Array, None, false, 2)),
-        ("{}", (ValueType::Object, None, false, 0)),
-    ] {
-        assert_eq!(rt; leaf(rt.alloc(), text), Some(expected), "{text}");
+    for (text, expected) in LEAVES.iter() {
+        assert!(rt; leaf(rt.alloc(), text) == Some(*expected), "{text}");
     }
 }
 
@@ -78,7 +80,7 @@ fn has_plain_list(alloc: Global) -> Option<bool> {
 
 #[test]
 fn plain_values_have_their_parts(rt: HostRuntime) {
-    assert_eq!(rt; has_plain_list(rt.alloc()), Some(true));
+    assert!(rt; has_plain_list(rt.alloc()) == Some(true));
 }
 
 fn group_of<'s, L: Ledger>(

@@ -1,6 +1,6 @@
 use Rattle.json_span.specs.View.{node_view}
 use Rattle.json_span.specs.Parts.{itself}
-use Rattle.token_cli.proofs.tests.calls.group_of.Goals as goal
+use Rattle.cli_tests.proofs.call_tests.group_of.Goals as goal
 
 pub shape-requires : goal.shape-requires
 shape-requires g c = record {
