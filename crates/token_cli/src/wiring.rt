@@ -5,22 +5,43 @@ ghost use Rattle.std.specs.Process.{exit_status};
 ghost use Rattle.token_cli.specs.Report.{status_number};
 ghost use Rattle.token_cli.specs.declared.status.Status.{Status as StatusData};
 
+use crate::reporting::report;
 use crate::running::run;
+use crate::status::{Status, status_of};
+use crate::stop::Stop;
 use std::env;
+use std::io::ErrorKind;
 use std::process::ExitCode;
-use tk_io::{StdSink, StdSource};
+use tk_io::{NoMemory, StdSink, StdSource};
 
-// The arguments. Where one of them is no text there are none, which is no known list of arguments.
-fn words(rt: &HostRuntime) -> Vec<String> {
+// The arguments behind the program's name. Where one of them is no text there are none, which is no
+// known list of arguments.
+fn words(rt: &HostRuntime) -> Result<Vec<String>, NoMemory> {
     let mut words = Vec::new(rt.alloc());
-    if let Ok(args) = env::args(rt) {
-        for word in args.skip(1) {
-            if words.push(word).is_err() {
-                return Vec::new(rt.alloc());
+    match env::args(rt) {
+        Ok(args) => {
+            for word in args.skip(1) {
+                words.push(word)?;
             }
         }
+        Err(error) if error.kind() == ErrorKind::OutOfMemory => return Err(NoMemory),
+        Err(_) => {}
     }
-    words
+    Ok(words)
+}
+
+// Runs the arguments over the standard streams. Where they found no memory, that is said, and
+// nothing is read.
+fn run_words(rt: &HostRuntime) -> Status {
+    let mut err = StdSink::new(rt.stderr());
+    let Ok(words) = words(rt) else {
+        let ended = Err(Stop::NoMemory);
+        report(&mut err, ended);
+        return status_of(ended);
+    };
+    let mut src = StdSource::new(rt.stdin());
+    let mut out = StdSink::new(rt.stdout());
+    run(rt.alloc(), words.as_slice(), &mut src, &mut out, &mut err)
 }
 
 /// Does what the arguments say: reads the script from standard input, writes the stream to standard
@@ -28,10 +49,5 @@ fn words(rt: &HostRuntime) -> Vec<String> {
 pub fn program(rt: &HostRuntime) -> ExitCode
     ensures { (status : StatusData) × (exit_status result ≡ status_number status) }
 {
-    let words = words(rt);
-    let mut src = StdSource::new(rt.stdin());
-    let mut out = StdSink::new(rt.stdout());
-    let mut err = StdSink::new(rt.stderr());
-    let status = run(rt.alloc(), words.as_slice(), &mut src, &mut out, &mut err);
-    ExitCode::from(status.number())
+    ExitCode::from(run_words(rt).number())
 }
