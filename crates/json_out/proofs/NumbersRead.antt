@@ -8,7 +8,7 @@ use Rattle.std.proofs.Math.Nat.{div-le_self}
 use Rattle.std.proofs.lemmas.Bool.Decides.{nat_tests}
 use Rattle.grammar.specs.Grammar.{Reads, no_byte, one_byte, both, left, right, no_more, more, by_name, many, named, within}
 use Rattle.json_span.specs.Grammar.{number, digit, int, frac, optional}
-use Rattle.json_span.specs.Steered.{rules}
+use Rattle.json_span.specs.Predictive.{rules}
 use Rattle.dec_fix.specs.Decimal.{Decimal, IsExact}
 use Rattle.dec_fix.specs.Reading.{is_whole}
 use Rattle.dec_fix.specs.Writing.{spelling, point_and, last_digits}

@@ -6,7 +6,7 @@ use Rattle.std.specs.Str.{all_ascii_digits}
 use Rattle.std.proofs.lemmas.Bool.Decides.{nat_tests}
 use Rattle.grammar.specs.Grammar.{Reads, Derives, no_byte, one_byte, both, left, right, no_more, more, by_name, many, named, within}
 use Rattle.json_span.specs.Grammar.{number, digit, digits, int, frac, exp, either_byte, optional, one}
-use Rattle.json_span.specs.Steered.{rules}
+use Rattle.json_span.specs.Predictive.{rules}
 use Rattle.dec_fix.specs.Decimal.{Decimal, IsSameNumber, decimal_of}
 use Rattle.dec_fix.specs.Reading.{size_of, places_of, text_decimal}
 use Rattle.dec_fix.specs.Spelling.{Sign, unsigned, plus, minus, Exponent, none, power, NumberParts, minus_text, fraction_text, sign_text, exponent_text, text_of, IsDigits, IsInt, IsExponent, IsNumber, number_of_parts, Spells}

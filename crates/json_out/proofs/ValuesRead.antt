@@ -7,7 +7,7 @@ use Rattle.dec_fix.specs.Reading.{text_decimal, accepted}
 use Rattle.dec_fix.specs.Writing.{spelling}
 use Rattle.dec_fix.proofs.ReadingBack.{written_read}
 use Rattle.json_span.specs.Grammar.{ws}
-use Rattle.json_span.specs.Steered.{rules}
+use Rattle.json_span.specs.Predictive.{rules}
 use Rattle.json_span.specs.Plain.{plain_null, plain_boolean, plain_number, plain_string, plain_array, plain_object, Plains, no_plains, plains, PlainMembers, no_plain_members, plain_members}
 use Rattle.json_span.specs.Says.{Says, says_null, says_true, says_false, says_number, says_string, says_list, says_object, says_no_item, says_items, SaysMoreItems, says_no_more_item, says_more_items, SaysMember, says_member, says_no_member, says_members, SaysMoreMembers, says_no_more_member, says_more_members}
 use Rattle.json_span.specs.Spelling.{string_text, are_bytes}

@@ -4,7 +4,7 @@ use Rattle.std.specs.List.{AllByRecursion}
 use Rattle.grammar.specs.Grammar.{Derives, named}
 use Rattle.dec_fix.specs.Spelling.{Spells}
 use Rattle.json_span.specs.Grammar.{number}
-use Rattle.json_span.specs.Steered.{rules}
+use Rattle.json_span.specs.Predictive.{rules}
 use Rattle.json_span.specs.Tree.{Placed, start_of, end_of}
 use Rattle.json_span.specs.Reading.{Shows}
 use Rattle.json_span.specs.Parts.{IsPart}

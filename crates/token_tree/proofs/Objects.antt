@@ -9,7 +9,7 @@ use Rattle.std.proofs.Common.{add-zero}
 use Rattle.json_span.proofs.Skips.{none_left}
 use Rattle.grammar.specs.Grammar.{Rule, Reads, one_byte, both}
 use Rattle.json_span.specs.Grammar.{Name, one}
-use Rattle.json_span.specs.Steered.{rules}
+use Rattle.json_span.specs.Predictive.{rules}
 use Rattle.json_span.specs.Tree.{Tree, a_null, a_boolean, a_number, a_string, an_array, an_object, Placed, placed, Members, tree_of, start_of, end_of}
 use Rattle.json_span.specs.Reading.{with_span, Shape, object_shape, member_at, MembersAt, no_member, first_member, MoreMembers, last_member, next_member, Shows}
 use Rattle.json_span.specs.Parts.{IsPart, moved, moved_tree}

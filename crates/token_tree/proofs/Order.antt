@@ -5,7 +5,7 @@ use Rattle.std.specs.Str.{bytes_eq}
 use Rattle.grammar.specs.Grammar.{Reads, one_byte, both}
 use Rattle.grammar.proofs.Steps.{no_longer}
 use Rattle.name_path.specs.Names.{root_name}
-use Rattle.json_span.specs.Steered.{rules, symbol}
+use Rattle.json_span.specs.Predictive.{rules, symbol}
 use Rattle.json_span.specs.Tree.{Tree, a_null, a_boolean, a_number, a_string, an_array, Placed, placed, Elements, Members, Entry, entries_in, tree_of, start_of, end_of}
 use Rattle.json_span.specs.Reading.{BeginsAt, ValueAt, with_span, Shape, null_shape, false_shape, true_shape, number_shape, string_shape, array_shape, object_shape, ElementsAt, no_element, first_element, MoreElements, last_element, next_element, MemberAt, member_at, MembersAt, no_member, first_member, MoreMembers, last_member, next_member, Shows}
 use Rattle.json_span.specs.Parts.{IsPart, itself, inside, IsInside, inside_array, inside_object, IsInElements, in_element, in_later_element, IsInMembers, in_member, in_later_member}
