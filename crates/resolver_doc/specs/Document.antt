@@ -93,15 +93,23 @@ source_of sets n = source_by sets n (value_of_name (codes "$ref") (entries_at n)
 abbrev pub sources_of : List Entry → Placed → List SourceData
 sources_of sets n = map (source_of sets) (elements_at n)
 
+-- the sources of a list, where there is one
+abbrev pub listed_sources : List Entry → Option Placed → List SourceData
+listed_sources sets list = unwrap_or (option_map (sources_of sets) list) []
+
 -- the sources of a set with these members
 abbrev pub sources_in : List Entry → List Entry → List SourceData
-sources_in sets es = unwrap_or (option_map (sources_of sets) (value_of_name (codes "sources") es)) []
+sources_in sets es = listed_sources sets (value_of_name (codes "sources") es)
+
+-- a set and a context are a name with the sources of a list: of a set it is a member, and a context is the list itself
+abbrev pub named_list : List Entry → List ℕ → Option Placed → SetData
+named_list sets name list = record { name = name; sources = listed_sources sets list }
 
 abbrev pub set_of : List Entry → Entry → SetData
-set_of sets e = record { name = e.name; sources = sources_in sets (entries_at e.value) }
+set_of sets e = named_list sets e.name (value_of_name (codes "sources") (entries_at e.value))
 
 abbrev pub context_of : List Entry → Entry → SetData
-context_of sets e = record { name = e.name; sources = sources_of sets e.value }
+context_of sets e = named_list sets e.name (Some e.value)
 
 -- the text of a member, where it is one
 abbrev pub member_text : List ℕ → List Entry → Option (List ℕ)

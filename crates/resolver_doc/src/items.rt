@@ -1,16 +1,16 @@
 //! Sets, modifiers and the items of the order, and the references among them that name nothing.
 
-ghost use Rattle.std.specs.Prelude.{◌≡◌, [], IfOk, OnOk, Option, codes, map, unwrap_or};
+ghost use Rattle.std.specs.Prelude.{◌≡◌, [], IfOk, OnOk, Option, codes, map, option_map, unwrap_or};
 ghost use Rattle.std.specs.List.{flat_map};
 ghost use Rattle.std.specs.Str.{bytes_eq};
 ghost use Rattle.json_span.specs.View.{ref_view, field_view};
 ghost use Rattle.resolver_doc.specs.Break.{with_breaks};
-ghost use Rattle.resolver_doc.specs.Document.{set_item, context_of, set_of, sources_in};
+ghost use Rattle.resolver_doc.specs.Document.{set_item, context_of, named_list, set_of, sources_in};
 ghost use Rattle.resolver_doc.specs.Document.{member_entries, name_in, member_text, modifier_of};
 ghost use Rattle.resolver_doc.specs.Document.{own_item, order_item, named_item, text_at, set_number};
 ghost use Rattle.resolver_doc.specs.Document.{order_items};
 ghost use Rattle.resolver_doc.specs.Form.{unreserved, context_entries, entries_at};
-ghost use Rattle.resolver_doc.specs.Naming.{sources_breaks, set_breaks, modifier_breaks};
+ghost use Rattle.resolver_doc.specs.Naming.{of_each, sources_breaks, set_breaks, modifier_breaks};
 ghost use Rattle.resolver_doc.specs.Naming.{own_breaks, item_breaks, named_item_breaks};
 ghost use Rattle.resolver_doc.specs.View.{set_view, sets_view, item_view, order_view};
 ghost use Rattle.resolver_doc.specs.inner.Known.{known_sets, known_modifiers};
@@ -19,7 +19,7 @@ use crate::form::{is_counted, is_word};
 use crate::known::Known;
 use crate::members::{member, member_text, text_at, text_or_empty};
 use crate::rule::{Break, PlanRule, at_value};
-use crate::sources::{set_sources, sources};
+use crate::sources::sources;
 use crate::written::{Contexts, Item, Order, SetDef, Sets, Written};
 use json_span::{Field, NodeRef};
 use std::alloc::Global;
@@ -38,40 +38,28 @@ pub(crate) fn sets<'a, 's>(
 {
     let mut sets = Sets::new(alloc);
     for field in known.sets.as_slice() {
-        sets.push(set(alloc, known, *field, first)?)?;
+        let list = member(field.value(), "sources");
+        sets.push(named_list(alloc, known, *field, list, first)?)?;
     }
     Ok(sets)
 }
 
-fn set<'a, 's>(
+// A set or a context: the name of a member, and the sources of a list, where there is one. Breaks of references in it are
+// taken in.
+fn named_list<'a, 's>(
     alloc: Global,
     known: &Known<'a, 's>,
     field: Field<'a, 's>,
+    list: Option<NodeRef<'a, 's>>,
     first: &mut Option<Break>,
 ) -> Result<SetDef<'a, 's>, NoMemory>
-    ensures set { IfOk result
-        (λ set. set_view set ≡ set_of (known_sets known.now) (field_view field.entry)) }
+    ensures named { IfOk result (λ named. set_view named ≡ named_list (known_sets known.now)
+        (field_view field.entry).name (option_map ref_view list.entry)) }
     ensures breaks { OnOk result (first.new ≡ with_breaks first.old
-        (set_breaks (known_sets known.now) (entries_at (field_view field.entry).value))) }
+        (of_each (sources_breaks (known_sets known.now)) (option_map ref_view list.entry))) }
 {
     let name = field.name(alloc)?;
-    let sources = set_sources(alloc, known, field.value(), first)?;
-    Ok(SetDef { name, sources })
-}
-
-fn context<'a, 's>(
-    alloc: Global,
-    known: &Known<'a, 's>,
-    field: Field<'a, 's>,
-    first: &mut Option<Break>,
-) -> Result<SetDef<'a, 's>, NoMemory>
-    ensures context { IfOk result
-        (λ context. set_view context ≡ context_of (known_sets known.now) (field_view field.entry)) }
-    ensures breaks { OnOk result (first.new ≡ with_breaks first.old
-        (sources_breaks (known_sets known.now) (field_view field.entry).value)) }
-{
-    let name = field.name(alloc)?;
-    let sources = sources(alloc, known, field.value(), first)?;
+    let sources = sources(alloc, known, list, first)?;
     Ok(SetDef { name, sources })
 }
 
@@ -97,7 +85,7 @@ fn contexts<'a, 's>(
     };
     for field in fields {
         if is_counted(alloc, field)? {
-            contexts.push(context(alloc, known, field, first)?)?;
+            contexts.push(named_list(alloc, known, field, Some(field.value()), first)?)?;
         }
     }
     Ok(contexts)
@@ -150,7 +138,8 @@ fn named_set<'a, 's>(
         return Ok(Item::Set(Written::new(alloc)));
     };
     let mut seen_before = None;
-    let sources = set_sources(alloc, known, field.value(), &mut seen_before)?;
+    let list = member(field.value(), "sources");
+    let sources = sources(alloc, known, list, &mut seen_before)?;
     Ok(Item::Set(sources))
 }
 
@@ -195,7 +184,8 @@ fn own_item<'a, 's>(
         (own_breaks (known_sets known.now) (entries_at (ref_view node.entry)))) }
 {
     if is_own_set(alloc, node)? {
-        return Ok(Item::Set(set_sources(alloc, known, node, first)?));
+        let list = member(node, "sources");
+        return Ok(Item::Set(sources(alloc, known, list, first)?));
     }
     let name = text_or_empty(alloc, node, "name")?;
     modifier(alloc, known, name, node, first)

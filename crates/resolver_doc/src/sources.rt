@@ -1,14 +1,12 @@
 //! Sources as they are written, and the references among them that name nothing.
 
-ghost use Rattle.std.specs.Prelude.{◌≡◌, ◌≢◌, ◌∷◌, ℕ, List, IfOk, OnOk, MatchOption};
+ghost use Rattle.std.specs.Prelude.{◌≡◌, ◌≢◌, ◌∷◌, ℕ, List, IfOk, OnOk, MatchOption, option_map};
 ghost use Rattle.tk_io.specs.Characters.{full_stop, solidus};
 ghost use Rattle.json_span.specs.View.{ref_view};
 ghost use Rattle.resolver_doc.specs.Break.{with_breaks};
 ghost use Rattle.resolver_doc.specs.Document.{text_at, set_number, without_dots, set_or_file};
-ghost use Rattle.resolver_doc.specs.Document.{source_of, sources_of, sources_in};
-ghost use Rattle.resolver_doc.specs.Form.{entries_at};
-ghost use Rattle.resolver_doc.specs.Naming.{named_breaks_by, source_breaks, sources_breaks};
-ghost use Rattle.resolver_doc.specs.Naming.{set_breaks};
+ghost use Rattle.resolver_doc.specs.Document.{source_of, listed_sources};
+ghost use Rattle.resolver_doc.specs.Naming.{named_breaks_by, source_breaks, sources_breaks, of_each};
 ghost use Rattle.resolver_doc.specs.View.{source_view, sources_view};
 ghost use Rattle.resolver_doc.specs.inner.Known.{known_sets};
 
@@ -131,19 +129,22 @@ pub(crate) fn source<'a, 's>(
     }
 }
 
-/// The sources of a list. Breaks of their references are taken in.
+/// The sources of a list, where there is one. Breaks of their references are taken in.
 pub(crate) fn sources<'a, 's>(
     alloc: Global,
     known: &Known<'a, 's>,
-    node: NodeRef<'a, 's>,
+    list: Option<NodeRef<'a, 's>>,
     first: &mut Option<Break>,
 ) -> Result<Written<'a, 's>, NoMemory>
     ensures sources { IfOk result (λ sources. sources_view sources
-        ≡ sources_of (known_sets known.now) (ref_view node.entry)) }
-    ensures breaks { OnOk result (first.new
-        ≡ with_breaks first.old (sources_breaks (known_sets known.now) (ref_view node.entry))) }
+        ≡ listed_sources (known_sets known.now) (option_map ref_view list.entry)) }
+    ensures breaks { OnOk result (first.new ≡ with_breaks first.old
+        (of_each (sources_breaks (known_sets known.now)) (option_map ref_view list.entry))) }
 {
     let mut written = Written::new(alloc);
+    let Some(node) = list else {
+        return Ok(written);
+    };
     let Some(items) = node.as_array() else {
         return Ok(written);
     };
@@ -151,22 +152,4 @@ pub(crate) fn sources<'a, 's>(
         written.push(source(alloc, known, item, first)?)?;
     }
     Ok(written)
-}
-
-/// The sources of a set. Breaks of their references are taken in.
-pub(crate) fn set_sources<'a, 's>(
-    alloc: Global,
-    known: &Known<'a, 's>,
-    set: NodeRef<'a, 's>,
-    first: &mut Option<Break>,
-) -> Result<Written<'a, 's>, NoMemory>
-    ensures sources { IfOk result (λ sources. sources_view sources
-        ≡ sources_in (known_sets known.now) (entries_at (ref_view set.entry))) }
-    ensures breaks { OnOk result (first.new ≡ with_breaks first.old
-        (set_breaks (known_sets known.now) (entries_at (ref_view set.entry)))) }
-{
-    match member(set, "sources") {
-        Some(node) => sources(alloc, known, node, first),
-        None => Ok(Written::new(alloc)),
-    }
 }
