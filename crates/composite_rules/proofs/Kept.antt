@@ -8,12 +8,11 @@ use Rattle.json_span.specs.PlainView.{Value}
 use Rattle.dec_fix.specs.Decimal.{Decimal, IsExact}
 use Rattle.dec_fix.specs.Arithmetic.{IsFromZeroToOne, order_with, whole_decimal}
 use Rattle.name_path.specs.declared.kind.Kind.{Kind}
-use Rattle.name_path.specs.declared.kind.Kind.TheVariants as kind
 use Rattle.type_rules.specs.declared.fault.ValueRule.TheVariants.{StrokeWord, StrokeCap}
 use Rattle.type_rules.specs.Checked.{or_broken}
 use Rattle.type_rules.specs.Forms.{number_in, members_in, if_text, named, member, member_or, list_in, some_in}
 use Rattle.type_rules.specs.Words.{meaning, word_in}
-use Rattle.type_rules.specs.Value.{color_in, size_in, time_in, curve_in, families_in, weight_in, simple_value}
+use Rattle.type_rules.specs.Value.{color_in, size_in, time_in, curve_in, families_in, weight_in}
 use Rattle.type_rules.specs.Sound.{IsColor, IsSize, IsTime, IsCurve, IsFamilies, IsWeight}
 use Rattle.type_rules.proofs.Keeping.{made, found, member_keeps, list_keeps, some_keep, some_is_there}
 use Rattle.type_rules.proofs.Kept.{numbers_keep, colors_keep, sizes_keep, times_keep, curves_keep, families_keep, weights_keep, values_keep as simples_keep}
@@ -25,10 +24,10 @@ use Rattle.composite_rules.specs.declared.shadow.ShadowItem.{ShadowItem}
 use Rattle.composite_rules.specs.declared.gradient.ColorStop.{ColorStop}
 use Rattle.composite_rules.specs.declared.typography.Typography.{Typography}
 use Rattle.composite_rules.specs.declared.typed.Typed.{Typed}
-use Rattle.composite_rules.specs.declared.typed.Typed.TheVariants as typed
 use Rattle.composite_rules.specs.Words.{stroke_words, caps}
-use Rattle.composite_rules.specs.Value.{stroke_of_word, dashes_in, stroke_in, border_in, transition_in, boolean_in, shadow_item_in, unless_zero, one_item, one_shadow, if_list, shadows_in, clamped, stop_in, gradient_in, typography_in, simple_in, value_of}
+use Rattle.composite_rules.specs.Value.{stroke_of_word, dashes_in, stroke_in, border_in, transition_in, boolean_in, shadow_item_in, unless_zero, one_item, one_shadow, if_list, shadows_in, clamped, stop_in, gradient_in, typography_in, value_of}
 use Rattle.composite_rules.specs.Sound.{kind_of, IsStroke, IsBorder, IsTransition, IsShadowItem, IsShadows, IsColorStop, IsStops, IsTypography, IsTyped}
+use Rattle.composite_rules.proofs.ByKind.{by_kind}
 
 -- stroke styles
 
@@ -201,22 +200,14 @@ typographies_keep legacy v t e =
 abbrev pub Keeps : Kind → Typed → Type 0
 Keeps k t = (kind_of t ≡ k) × IsTyped t
 
-simples : (legacy : Bool) (k : Kind) (v : Value) (t : Typed) → simple_in legacy k v ≡ Ok t → Keeps k t
-unfolding simple_in
-simples legacy k v t e = made (simple_value legacy k v) _ t e (λ s h e2. found (Keeps k) (typed.Simple s) t e2 (simples_keep legacy k v s h))
-
 pub values_keep : (legacy : Bool) (k : Kind) (v : Value) (t : Typed) → value_of legacy k v ≡ Ok t → Keeps k t
-unfolding value_of
-values_keep legacy kind.Color v t e = simples legacy kind.Color v t e
-values_keep legacy kind.Dimension v t e = simples legacy kind.Dimension v t e
-values_keep legacy kind.FontFamily v t e = simples legacy kind.FontFamily v t e
-values_keep legacy kind.FontWeight v t e = simples legacy kind.FontWeight v t e
-values_keep legacy kind.Duration v t e = simples legacy kind.Duration v t e
-values_keep legacy kind.CubicBezier v t e = simples legacy kind.CubicBezier v t e
-values_keep legacy kind.Number v t e = simples legacy kind.Number v t e
-values_keep legacy kind.StrokeStyle v t e = made (stroke_in legacy v) _ t e (λ x h e2. found (Keeps kind.StrokeStyle) (typed.StrokeStyle x) t e2 (refl, strokes_keep legacy v x h))
-values_keep legacy kind.Border v t e = made (border_in legacy v) _ t e (λ x h e2. found (Keeps kind.Border) (typed.Border x) t e2 (refl, borders_keep legacy v x h))
-values_keep legacy kind.Transition v t e = made (transition_in legacy v) _ t e (λ x h e2. found (Keeps kind.Transition) (typed.Transition x) t e2 (refl, transitions_keep legacy v x h))
-values_keep legacy kind.Shadow v t e = made (shadows_in legacy v) _ t e (λ x h e2. found (Keeps kind.Shadow) (typed.Shadow x) t e2 (refl, shadows_keep legacy v x h))
-values_keep legacy kind.Gradient v t e = made (gradient_in legacy v) _ t e (λ x h e2. found (Keeps kind.Gradient) (typed.Gradient x) t e2 (refl, gradients_keep legacy v x h))
-values_keep legacy kind.Typography v t e = made (typography_in legacy v) _ t e (λ x h e2. found (Keeps kind.Typography) (typed.Typography x) t e2 (refl, typographies_keep legacy v x h))
+values_keep legacy k v t e =
+    by_kind legacy v Keeps (record {
+      simple = λ own x h. simples_keep legacy own v x h;
+      stroke = λ x h. (refl, strokes_keep legacy v x h);
+      border = λ x h. (refl, borders_keep legacy v x h);
+      transition = λ x h. (refl, transitions_keep legacy v x h);
+      shadow = λ x h. (refl, shadows_keep legacy v x h);
+      gradient = λ x h. (refl, gradients_keep legacy v x h);
+      typography = λ x h. (refl, typographies_keep legacy v x h);
+    }) k t e

@@ -1,3 +1,4 @@
+pub mod ByKind
 mod Simples
 mod WordFacts
 mod Kept

@@ -6,11 +6,9 @@ use Rattle.std.specs.Str.{bytes_eq}
 use Rattle.json_span.specs.Plain.{plain_array_in, plain_object_in}
 use Rattle.json_span.specs.PlainView.{Value, ValueEntry}
 use Rattle.name_path.specs.declared.kind.Kind.{Kind}
-use Rattle.name_path.specs.declared.kind.Kind.TheVariants as kind
 use Rattle.type_rules.specs.Checked.{Checked, under}
 use Rattle.type_rules.specs.Forms.{members_in, named, each, some_in}
 use Rattle.type_rules.specs.Words.{meaning}
-use Rattle.type_rules.specs.Value.{simple_value}
 use Rattle.type_rules.specs.Trails.{item_at, child, plain_at}
 use Rattle.type_rules.proofs.Keeping.{made, found, from_part}
 use Rattle.type_rules.proofs.Standing.{some_then, some_is}
@@ -18,8 +16,9 @@ use Rattle.composite_rules.specs.declared.shadow.ShadowItem.{ShadowItem}
 use Rattle.composite_rules.specs.declared.gradient.ColorStop.{ColorStop}
 use Rattle.composite_rules.specs.declared.typed.Typed.{Typed}
 use Rattle.composite_rules.specs.declared.typed.Typed.TheVariants as typed
-use Rattle.composite_rules.specs.Value.{stroke_in, border_in, transition_in, shadow_item_in, unless_zero, one_item, one_shadow, if_list, shadows_in, stop_in, gradient_in, typography_in, simple_in, value_of}
+use Rattle.composite_rules.specs.Value.{shadow_item_in, unless_zero, one_item, one_shadow, if_list, shadows_in, stop_in, gradient_in, value_of}
 use Rattle.composite_rules.specs.Parts.{Row, shadow_row, stop_row, member_row, item_rows, part_at, HasForm}
+use Rattle.composite_rules.proofs.ByKind.{by_kind}
 use Rattle.composite_rules.proofs.Led.{array_none}
 use Rattle.composite_rules.proofs.Typing.{Rows, in_row, child_named, child_item, border_rows, transition_rows, shadow_rows, stop_rows, typography_rows, item_map, Items, items_are}
 
@@ -118,22 +117,14 @@ shadow_stands : (legacy : Bool) (v : Value) (items : List ShadowItem) → shadow
 unfolding shadows_in
 shadow_stands legacy v items e = shadow_by legacy v items (plain_array_in v) e
 
-simple_stands : (legacy : Bool) (k : Kind) (v : Value) (t : Typed) → simple_in legacy k v ≡ Ok t → StandAll v t
-unfolding simple_in
-simple_stands legacy k v t e = made (simple_value legacy k v) _ t e (λ s g e2. found (StandAll v) (typed.Simple s) t e2 (none_stand v (typed.Simple s) refl refl))
-
 pub parts_stand : (legacy : Bool) (k : Kind) (v : Value) (t : Typed) → value_of legacy k v ≡ Ok t → StandAll v t
-unfolding value_of
-parts_stand legacy kind.Color v t e = simple_stands legacy kind.Color v t e
-parts_stand legacy kind.Dimension v t e = simple_stands legacy kind.Dimension v t e
-parts_stand legacy kind.FontFamily v t e = simple_stands legacy kind.FontFamily v t e
-parts_stand legacy kind.FontWeight v t e = simple_stands legacy kind.FontWeight v t e
-parts_stand legacy kind.Duration v t e = simple_stands legacy kind.Duration v t e
-parts_stand legacy kind.CubicBezier v t e = simple_stands legacy kind.CubicBezier v t e
-parts_stand legacy kind.Number v t e = simple_stands legacy kind.Number v t e
-parts_stand legacy kind.StrokeStyle v t e = made (stroke_in legacy v) _ t e (λ x g e2. found (StandAll v) (typed.StrokeStyle x) t e2 (none_stand v (typed.StrokeStyle x) refl refl))
-parts_stand legacy kind.Border v t e = made (border_in legacy v) _ t e (λ x g e2. found (StandAll v) (typed.Border x) t e2 (members_stand legacy v (typed.Border x) (border_rows legacy v x g) refl))
-parts_stand legacy kind.Transition v t e = made (transition_in legacy v) _ t e (λ x g e2. found (StandAll v) (typed.Transition x) t e2 (members_stand legacy v (typed.Transition x) (transition_rows legacy v x g) refl))
-parts_stand legacy kind.Shadow v t e = made (shadows_in legacy v) _ t e (λ x g e2. found (StandAll v) (typed.Shadow x) t e2 (shadow_stands legacy v x g))
-parts_stand legacy kind.Gradient v t e = made (gradient_in legacy v) _ t e (λ x g e2. found (StandAll v) (typed.Gradient x) t e2 (gradient_stands legacy v x g))
-parts_stand legacy kind.Typography v t e = made (typography_in legacy v) _ t e (λ x g e2. found (StandAll v) (typed.Typography x) t e2 (members_stand legacy v (typed.Typography x) (typography_rows legacy v x g) refl))
+parts_stand legacy k v t e =
+    by_kind legacy v (λ own z. StandAll v z) (record {
+      simple = λ own x g. none_stand v (typed.Simple x) refl refl;
+      stroke = λ x g. none_stand v (typed.StrokeStyle x) refl refl;
+      border = λ x g. members_stand legacy v (typed.Border x) (border_rows legacy v x g) refl;
+      transition = λ x g. members_stand legacy v (typed.Transition x) (transition_rows legacy v x g) refl;
+      shadow = λ x g. shadow_stands legacy v x g;
+      gradient = λ x g. gradient_stands legacy v x g;
+      typography = λ x g. members_stand legacy v (typed.Typography x) (typography_rows legacy v x g) refl;
+    }) k t e

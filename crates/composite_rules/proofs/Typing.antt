@@ -36,6 +36,7 @@ use Rattle.composite_rules.specs.declared.typed.Typed.TheVariants as typed
 use Rattle.composite_rules.specs.Value.{stroke_in, border_in, transition_in, boolean_in, shadow_item_in, unless_zero, one_item, one_shadow, if_list, shadows_in, clamped, stop_in, gradient_in, typography_in, simple_in, value_of}
 use Rattle.composite_rules.specs.Sound.{kind_of}
 use Rattle.composite_rules.specs.Parts.{Row, color_part, size_part, time_part, border_row, transition_row, shadow_row, stop_row, typography_row, only_row, member_row, item_rows, part_at}
+use Rattle.composite_rules.proofs.ByKind.{by_kind}
 use Rattle.composite_rules.proofs.Kept.{values_keep}
 
 -- simple parts, and styles
@@ -370,31 +371,20 @@ shadow_parts legacy v items e h = shadow_by legacy v items (plain_array_in v) e 
 abbrev Whole : (legacy : Bool) → Value → Typed → Type 0
 Whole legacy v t = value_of legacy (kind_of t) v ≡ Ok t
 
-simple_parts : (legacy : Bool) (k : Kind) (v : Value) (t : Typed) → simple_in legacy k v ≡ Ok t → Whole legacy v t → PartsOf legacy v t
-unfolding simple_in
-simple_parts legacy k v t e h =
-    made (simple_value legacy k v) _ t e (λ s g e2.
-    let P : Typed → Type 0 = λ z. Whole legacy v z → PartsOf legacy v z in
-    found P (typed.Simple s) t e2 (λ h2. no_parts legacy v (typed.Simple s) refl refl h2) h)
-
-by_kind : (legacy : Bool) (k : Kind) (v : Value) (t : Typed) → value_of legacy k v ≡ Ok t → Whole legacy v t → PartsOf legacy v t
-unfolding value_of
-by_kind legacy kind.Color v t e h = simple_parts legacy kind.Color v t e h
-by_kind legacy kind.Dimension v t e h = simple_parts legacy kind.Dimension v t e h
-by_kind legacy kind.FontFamily v t e h = simple_parts legacy kind.FontFamily v t e h
-by_kind legacy kind.FontWeight v t e h = simple_parts legacy kind.FontWeight v t e h
-by_kind legacy kind.Duration v t e h = simple_parts legacy kind.Duration v t e h
-by_kind legacy kind.CubicBezier v t e h = simple_parts legacy kind.CubicBezier v t e h
-by_kind legacy kind.Number v t e h = simple_parts legacy kind.Number v t e h
-by_kind legacy kind.StrokeStyle v t e h = made (stroke_in legacy v) _ t e (λ x g e2. found (λ z. Whole legacy v z → PartsOf legacy v z) (typed.StrokeStyle x) t e2 (λ h2. no_parts legacy v (typed.StrokeStyle x) refl refl h2) h)
-by_kind legacy kind.Border v t e h = made (border_in legacy v) _ t e (λ x g e2. found (λ z. Whole legacy v z → PartsOf legacy v z) (typed.Border x) t e2 (λ h2. member_parts legacy v (typed.Border x) (border_rows legacy v x g) refl h2) h)
-by_kind legacy kind.Transition v t e h = made (transition_in legacy v) _ t e (λ x g e2. found (λ z. Whole legacy v z → PartsOf legacy v z) (typed.Transition x) t e2 (λ h2. member_parts legacy v (typed.Transition x) (transition_rows legacy v x g) refl h2) h)
-by_kind legacy kind.Shadow v t e h = made (shadows_in legacy v) _ t e (λ x g e2. found (λ z. Whole legacy v z → PartsOf legacy v z) (typed.Shadow x) t e2 (λ h2. shadow_parts legacy v x g h2) h)
-by_kind legacy kind.Gradient v t e h = made (gradient_in legacy v) _ t e (λ x g e2. found (λ z. Whole legacy v z → PartsOf legacy v z) (typed.Gradient x) t e2 (λ h2. gradient_parts legacy v x g h2) h)
-by_kind legacy kind.Typography v t e h = made (typography_in legacy v) _ t e (λ x g e2. found (λ z. Whole legacy v z → PartsOf legacy v z) (typed.Typography x) t e2 (λ h2. member_parts legacy v (typed.Typography x) (typography_rows legacy v x g) refl h2) h)
+parts_by_kind : (legacy : Bool) (k : Kind) (v : Value) (t : Typed) → value_of legacy k v ≡ Ok t → Whole legacy v t → PartsOf legacy v t
+parts_by_kind legacy k v t e =
+    by_kind legacy v (λ own z. Whole legacy v z → PartsOf legacy v z) (record {
+      simple = λ own x g h. no_parts legacy v (typed.Simple x) refl refl h;
+      stroke = λ x g h. no_parts legacy v (typed.StrokeStyle x) refl refl h;
+      border = λ x g h. member_parts legacy v (typed.Border x) (border_rows legacy v x g) refl h;
+      transition = λ x g h. member_parts legacy v (typed.Transition x) (transition_rows legacy v x g) refl h;
+      shadow = λ x g h. shadow_parts legacy v x g h;
+      gradient = λ x g h. gradient_parts legacy v x g h;
+      typography = λ x g h. member_parts legacy v (typed.Typography x) (typography_rows legacy v x g) refl h;
+    }) k t e
 
 pub parts_typed : (legacy : Bool) (k : Kind) (v w : Value) (t part : Typed) (steps : List (List ℕ)) → value_of legacy k v ≡ Ok t → plain_at v steps ≡ Some w → part_at t steps ≡ Some part → value_of legacy (kind_of part) w ≡ Ok part
 parts_typed legacy k v w t part steps e p q =
     let same : kind_of t ≡ k = (values_keep legacy k v t e).0 in
     let h : value_of legacy (kind_of t) v ≡ Ok t = ap (λ z. value_of legacy z v) same ∙ e in
-    by_kind legacy k v t e h steps w part p q
+    parts_by_kind legacy k v t e h steps w part p q
