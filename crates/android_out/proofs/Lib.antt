@@ -1,6 +1,5 @@
 mod BlocksJoin
 mod ContentsRead
-mod FiveLines
 mod OneReading
 mod OwnNamesApart
 mod SheetsDenote

@@ -1,7 +1,6 @@
 mod Appended
 mod Arguments
 mod BlocksJoin
-mod FiveLines
 mod Numbers
 mod OneReading
 mod OwnNamesApart

@@ -7,6 +7,7 @@ mod HexDigits
 pub mod Endings
 mod Allowed
 mod PathsNamed
+pub mod FiveLines
 pub mod FiveNamesDiffer
 pub mod NamesApart
 pub mod PlainFramesJoin

@@ -2,7 +2,7 @@ use Rattle.std.proofs.Common.{◌++◌, ap, ◌∙◌}
 use Rattle.android_out.specs.Spelling.{line_text}
 use Rattle.transforms.specs.FiveNames.{size_end, spacing_end}
 use Rattle.transforms.specs.declared.platform.Platform.TheVariants.{Android}
-use Rattle.android_out.proofs.FiveLines.{five_texts, five_names}
+use Rattle.transforms.proofs.FiveLines.{five_texts, five_names}
 use Rattle.android_out.proofs.typography.typography_fragment.Goals as goal
 
 pub returns : goal.returns

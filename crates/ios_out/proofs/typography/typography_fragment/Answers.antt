@@ -4,7 +4,7 @@ use Rattle.transforms.specs.FiveNames.{size_end, spacing_end}
 use Rattle.transforms.specs.declared.platform.Platform.TheVariants.{Swift}
 use Rattle.ios_out.specs.PlatformValue.{length_type}
 use Rattle.ios_out.specs.Spelling.{line_text}
-use Rattle.ios_out.proofs.FiveLines.{five_texts, five_names}
+use Rattle.transforms.proofs.FiveLines.{five_texts, five_names}
 use Rattle.ios_out.proofs.typography.typography_fragment.Goals as goal
 
 pub returns : goal.returns
