@@ -2,6 +2,7 @@
 import os
 import pty
 import re
+import resource
 import shutil
 import subprocess
 import time
@@ -49,6 +50,66 @@ class Words(Room):
 
     def test_pipes_say_nothing_of_their_own(self):
         self.assertEqual(run([TOKC, "build"], read(FIRST)).err, "")
+
+
+class Numbers(Room):
+    """Each number that the program ends with, by a run of it over streams of the system, and what it says then."""
+
+    SCRIPT = b"tokc-script 1\nput tokens.json 2\n{}\ncommit\n"
+    # The longest script, in bytes.
+    LIMIT = 67108864
+
+    def ended(self, words, given=b"", source=None, out=None, err=None, memory=None):
+        """The number, and what was said, where files may stand for the streams, and memory may be bounded, in bytes."""
+        bound = None if memory is None else lambda: resource.setrlimit(resource.RLIMIT_AS, (memory, memory))
+        if source is None:
+            source = self.at("source")
+            write(source, given)
+        opened = os.open(source, os.O_RDONLY)
+        try:
+            with open(out or os.devnull, "wb") as told, open(err or self.at("said"), "wb") as said:
+                ran = subprocess.run([program(), *words], stdin=opened, stdout=told, stderr=said, preexec_fn=bound, timeout=60, check=False)
+        finally:
+            os.close(opened)
+        return ran.returncode, "" if err else read(self.at("said")).decode()
+
+    def test_done_and_refused(self):
+        self.assertEqual(self.ended(["replay"], self.SCRIPT), (0, ""))
+        self.assertEqual(self.ended(["stats"], self.SCRIPT + b"del tokens.json\ncommit\n"), (1, ""))
+
+    def test_every_word_after_the_name_counts(self):
+        usage = "usage: tokc build | replay | stats | gen SEED SIZE\n"
+        self.assertEqual(self.ended(["gen", "7", "1"]), (0, ""))
+        for words in ([], ["gen"], ["gen", "7"], ["gen", "7", "1", "1"], ["7", "1"], ["replay", "replay"]):
+            with self.subTest(words=words):
+                self.assertEqual(self.ended(words, self.SCRIPT), (2, usage))
+
+    def test_a_script_that_is_none(self):
+        self.assertEqual(self.ended(["stats"], self.SCRIPT + b"\n"), (3, f"tokc: bad script at byte {len(self.SCRIPT)}\n"))
+
+    def test_a_read_that_fails(self):
+        """A folder can't be read as a file."""
+        self.assertEqual(self.ended(["build"], source=self.room), (4, "tokc: read failed\n"))
+
+    def test_a_write_that_fails(self):
+        self.assertEqual(self.ended(["replay"], self.SCRIPT, out="/dev/full"), (5, "tokc: write failed\n"))
+
+    def test_want_of_memory(self):
+        """The script alone is larger than the memory that there is."""
+        given = b"tokc-script 1\nput tokens.json 60000000\n" + b" " * 60000000 + b"\n"
+        self.assertEqual(self.ended(["build"], given, memory=50000000), (6, "tokc: out of memory\n"))
+
+    def test_a_script_that_is_too_long(self):
+        with open(self.at("long"), "wb") as long:
+            long.truncate(self.LIMIT + 1)
+        self.assertEqual(self.ended(["build"], source=self.at("long")), (7, "tokc: script too long\n"))
+        os.truncate(self.at("long"), self.LIMIT)
+        self.assertEqual(self.ended(["build"], source=self.at("long")), (3, "tokc: bad script at byte 0\n"))
+
+    def test_an_error_stream_that_fails_changes_no_number(self):
+        for number, words, given, out in ((0, ["replay"], self.SCRIPT, None), (2, ["replays"], self.SCRIPT, None), (3, ["replay"], b"", None), (5, ["replay"], self.SCRIPT, "/dev/full")):
+            with self.subTest(number=number):
+                self.assertEqual(self.ended(words, given, out=out, err="/dev/full"), (number, ""))
 
 
 class Examples(Room):

@@ -14,7 +14,8 @@ use Rattle.generated_script.specs.Script.{script_of}
 use Rattle.edit_script.specs.Script.{IsScriptStop}
 use Rattle.token_cli.specs.Headline.{IsLeftBy, OfBytes, OfSource, WroteWhole, WrotePart, most_bytes, reads_source, telling_of}
 use Rattle.token_cli.specs.inner.Causes.{of_read, of_words}
-use Rattle.token_cli.specs.inner.Ending.{Course, Ends, OfScript, Scripted, course}
+use Rattle.token_cli.specs.Course.{Course, course}
+use Rattle.token_cli.specs.inner.Ending.{Ends, OfScript, Scripted}
 use Rattle.token_cli.specs.declared.stop.Stop.{Stop}
 use Rattle.token_cli.specs.declared.stop.Stop.TheVariants as stop
 

@@ -1,3 +1,4 @@
+mod Decided
 mod Edits
 mod Endings
 mod JobEnds
@@ -6,6 +7,7 @@ mod Once
 mod Outcomes
 mod Pieces
 mod Places
+mod Promises
 mod Records
 mod Refusals
 mod Standing

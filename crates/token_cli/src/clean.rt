@@ -1,13 +1,11 @@
 //! A run over a source and sinks that never fail.
 
-ghost use Rattle.std.specs.Prelude.{◌≡◌, ◌≢◌, ◌<◌, ◌≤◌, ◌⊎◌, List, ℕ, None, Some, true, length};
-ghost use Rattle.edit_script.specs.Script.{EventData, IsScript};
-ghost use Rattle.command_words.specs.declared.command.Command.{Command as CommandData};
-ghost use Rattle.token_cli.specs.Headline.{asked_by, most_bytes, reads_source};
+ghost use Rattle.std.specs.Prelude.{◌≡◌, ◌≢◌, Some};
+ghost use Rattle.token_cli.specs.Headline.{asked_by};
+ghost use Rattle.token_cli.specs.Outcome.{IsStatusFor};
 
 use crate::running::run;
 use crate::status::Status;
-use command_words::Command;
 use std::alloc::Global;
 use tk_io::{CleanSource, NullSink};
 
@@ -17,21 +15,8 @@ use tk_io::{CleanSource, NullSink};
 pub fn run_clean(alloc: Global, words: &[String], src: &mut CleanSource<'_>) -> Status
     ensures read { result ≢ Status.ReadFault }
     ensures write { result ≢ Status.WriteFault }
-    ensures usage { result ≡ Status.Usage → asked_by words.now ≡ None }
-    ensures words { asked_by words.now ≡ None
-        → (result ≡ Status.Usage) ⊎ (result ≡ Status.NoMemory) }
-    ensures complete { (c : CommandData) (es : List EventData) → asked_by words.now ≡ Some c
-        → reads_source c ≡ true → length src.old ≤ most_bytes → IsScript src.old es
-        → (result ≡ Status.Done) ⊎ ((result ≡ Status.Refused) ⊎ (result ≡ Status.NoMemory)) }
-    ensures generates { (seed size : ℕ) → asked_by words.now ≡ Some (Command.Gen seed size)
-        → (result ≡ Status.Done) ⊎ ((result ≡ Status.Refused) ⊎ (result ≡ Status.NoMemory)) }
-    ensures unread { (c : CommandData) → asked_by words.now ≡ Some c → reads_source c ≡ true
-        → length src.old ≤ most_bytes → ((es : List EventData) → IsScript src.old es → ⊥)
-        → (result ≡ Status.BadScript) ⊎ (result ≡ Status.NoMemory) }
-    ensures endless { (c : CommandData) → asked_by words.now ≡ Some c → reads_source c ≡ true
-        → most_bytes < length src.old
-        → (result ≡ Status.TooLong) ⊎ (result ≡ Status.NoMemory) }
-    ensures too_long { result ≡ Status.TooLong → most_bytes < length src.old }
+    ensures decided { result ≢ Status.NoMemory
+        → IsStatusFor (asked_by words.now) (Some src.old) result }
 {
     run(
         alloc,

@@ -1,10 +1,13 @@
 //! Laws of the definitions: functions that do nothing and are called for what they ensure.
 
-ghost use Rattle.std.specs.Prelude.{◌≡◌, List, length};
+ghost use Rattle.std.specs.Prelude.{◌≡◌, ℕ, List, Option, Some, length};
 ghost use Rattle.edit_script.specs.Script.{EventData};
 ghost use Rattle.tk_io.specs.FilesData.{FilesData};
 ghost use Rattle.edit_script.specs.Delta.{Delta};
+ghost use Rattle.command_words.specs.declared.command.Command.{Command};
 ghost use Rattle.token_cli.specs.Headline.{AreCommits};
+ghost use Rattle.token_cli.specs.Outcome.{IsStatusFor};
+ghost use Rattle.token_cli.specs.declared.status.Status.{Status};
 
 use build_plain::one_build;
 
@@ -19,6 +22,14 @@ pub fn one_stream()
         (deltas changes : List Delta)
         → AreCommits es held deltas → AreCommits es others changes → length held ≡ length others
         → deltas ≡ changes }
+{
+    one_build();
+}
+
+/// A command and the bytes that a source has left have one status at most.
+pub fn one_status()
+    ensures { (command : Option Command) (script : List ℕ) (a b : Status)
+        → IsStatusFor command (Some script) a → IsStatusFor command (Some script) b → a ≡ b }
 {
     one_build();
 }

@@ -4,6 +4,7 @@
 mod building;
 mod clean;
 mod laws;
+mod numbered;
 mod reading;
 mod refusal;
 mod replaying;
@@ -18,7 +19,8 @@ mod workspace;
 pub use clean::run_clean;
 pub use command_words::{Command, WordStop, read_words};
 pub use generated_script::gen_script;
-pub use laws::one_stream;
+pub use laws::{one_status, one_stream};
+pub use numbered::run_numbered;
 pub use running::run;
 pub use status::Status;
 pub use wiring::program;

@@ -1,18 +1,13 @@
 //! Running the arguments of the command line.
 
-ghost use Rattle.std.specs.Prelude.{Some, None, Err, List, ◌⊎◌, ◌≡◌, ◌≢◌, ◌≤◌, ◌<◌, ℕ, Bool, true};
-ghost use Rattle.std.specs.Prelude.{length};
-ghost use Rattle.tk_io.specs.Causes.{Rose};
+ghost use Rattle.std.specs.Prelude.{Some, None, Err, ◌⊎◌, ◌≡◌, ◌≢◌, ◌≤◌, ℕ, true};
 ghost use Rattle.tk_io.specs.Reading.{TakesAtMost};
-ghost use Rattle.edit_script.specs.Script.{EventData, IsScript};
-ghost use Rattle.command_words.specs.declared.command.Command.{Command as CommandData};
 ghost use Rattle.generated_script.specs.Script.{script_of};
 ghost use Rattle.generated_script.specs.declared.script.TheConstants.{MOST_TOKENS};
-ghost use Rattle.token_cli.specs.inner.Ending.{Ends, Scripted, course};
-ghost use Rattle.token_cli.specs.Headline.{FailsToRead, FailsToWrite, IsScriptOf, RefusesScript};
-ghost use Rattle.token_cli.specs.Headline.{RunsOut, TakesTooMuch, WroteAll, WroteWhole, asked_by};
-ghost use Rattle.token_cli.specs.Headline.{events_for, most_bytes, reads_source, telling_of};
-ghost use Rattle.token_cli.specs.Report.{error_text, Reports, whole_status};
+ghost use Rattle.token_cli.specs.Course.{course};
+ghost use Rattle.token_cli.specs.Headline.{asked_by, most_bytes, reads_source};
+ghost use Rattle.token_cli.specs.Runs.{Runs};
+ghost use Rattle.token_cli.specs.inner.Ending.{Ends, Scripted};
 
 use crate::reading::read_events;
 use crate::replaying::write_events;
@@ -113,76 +108,15 @@ pub fn run<S: Source, K: Sink, E: Sink>(
     out: &mut K,
     err: &mut E,
 ) -> Status
-    // The headline: all was written, and no refusal is held at the end, ..
-    ensures done { result ≡ Status.Done → WroteAll (asked_by words.now)
-        (S.left src.old) (S.left src.new) Bool.false (K.written out.old) (K.written out.new) }
-    // .. or one is.
-    ensures refused { result ≡ Status.Refused → WroteAll (asked_by words.now)
-        (S.left src.old) (S.left src.new) Bool.true (K.written out.old) (K.written out.new) }
-    // Both are said exactly where all was written: where the sink tells that it was, nothing else is.
-    ensures all { (c : CommandData) (script : List ℕ) (es : List EventData)
-        (before : List ℕ) (refused : Bool)
-        → asked_by words.now ≡ Some c → IsScriptOf c (S.left src.old) script → IsScript script es
-        → K.written out.old ≡ Some before
-        → WroteWhole (telling_of c) (events_for c es) refused
-        (K.written out.old) (K.written out.new)
-        → result ≡ whole_status refused }
-    // The usage is told only of arguments that are no command, ..
-    ensures usage { result ≡ Status.Usage → asked_by words.now ≡ None }
-    // .. and of them it is, or memory ran out; nothing is read or written for them.
-    ensures words { asked_by words.now ≡ None
-        → ((result ≡ Status.Usage) ⊎ (result ≡ Status.NoMemory))
-        × (src.new ≡ src.old) × (K.written out.new ≡ K.written out.old) }
-    // `gen` reads nothing, and so nothing that reading can bring is answered.
-    ensures generated { (seed size : ℕ) → asked_by words.now ≡ Some (Command.Gen seed size)
-        → (src.new ≡ src.old) × (result ≢ Status.BadScript)
-        × (result ≢ Status.ReadFault) × (result ≢ Status.TooLong) }
-    // What was read to the end is no script, and the place where it is refused is said.
-    ensures bad_script { result ≡ Status.BadScript → (at : ℕ)
-        × RefusesScript (S.left src.old) (S.left src.new)
-        (K.written out.old) (K.written out.new) at
-        × Reports (E.written err.old) (E.written err.new) (E.faults err.old) (E.faults err.new)
-        (error_text result at) }
-    // A fault is answered only where its count rose.
-    ensures read_fault { result ≡ Status.ReadFault → FailsToRead
-        (S.faults src.old) (S.faults src.new) (K.written out.old) (K.written out.new) }
-    ensures write_fault { result ≡ Status.WriteFault → FailsToWrite (asked_by words.now)
-        (S.left src.old) (S.left src.new) (K.faults out.old) (K.faults out.new)
-        (K.written out.old) (K.written out.new) }
-    // Where memory ran out, nothing was written, or a part.
-    ensures memory { result ≡ Status.NoMemory → RunsOut (asked_by words.now)
-        (S.left src.old) (S.left src.new) (K.written out.old) (K.written out.new) }
-    // A script is too long exactly where one byte more than the limit was taken.
-    ensures too_long { result ≡ Status.TooLong → TakesTooMuch
-        (S.left src.old) (S.left src.new) (K.written out.old) (K.written out.new) }
-    ensures taken { (result ≡ Status.TooLong → ⊥)
-        → TakesAtMost most_bytes (S.left src.old) (S.left src.new) }
-    // Where the script has a reading and nothing fails, all is written, or memory ran out; ..
-    ensures complete { (c : CommandData) (script : List ℕ) (es : List EventData)
-        → asked_by words.now ≡ Some c → reads_source c ≡ true → S.left src.old ≡ Some script
-        → length script ≤ most_bytes → IsScript script es
-        → (Rose (S.faults src.old) (S.faults src.new) → ⊥)
-        → (Rose (K.faults out.old) (K.faults out.new) → ⊥)
-        → (result ≡ Status.Done) ⊎ ((result ≡ Status.Refused) ⊎ (result ≡ Status.NoMemory)) }
-    // .. for `gen`, whatever the source does.
-    ensures generates { (seed size : ℕ) → asked_by words.now ≡ Some (Command.Gen seed size)
-        → (Rose (K.faults out.old) (K.faults out.new) → ⊥)
-        → (result ≡ Status.Done) ⊎ ((result ≡ Status.Refused) ⊎ (result ≡ Status.NoMemory)) }
-    // Where the script has no reading and reading doesn't fail, that is said, or memory ran out.
-    ensures unread { (c : CommandData) (script : List ℕ)
-        → asked_by words.now ≡ Some c → reads_source c ≡ true → S.left src.old ≡ Some script
-        → length script ≤ most_bytes → ((es : List EventData) → IsScript script es → ⊥)
-        → (Rose (S.faults src.old) (S.faults src.new) → ⊥)
-        → (result ≡ Status.BadScript) ⊎ (result ≡ Status.NoMemory) }
-    // Where the script is longer than the limit and reading doesn't fail, that is said, or memory ran out.
-    ensures endless { (c : CommandData) (script : List ℕ)
-        → asked_by words.now ≡ Some c → reads_source c ≡ true → S.left src.old ≡ Some script
-        → most_bytes < length script → (Rose (S.faults src.old) (S.faults src.new) → ⊥)
-        → (result ≡ Status.TooLong) ⊎ (result ≡ Status.NoMemory) }
-    // The error text was appended whole, or a part of it was and the error sink failed.
-    ensures error { (result ≡ Status.BadScript → ⊥)
-        → Reports (E.written err.old) (E.written err.new) (E.faults err.old) (E.faults err.new)
-        (error_text result 0) }
+    // What is promised of the status, the stream, what is read and what is said.
+    ensures runs { Runs (asked_by words.now) (course (S.left src.old) (S.left src.new)
+        (S.faults src.old) (S.faults src.new) (K.written out.old) (K.written out.new)
+        (K.faults out.old) (K.faults out.new)) (E.written err.old) (E.written err.new)
+        (E.faults err.old) (E.faults err.new) result }
+    // For arguments that are no command, and for `gen`, the source is not touched.
+    ensures unread { (asked_by words.now ≡ None → src.new ≡ src.old)
+        × ((seed size : ℕ) → asked_by words.now ≡ Some (Command.Gen seed size)
+        → src.new ≡ src.old) }
 {
     one_build();
     let ended = main_job(alloc, words, src, out);

@@ -5,9 +5,9 @@ ghost use Rattle.std.specs.Process.{exit_status};
 ghost use Rattle.token_cli.specs.Report.{status_number};
 ghost use Rattle.token_cli.specs.declared.status.Status.{Status as StatusData};
 
+use crate::numbered::run_numbered;
 use crate::reporting::report;
-use crate::running::run;
-use crate::status::{Status, status_of};
+use crate::status::status_of;
 use crate::stop::Stop;
 use std::env;
 use std::io::ErrorKind;
@@ -30,18 +30,20 @@ fn words(rt: &HostRuntime) -> Result<Vec<String>, NoMemory> {
     Ok(words)
 }
 
-// Runs the arguments over the standard streams. Where they found no memory, that is said, and
-// nothing is read.
-fn run_words(rt: &HostRuntime) -> Status {
+// Runs the arguments over the standard streams, and answers the number of the status. Where they
+// found no memory, that is said, and nothing is read.
+fn run_words(rt: &HostRuntime) -> u8
+    ensures { (status : StatusData) × (result ≡ status_number status) }
+{
     let mut err = StdSink::new(rt.stderr());
     let Ok(words) = words(rt) else {
         let ended = Err(Stop::NoMemory);
         report(&mut err, ended);
-        return status_of(ended);
+        return status_of(ended).number();
     };
     let mut src = StdSource::new(rt.stdin());
     let mut out = StdSink::new(rt.stdout());
-    run(rt.alloc(), words.as_slice(), &mut src, &mut out, &mut err)
+    run_numbered(rt.alloc(), words.as_slice(), &mut src, &mut out, &mut err)
 }
 
 /// Does what the arguments say: reads the script from standard input, writes the stream to standard
@@ -49,5 +51,5 @@ fn run_words(rt: &HostRuntime) -> Status {
 pub fn program(rt: &HostRuntime) -> ExitCode
     ensures { (status : StatusData) × (exit_status result ≡ status_number status) }
 {
-    ExitCode::from(run_words(rt).number())
+    ExitCode::from(run_words(rt))
 }

@@ -4,6 +4,7 @@ use Rattle.tk_io.specs.Causes.{Rose}
 use Rattle.edit_script.specs.Script.{EventData, IsScript, IsScriptStop}
 use Rattle.command_words.specs.declared.command.Command.{Command}
 use Rattle.token_cli.specs.Report.{error_text}
+use Rattle.token_cli.specs.Course.{Course}
 use Rattle.token_cli.specs.Headline.{events_for, telling_of, WroteWhole, WrotePart, WroteAll, RefusesScript, FailsToRead, FailsToWrite, RunsOut, TakesTooMuch}
 use Rattle.token_cli.specs.declared.telling.Telling.{Telling}
 use Rattle.token_cli.specs.declared.stop.Stop.{Stop}
@@ -61,29 +62,6 @@ Scripted (Err (stop.BadScript at)) c script old new before now = (new ≡ old) �
 Scripted (Err stop.Usage) c script old new before now = ⊥
 Scripted (Err stop.ReadFault) c script old new before now = ⊥
 Scripted (Err stop.TooLong) c script old new before now = ⊥
-
--- what a source had left before and after, what a sink held, and the counts of their faults
-pub record Course : Type 0 where
-  pub left : Option (List ℕ)
-  pub rest : Option (List ℕ)
-  pub reads : ℕ
-  pub reads_now : ℕ
-  pub old : Option (List ℕ)
-  pub new : Option (List ℕ)
-  pub writes : ℕ
-  pub writes_now : ℕ
-
-abbrev pub course : Option (List ℕ) → Option (List ℕ) → ℕ → ℕ → Option (List ℕ) → Option (List ℕ) → ℕ → ℕ → Course
-course left rest reads reads_now old new writes writes_now = record {
-  left = left;
-  rest = rest;
-  reads = reads;
-  reads_now = reads_now;
-  old = old;
-  new = new;
-  writes = writes;
-  writes_now = writes_now;
-}
 
 -- how the main job ends: all was written, or why not
 abbrev pub Ends : Result Bool Stop → Option Command → Course → Type 0

@@ -4,7 +4,8 @@ use Rattle.command_words.specs.Words.{IsInBounds}
 use Rattle.command_words.specs.declared.command.Command.{Command}
 use Rattle.token_cli.specs.Headline.{asked_by}
 use Rattle.token_cli.specs.inner.Causes.{of_words}
-use Rattle.token_cli.specs.inner.Ending.{Ends, course}
+use Rattle.token_cli.specs.Course.{course}
+use Rattle.token_cli.specs.inner.Ending.{Ends}
 use Rattle.token_cli.proofs.JobEnds.{ends_err, generated_ends, words_end}
 use Rattle.token_cli.proofs.running.main_job.Goals as goal
 

@@ -1,6 +1,7 @@
 use Rattle.std.proofs.Common.{List, ℕ, Some, Err, ap, subst}
 use Rattle.token_cli.specs.inner.Causes.{of_read}
-use Rattle.token_cli.specs.inner.Ending.{Scripted, course}
+use Rattle.token_cli.specs.Course.{course}
+use Rattle.token_cli.specs.inner.Ending.{Scripted}
 use Rattle.token_cli.proofs.JobEnds.{ends_err, not_long, read_ends, source_ends}
 use Rattle.token_cli.proofs.running.tell_source.Goals as goal
 
