@@ -16,3 +16,4 @@ mod Limits
 mod ListsAnswer
 mod NamesApart
 mod InlineParts
+mod ChoicesInOrder

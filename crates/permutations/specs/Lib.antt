@@ -8,6 +8,8 @@
 -- * the permutations of a resolver are one for each way to choose a context for each modifier, the
 --   last modifier fastest, each with its name and its sources in order; too many of them, or of the
 --   sources of one, are told exactly, up to a million (`list`: `perms`, `within`, `fault`)
+-- * the choices are all ways to pick one of each item, each once, the contexts of a modifier in
+--   their order and the first item weighing most, and as many as the product (`choice_laws`)
 -- * each plan is within the limits, or beyond one of them (`each_list_answers`)
 -- * names of different choices are different, and so are the names of a document's permutations
 --   where contexts of one modifier differ in name; a set comes to what its sources come to
@@ -15,6 +17,7 @@
 
 pub mod Name
 pub mod Permutation
+pub mod Choices
 pub mod View
 pub mod Answer
 pub mod Laws

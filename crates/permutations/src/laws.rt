@@ -1,8 +1,17 @@
 //! Laws of the definitions alone, for the layers above.
 
+ghost use Rattle.permutations.specs.Choices.{ChoicesAreCounted, ChoicesArePicks, PicksAreChoices};
 ghost use Rattle.permutations.specs.Laws.{EachListAnswers, InlinesArePart, NamesAreApart};
 ghost use Rattle.permutations.specs.Laws.{SetsComeToTheirSources};
 ghost use Rattle.permutations.specs.Name.{NamesTellChoices};
+
+/// The choices of a document are all ways to pick one of each item, each once: the contexts of a modifier in their order,
+/// and the first item weighing most. They are as many as the product of the picks of the items.
+pub fn choice_laws()
+    ensures all { PicksAreChoices }
+    ensures picks { ChoicesArePicks }
+    ensures count { ChoicesAreCounted }
+{}
 
 /// The name of a permutation tells which context is chosen for each modifier. Where the contexts of each modifier have
 /// different names, no two permutations have one name.

@@ -15,6 +15,6 @@ mod perm;
 mod table;
 
 pub use fault::{LAST_NUMBER, ListFault, MOST_PERMUTATIONS, MOST_SOURCES};
-pub use laws::{each_list_answers, name_laws, source_laws};
+pub use laws::{choice_laws, each_list_answers, name_laws, source_laws};
 pub use listing::list;
 pub use perm::{Perm, Perms, Source, Sources};
