@@ -5,7 +5,7 @@ use Rattle.name_path.specs.declared.place.Place.{Place}
 use Rattle.alias_ref.specs.Written.{Step, Container, Written, leaf, parts, refers, misspelled, WrittenPlaces, whole, part, is_reference, is_written}
 use Rattle.alias_ref.specs.Meaning.{Goes, arrived, onward, Settles}
 use Rattle.alias_ref.specs.Visits.{Visit, visit, lost, Way, goes_on, since, same_place, go_if, steps_from, way_of, settled, settle_by, pass_written, unless_stands, pass_visits, visits_each, at_end, walk_written, walk_visits}
-use Rattle.alias_ref.specs.Asking.{by_walking as walking, by_passing as passing, for_part, for_step, for_target, Asks, Chain, starts, links_last, links, Lacks, lacks_none, lacks, Differ, differ_none, differ_more, IsRingOfPlaces, ring}
+use Rattle.alias_ref.specs.Asking.{Manner, by_walking as walking, by_passing as passing, AsksFor, for_part, for_step, for_target, for_next, Asks, Chain, starts, links_last, links, Lacks, lacks_none, lacks, Differ, differ_none, differ_more, IsRingOfPlaces, ring}
 use Rattle.alias_ref.proofs.WaysSettle.{DoSettle, way_of-leads, settle_by-settles, pass_visits-settles}
 use Rattle.alias_ref.proofs.SamePlaces.{same_place-is, place_same}
 
@@ -77,11 +77,19 @@ module _ (T : WrittenPlaces) where
     | inr e ↦ since-ring p b r (Chain-rest ch) (Differ-rest df) e
   ]
 
-  -- whatever is passed or walked below a place that may ask for it is good
-  abbrev pub GoodBelow : (Place → List Visit) → Place → Type 0
-  GoodBelow f p = (q : Place) → Asks T p q → Each (Good T) (f q)
+-- What holds of each visit by how its place is visited and below which branch, where it holds of the first and of whatever is asked for.
 
-  settled_each : (pass : Place → Way) (p q : Place) (b : Bool) → is_reference (T q) ≡ b → (is_reference (T q) ≡ true → Each (Good T) (pass q).seen) → Each (Good T) (settled b pass q).seen
+-- a visit that is so in some manner
+abbrev pub HasBy : (Manner → List Place → Place → Type 0) → Visit → Type 0
+HasBy Q (visit b p) = (m : Manner) × Q m b p
+HasBy Q (lost p) = Unit {0}
+
+module _ (T : WrittenPlaces) (Q : Manner → List Place → Place → Type 0) (on : (m n : Manner) (b : List Place) (p q : Place) → Q m b p → is_some (since p b) ≡ false → AsksFor T m p n q → Q n (b ++ p ∷ []) q) where
+  -- whatever is passed or walked below a place that may ask for it is so
+  abbrev IsSoBelow : (Place → List Visit) → Manner → Place → Manner → Type 0
+  IsSoBelow f m p n = (q : Place) → AsksFor T m p n q → Each (HasBy Q) (f q)
+
+  settled_each : (pass : Place → Way) (p q : Place) (b : Bool) → is_reference (T q) ≡ b → (is_reference (T q) ≡ true → Each (HasBy Q) (pass q).seen) → Each (HasBy Q) (settled b pass q).seen
   settled_each pass p q true e h = h e
   settled_each pass p q false e h = tt
 
@@ -89,83 +97,97 @@ module _ (T : WrittenPlaces) where
   Goes-end arrived s a w = onward a w arrived
   Goes-end (onward b x g) s a w = onward b x (Goes-end g s a w)
 
-  module _ (pass : Place → Way) (ok : DoSettle T pass) (home : Place) (t : List Step) (all : List Step) (is : T home ≡ Some (refers t all)) (w0 : is_written (T (whole t)) ≡ true) (good : GoodBelow (λ q. (pass q).seen) home) where
-    steps_each : (p : Place) (before steps : List Step) → all ≡ before ++ steps → Goes T (whole t) before p → Each (Good T) (steps_from T (settle_by T pass) home p steps).seen
+  module _ (pass : Place → Way) (ok : DoSettle T pass) (manner : Manner) (home : Place) (t : List Step) (all : List Step) (is : T home ≡ Some (refers t all)) (w0 : is_written (T (whole t)) ≡ true) (below : IsSoBelow (λ q. (pass q).seen) manner home passing) where
+    steps_each : (p : Place) (before steps : List Step) → all ≡ before ++ steps → Goes T (whole t) before p → Each (HasBy Q) (steps_from T (settle_by T pass) home p steps).seen
     unfolding steps_from
     steps_each p before [] e g = tt
     steps_each p before (s ∷ steps) e g =
         let settle : Place → Way = settle_by T pass in
         let next : Place → Way = λ x. go_if (is_written (T (part x s))) home (steps_from T settle home (part x s) steps) in
-        goes_on_each (Good T) (settle p).seen (settle p).ends next
-        (settled_each pass home p (is_reference (T p)) refl (λ r. good p (walking, passing, for_step before steps s is w0 e g r)))
-        (λ q k. go_if_each (Good T) (is_written (T (part q s))) home (steps_from T settle home (part q s) steps) tt
+        goes_on_each (HasBy Q) (settle p).seen (settle p).ends next
+        (settled_each pass home p (is_reference (T p)) refl (λ r. below p (for_step before steps s is w0 e g r)))
+        (λ q k. go_if_each (HasBy Q) (is_written (T (part q s))) home (steps_from T settle home (part q s) steps) tt
         (λ w. steps_each (part q s) (before ++ s ∷ []) steps (e ∙ sym (append_assoc before (s ∷ []) steps)) (Goes-end g s (settle_by-settles T pass ok p q k) w)))
 
-  way_each : (pass : Place → Way) → DoSettle T pass → (home : Place) (t : List Step) (steps : List Step) → T home ≡ Some (refers t steps) → GoodBelow (λ q. (pass q).seen) home → Each (Good T) (way_of T (settle_by T pass) home t steps).seen
-  way_each pass ok home t steps is good =
-      go_if_each (Good T) (is_written (T (whole t))) home (steps_from T (settle_by T pass) home (whole t) steps) tt
-      (λ w. steps_each pass ok home t steps is w good (whole t) [] steps refl arrived)
+  way_each : (pass : Place → Way) → DoSettle T pass → (manner : Manner) (home : Place) (t : List Step) (steps : List Step) → T home ≡ Some (refers t steps) → IsSoBelow (λ q. (pass q).seen) manner home passing → Each (HasBy Q) (way_of T (settle_by T pass) home t steps).seen
+  way_each pass ok manner home t steps is below =
+      go_if_each (HasBy Q) (is_written (T (whole t))) home (steps_from T (settle_by T pass) home (whole t) steps) tt
+      (λ w. steps_each pass ok manner home t steps is w below (whole t) [] steps refl arrived)
 
-  pass_written_each : (pass : Place → Way) → DoSettle T pass → (p : Place) (o : Option Written) → T p ≡ o → GoodBelow (λ q. (pass q).seen) p → Each (Good T) (pass_written T (settle_by T pass) p o).seen
-  pass_written_each pass ok p (Some (refers t steps)) e good =
+  pass_written_each : (pass : Place → Way) → DoSettle T pass → (p : Place) (o : Option Written) → T p ≡ o → IsSoBelow (λ q. (pass q).seen) passing p passing → Each (HasBy Q) (pass_written T (settle_by T pass) p o).seen
+  pass_written_each pass ok p (Some (refers t steps)) e below =
       let settle : Place → Way = settle_by T pass in
       let w : Way = way_of T settle p t steps in
-      goes_on_each (Good T) w.seen w.ends settle (way_each pass ok p t steps e good)
-      (λ q k. settled_each pass p q (is_reference (T q)) refl (λ r. good q (walking, walking, for_target (way_of-leads T settle (settle_by-settles T pass ok) p q t steps e k))))
-  pass_written_each pass ok p (Some misspelled) e good = tt
-  pass_written_each pass ok p (Some (leaf n)) e good = tt
-  pass_written_each pass ok p (Some (parts c steps)) e good = tt
-  pass_written_each pass ok p None e good = tt
+      goes_on_each (HasBy Q) w.seen w.ends settle (way_each pass ok passing p t steps e below)
+      (λ q k. settled_each pass p q (is_reference (T q)) refl (λ r. below q (for_next (way_of-leads T settle (settle_by-settles T pass ok) p q t steps e k) r)))
+  pass_written_each pass ok p (Some misspelled) e below = tt
+  pass_written_each pass ok p (Some (leaf n)) e below = tt
+  pass_written_each pass ok p (Some (parts c steps)) e below = tt
+  pass_written_each pass ok p None e below = tt
 
-  unless_each : (b : Bool) (w : Way) → (b ≡ false → Each (Good T) w.seen) → Each (Good T) (unless_stands b w).seen
+  unless_each : (b : Bool) (w : Way) → (b ≡ false → Each (HasBy Q) w.seen) → Each (HasBy Q) (unless_stands b w).seen
   unless_each true w h = tt
   unless_each false w h = h refl
 
-  longer : (b : List Place) (p q : Place) → Chain T b p → Differ b → is_some (since p b) ≡ false → Asks T p q → Chain T (b ++ p ∷ []) q × Differ (b ++ p ∷ [])
-  longer b p q ch df s a = (Chain-end ch a, Differ-end df (since-lacks p b s))
-
-  pub pass_visits-good : (n : ℕ) (b : List Place) (p : Place) → Chain T b p → Differ b → Each (Good T) (pass_visits T n b p).seen
+  pub pass_each : (n : ℕ) (b : List Place) (p : Place) → Q passing b p → Each (HasBy Q) (pass_visits T n b p).seen
   unfolding pass_visits
-  pass_visits-good zero b p ch df = ((ch, df), tt)
-  pass_visits-good (suc n) b p ch df =
+  pass_each zero b p h = ((passing, h), tt)
+  pass_each (suc n) b p h =
       let pass : Place → Way = pass_visits T n (b ++ p ∷ []) in (
-        (ch, df),
+        (passing, h),
         unless_each (is_some (since p b)) (pass_written T (settle_by T pass) p (T p))
             (λ s. pass_written_each pass (pass_visits-settles T n (b ++ p ∷ [])) p (T p) refl
-            (λ q a. let l = longer b p q ch df s a in pass_visits-good n (b ++ p ∷ []) q l.0 l.1)),
+            (λ q a. pass_each n (b ++ p ∷ []) q (on passing passing b p q h s a))),
       )
 
-  each_part : {c : Container} (walk : Place → List Visit) (p : Place) (all before steps : List Step) → T p ≡ Some (parts c all) → all ≡ before ++ steps → GoodBelow walk p → Each (Good T) (visits_each walk p steps)
+  each_part : {c : Container} (walk : Place → List Visit) (p : Place) (all before steps : List Step) → T p ≡ Some (parts c all) → all ≡ before ++ steps → IsSoBelow walk walking p walking → Each (HasBy Q) (visits_each walk p steps)
   unfolding visits_each
-  each_part walk p all before [] is e good = tt
-  each_part walk p all before (s ∷ steps) is e good =
-      Each-append (Good T) (walk (part p s)) (visits_each walk p steps) (good (part p s) (walking, walking, for_part before steps s is e))
-      (each_part walk p all (before ++ s ∷ []) steps is (e ∙ sym (append_assoc before (s ∷ []) steps)) good)
+  each_part walk p all before [] is e below = tt
+  each_part walk p all before (s ∷ steps) is e below =
+      Each-append (HasBy Q) (walk (part p s)) (visits_each walk p steps) (below (part p s) (for_part before steps s is e))
+      (each_part walk p all (before ++ s ∷ []) steps is (e ∙ sym (append_assoc before (s ∷ []) steps)) below)
 
-  walk_written_each : (pass : Place → Way) → DoSettle T pass → (walk : Place → List Visit) (p : Place) (o : Option Written) → T p ≡ o → GoodBelow (λ q. (pass q).seen) p → GoodBelow walk p → Each (Good T) (walk_written T (settle_by T pass) walk p o)
-  walk_written_each pass ok walk p (Some (refers t steps)) e good goods =
+  walk_written_each : (pass : Place → Way) → DoSettle T pass → (walk : Place → List Visit) (p : Place) (o : Option Written) → T p ≡ o → IsSoBelow (λ q. (pass q).seen) walking p passing → IsSoBelow walk walking p walking → Each (HasBy Q) (walk_written T (settle_by T pass) walk p o)
+  walk_written_each pass ok walk p (Some (refers t steps)) e below walks =
       let settle : Place → Way = settle_by T pass in
       let w : Way = way_of T settle p t steps in
-      at_end_each (Good T) w.seen w.ends walk (way_each pass ok p t steps e good)
-      (λ q k. goods q (walking, walking, for_target (way_of-leads T settle (settle_by-settles T pass ok) p q t steps e k)))
-  walk_written_each pass ok walk p (Some misspelled) e good goods = tt
-  walk_written_each pass ok walk p (Some (leaf n)) e good goods = tt
-  walk_written_each pass ok walk p (Some (parts c steps)) e good goods = each_part walk p steps [] steps e refl goods
-  walk_written_each pass ok walk p None e good goods = tt
+      at_end_each (HasBy Q) w.seen w.ends walk (way_each pass ok walking p t steps e below)
+      (λ q k. walks q (for_target (way_of-leads T settle (settle_by-settles T pass ok) p q t steps e k)))
+  walk_written_each pass ok walk p (Some misspelled) e below walks = tt
+  walk_written_each pass ok walk p (Some (leaf n)) e below walks = tt
+  walk_written_each pass ok walk p (Some (parts c steps)) e below walks = each_part walk p steps [] steps e refl walks
+  walk_written_each pass ok walk p None e below walks = tt
 
-  if_each : (b : Bool) (es : List Visit) → (b ≡ false → Each (Good T) es) → Each (Good T) (cond b [] es)
+  if_each : (b : Bool) (es : List Visit) → (b ≡ false → Each (HasBy Q) es) → Each (HasBy Q) (cond b [] es)
   if_each true es h = tt
   if_each false es h = h refl
 
-  pub walk_visits-good : (n : ℕ) (b : List Place) (p : Place) → Chain T b p → Differ b → Each (Good T) (walk_visits T n b p)
+  pub walk_each : (n : ℕ) (b : List Place) (p : Place) → Q walking b p → Each (HasBy Q) (walk_visits T n b p)
   unfolding walk_visits
-  walk_visits-good zero b p ch df = ((ch, df), tt)
-  walk_visits-good (suc n) b p ch df =
+  walk_each zero b p h = ((walking, h), tt)
+  walk_each (suc n) b p h =
       let pass : Place → Way = pass_visits T n (b ++ p ∷ []) in
       let walk : Place → List Visit = walk_visits T n (b ++ p ∷ []) in (
-        (ch, df),
+        (walking, h),
         if_each (is_some (since p b)) (walk_written T (settle_by T pass) walk p (T p))
             (λ s. walk_written_each pass (pass_visits-settles T n (b ++ p ∷ [])) walk p (T p) refl
-            (λ q a. let l = longer b p q ch df s a in pass_visits-good n (b ++ p ∷ []) q l.0 l.1)
-            (λ q a. let l = longer b p q ch df s a in walk_visits-good n (b ++ p ∷ []) q l.0 l.1)),
+            (λ q a. pass_each n (b ++ p ∷ []) q (on walking passing b p q h s a))
+            (λ q a. walk_each n (b ++ p ∷ []) q (on walking walking b p q h s a))),
       )
+
+-- The places of a branch differ, and each asks for the next.
+
+abbrev IsChain : WrittenPlaces → Manner → List Place → Place → Type 0
+IsChain T m b p = Chain T b p × Differ b
+
+module _ (T : WrittenPlaces) where
+  longer : (m n : Manner) (b : List Place) (p q : Place) → IsChain T m b p → is_some (since p b) ≡ false → AsksFor T m p n q → IsChain T n (b ++ p ∷ []) q
+  longer m n b p q h s a = (Chain-end T h.0 (m, n, a), Differ-end h.1 (since-lacks p b s))
+
+  good_of : (es : List Visit) → Each (HasBy (IsChain T)) es → Each (Good T) es
+  good_of [] h = tt
+  good_of (visit b p ∷ es) h = (h.0.1, good_of es h.1)
+  good_of (lost p ∷ es) h = (tt, good_of es h.1)
+
+  pub walk_visits-good : (n : ℕ) (b : List Place) (p : Place) → Chain T b p → Differ b → Each (Good T) (walk_visits T n b p)
+  walk_visits-good n b p ch df = good_of (walk_visits T n b p) (walk_each T (IsChain T) longer n b p (ch, df))

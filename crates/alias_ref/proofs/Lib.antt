@@ -26,6 +26,8 @@ mod WalksInTurns
 mod PartsMean
 mod LinksAreReal
 mod BreaksAreReal
+mod LimitsAreReal
+mod PlacesAreThere
 mod VisitsAreSound
 mod ContentsOfValues
 mod IndexedItems
@@ -37,6 +39,7 @@ mod TracesGrow
 mod Weights
 mod RefsInTurn
 mod SpansInTurn
+mod SpansStand
 mod AnswersAreOne
 mod PlainViews
 mod LiteralsInTurn

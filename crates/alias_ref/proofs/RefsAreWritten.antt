@@ -33,16 +33,16 @@ In-either u (x ∷ xs) ys (inr h) = elim (In-either u xs ys h) [
   | inr k ↦ inr k
 ]
 
-role_from : Role → List Step → Role
+unfoldable pub role_from : Role → List Step → Role
 role_from role [] = role
 role_from role (s ∷ trail) = role_at_end s trail
 
-role_on : (s : Step) (trail : List Step) → role_from (role_behind s) trail ≡ role_at_end s trail
+pub role_on : (s : Step) (trail : List Step) → role_from (role_behind s) trail ≡ role_at_end s trail
 unfolding role_from
 role_on s [] = refl
 role_on s (r ∷ trail) = refl
 
-role_begins : (own_ref : Bool) (trail : List Step) → role_from (role_at own_ref []) trail ≡ role_at own_ref trail
+pub role_begins : (own_ref : Bool) (trail : List Step) → role_from (role_at own_ref []) trail ≡ role_at own_ref trail
 unfolding role_from
 role_begins true [] = refl
 role_begins false [] = refl

@@ -1,5 +1,5 @@
 -- What the definitions come to.
-use Rattle.std.specs.Prelude.{◌≡◌, ◌≢◌, ◌↔◌, ◌<◌, ◌≤◌, ℕ, List, [], length, true, false, Option, Some, None}
+use Rattle.std.specs.Prelude.{◌≡◌, ◌≢◌, ◌↔◌, ◌<◌, ◌≤◌, ℕ, List, [], ◌∷◌, ◌++◌, length, true, false, Option, Some, None}
 use Rattle.std.specs.FinMap as flat_map
 use Rattle.std.specs.Str.{IsUtf8}
 use Rattle.tk_io.specs.Order.{names_cmp}
@@ -18,8 +18,8 @@ use Rattle.group_inherit.specs.Flattening.{Flattened}
 use Rattle.alias_ref.specs.References.{alias_named, place_named}
 use Rattle.alias_ref.specs.Written.{Step, refers, misspelled, WrittenPlaces, whole, is_reference, is_misspelled, is_written, Role, written_as, written_at, written_in}
 use Rattle.alias_ref.specs.Meaning.{Leads, Settles, Means}
-use Rattle.alias_ref.specs.Visits.{RefBreak, most_on_branch, walk_break}
-use Rattle.alias_ref.specs.Asking.{Manner, Lacks, IsRingOfPlaces, IsVisited}
+use Rattle.alias_ref.specs.Visits.{Visit, visit, RefBreak, most_on_branch, most_visits, walked, walk_break}
+use Rattle.alias_ref.specs.Asking.{Manner, Chain, Differ, Lacks, IsRingOfPlaces, IsVisited}
 use Rattle.alias_ref.specs.Kinds.{Kinds, KindOf, LinksAt, IsLink, own_in, group_in}
 use Rattle.alias_ref.specs.PlainParts.{plain_at, Below}
 use Rattle.alias_ref.specs.Depth.{LinkDepth}
@@ -57,14 +57,47 @@ OneLinks = (T : WrittenPlaces) (own group : Kinds) (p : Place) (ls ms : List Lin
 abbrev pub RingsAreReal : Type 0
 RingsAreReal = (T : WrittenPlaces) (token : List Step) (p : Place) (ring : List Place) → walk_break T token ≡ Some (record { rule = rule.Cycle; place = p; ring = ring }) → IsRingOfPlaces T ring
 
--- what is told of a wrong spelling or of a lost target holds at the place that is told
-pub record IsTold (T : WrittenPlaces) (b : RefBreak) : Type 0 where
+-- each visit of a token's walk is one by the rules of visits
+abbrev pub VisitsAreVisited : Type 0
+VisitsAreVisited = (T : WrittenPlaces) (token : List Step) (before after : List Visit) (b : List Place) (p : Place) → walked T [] (whole token) ≡ before ++ visit b p ∷ after
+    → (m : Manner) × IsVisited T token b m p
+
+-- the walk visits the place below as many places as may stand on a branch, or more: they differ, each asks for the next, and the last for this one
+pub record IsTooDeep (T : WrittenPlaces) (token : List Step) (p : Place) : Type 0 where
+  pub branch : List Place
+  pub long : most_on_branch ≤ length branch
+  pub manner : Manner
+  pub visited : IsVisited T token branch manner p
+  pub apart : Differ branch
+  pub chain : Chain T branch p
+
+-- as many visits as there may be, or more, come in the token's walk before one of this place
+pub record IsTooBig (T : WrittenPlaces) (token : List Step) (p : Place) : Type 0 where
+  pub before : List Visit
+  pub branch : List Place
+  pub after : List Visit
+  pub split : walked T [] (whole token) ≡ before ++ visit branch p ∷ after
+  pub many : most_visits ≤ length before
+
+-- what is told of a break holds at the place that is told: of a wrong spelling, of a lost target, of a branch that is too long, and of too many visits
+pub record IsTold (T : WrittenPlaces) (token : List Step) (b : RefBreak) : Type 0 where
   pub syntax : b.rule ≡ rule.RefSyntax → T b.place ≡ Some misspelled
   pub target : b.rule ≡ rule.RefTarget → (is_reference (T b.place) ≡ true) × ((q : Place) → Leads T b.place q → ⊥)
+  pub deep : b.rule ≡ rule.Deep → IsTooDeep T token b.place
+  pub big : b.rule ≡ rule.Big → IsTooBig T token b.place
+  pub of_walk : b.rule ≢ rule.NoType
   pub ring : b.rule ≢ rule.Cycle → b.ring ≡ []
 
 abbrev pub BreaksAreReal : Type 0
-BreaksAreReal = (T : WrittenPlaces) (token : List Step) (b : RefBreak) → walk_break T token ≡ Some b → IsTold T b
+BreaksAreReal = (T : WrittenPlaces) (token : List Step) (b : RefBreak) → walk_break T token ≡ Some b → IsTold T token b
+
+-- the place is one in a token that is there
+abbrev pub HasToken : Flat → Place → Type 0
+HasToken flat p = (f : Flattened) × (flat_map.get flat p.token ≡ Some f)
+
+-- a break is told at a place in a token that is there
+abbrev pub PlacesAreThere : Type 0
+PlacesAreThere = (flat : Flat) (token : List Step) (f : Flattened) (b : RefBreak) → flat_map.get flat token ≡ Some f → walk_break (written_in flat) token ≡ Some b → HasToken flat b.place
 
 -- a token without a break means something
 abbrev pub UnbrokenMeans : Type 0

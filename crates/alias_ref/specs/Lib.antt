@@ -17,8 +17,9 @@
 --   its value, in written order (`evaluate`, `evaluate_entry`: `resolved`)
 -- * a refused token is told its first break: that of its walk, else that nothing gives it a kind; a
 --   cycle that is told is real: its places differ, each asks for the next, and the last for the
---   first; each call is one step, whatever it answers (`evaluate`, `evaluate_entry`: `broken`,
---   `ring`, `step`; `breaks_are_real`)
+--   first; so are a branch that is too long and visits that are too many; each call is one step,
+--   whatever it answers (`evaluate`, `evaluate_entry`: `broken`, `ring`, `step`; `breaks_are_real`,
+--   `visits_are_visited`)
 -- * the answer is decided by the flat tree and the path; a token without a break means something,
 --   and whatever its walk visits is new on its branch, spelled well and leads somewhere
 --   (`one_answer`, `unbroken_tokens`)
@@ -27,7 +28,8 @@
 --   decided by a test (`unbroken_tokens`: `kind`, `links`; `meanings_fit`, `differ_decides`)
 -- * the tokens named by a value are those of its written references, in written order, decided by
 --   the definition's source alone; a place has the span of the written value to which its steps
---   lead (`refs_of`, `span_of`; `refs_are_written`, `source_decides`)
+--   lead, and one behind a reference that of the reference (`refs_of`, `span_of`;
+--   `refs_are_written`, `source_decides`, `spans_stand`)
 -- * where no walk of references leads from a token to a path whose raw entry differs, two flat
 --   trees, whose tokens there are what their sources show, have the same break, meaning, kind and
 --   links of it, wherever the spans stand; what is written in a token and shown beside its value is

@@ -1,9 +1,11 @@
 //! Laws over the definitions alone, for the layers above.
 
 ghost use Rattle.alias_ref.specs.Answer.{OneResolved, OneFirstBreak, NeverBoth};
+ghost use Rattle.alias_ref.specs.Span.{SpansStand};
 ghost use Rattle.alias_ref.specs.Unchanged.{DifferDecides};
 ghost use Rattle.alias_ref.specs.Laws.{AliasesNamed, PointersNamed, OneLead, OneEnd, OneMeaning};
 ghost use Rattle.alias_ref.specs.Laws.{OneKind, OneLinks, RingsAreReal, BreaksAreReal};
+ghost use Rattle.alias_ref.specs.Laws.{PlacesAreThere, VisitsAreVisited};
 ghost use Rattle.alias_ref.specs.Laws.{UnbrokenMeans, UnbrokenIsSound, UnbrokenDepth};
 ghost use Rattle.alias_ref.specs.Laws.{UnbrokenHasKind, UnbrokenHasLinks, MeaningsFit, PartsMean};
 ghost use Rattle.alias_ref.specs.Laws.{LinksAreReal, LinksAreAll, SourceDecides, RefsOfSource};
@@ -31,11 +33,19 @@ pub fn one_meaning()
     ensures links { OneLinks }
 {}
 
-/// What is told of a break holds: a ring is one, a wrong spelling stands where it is told, and a reference whose target is
-/// lost leads nowhere.
+/// Each visit of a token's walk is one by the rules of visits, below its branch: of the token's whole value, or of a place
+/// that the last place of the branch asks for.
+pub fn visits_are_visited()
+    ensures { VisitsAreVisited }
+{}
+
+/// What is told of a break holds: a ring is one, a wrong spelling stands where it is told, a reference whose target is
+/// lost leads nowhere, and where a branch is too long or visits are too many, so many there are. The place that is told is
+/// one in a token that is there.
 pub fn breaks_are_real()
     ensures ring { RingsAreReal }
     ensures told { BreaksAreReal }
+    ensures there { PlacesAreThere }
 {}
 
 /// A token without a break means something; whatever its walk visits is new on its branch, spelled well, and leads
@@ -71,6 +81,12 @@ pub fn source_decides()
     ensures written { SourceDecides }
     ensures refs { RefsOfSource }
     ensures shown { ShownBySource }
+{}
+
+/// The span of a place is that of the value that stands there; of a place behind a reference that of the reference, and of
+/// one that leads to nothing that of the last value on the way.
+pub fn spans_stand()
+    ensures { SpansStand }
 {}
 
 /// The tokens that a value names are those of the references that are written in it.
