@@ -1,6 +1,6 @@
 //! The fragment of a token.
 
-ghost use Rattle.std.specs.Prelude.{◌≡◌, [], ◌∷◌, option_map, IfOk, OnOk};
+ghost use Rattle.std.specs.Prelude.{◌≡◌, [], ◌∷◌, option_map, IfOk, OnOk, OnErr};
 ghost use Rattle.transforms.specs.View.{frame_view};
 ghost use Rattle.composite_rules.specs.Sound.{IsTyped, kind_of};
 ghost use Rattle.css_out.specs.PlatformValue.{can_spell};
@@ -156,7 +156,7 @@ fn written<'a>(
 /// link of the part's kind stands is spelled as `var()` of the link's token, where references are spelled as such. A value
 /// that CSS can't spell, dashes and families with a character that is not printable, gives no name and a comment.
 ///
-/// The draft holds the lines and nothing else, whatever it held before. The value is one that a token can have. The text is
+/// The draft holds the lines and nothing else, whatever it held before; on `NoMemory` it is empty. The value is one that a token can have. The text is
 /// read as the declarations of the names where the name and those of the links' targets are names of CSS, as tokens have
 /// them.
 pub fn fragment<'a>(
@@ -172,8 +172,14 @@ pub fn fragment<'a>(
     ensures names { IfOk result (λ names. names ≡ names_under name.now typed.now) }
     ensures body { OnOk result (draft.new ≡ text_under cfg.now name.now links.now typed.now) }
     ensures reads { OnOk result (IsReadUnder cfg.now name.now links.now typed.now draft.new) }
+    ensures cleared { OnErr result (draft.new ≡ []) }
 {
     has_room(typed);
-    let names = written(alloc, draft, name, typed, links, cfg)?;
-    Ok(names)
+    match written(alloc, draft, name, typed, links, cfg) {
+        Ok(names) => Ok(names),
+        Err(NoMemory) => {
+            draft.truncate(0);
+            Err(NoMemory)
+        }
+    }
 }

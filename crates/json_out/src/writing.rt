@@ -1,6 +1,6 @@
 //! The fragment of a token.
 
-ghost use Rattle.std.specs.Prelude.{◌≡◌, ◌∷◌, ◌++◌, option_map, codes, OnOk};
+ghost use Rattle.std.specs.Prelude.{◌≡◌, [], ◌∷◌, ◌++◌, option_map, codes, OnOk, OnErr};
 ghost use Rattle.std.specs.List.{flat_map};
 ghost use Rattle.tk_io.specs.Characters.{full_stop};
 ghost use Rattle.json_span.specs.Spelling.{inside_text, string_text};
@@ -172,7 +172,7 @@ fn write_member(
 /// its value with all parts, and after them what is given of a description, extensions and a mark of deprecation. The
 /// extensions stand as they are given, byte by byte. A member declares no name of a platform, so none is handed back.
 ///
-/// The draft holds the member and nothing else, whatever it held before. The text is read as this member and nothing else,
+/// The draft holds the member and nothing else, whatever it held before; on `NoMemory` it is empty. The text is read as this member and nothing else,
 /// where the value is one that a token can have and the extensions are the text of a JSON value.
 pub fn fragment(
     draft: &mut Bytes,
@@ -185,8 +185,14 @@ pub fn fragment(
         ≡ fragment_text path.now typed.now (extras_view extras.now)) }
     ensures reads { IsTyped typed.now
         → OnOk result (IsReadAsMember path.now typed.now (extras_view extras.now) draft.new) }
+    ensures cleared { OnErr result (draft.new ≡ []) }
 {
     are_bytes(path, typed, extras);
-    write_member(draft, path, typed, extras)?;
-    Ok(())
+    match write_member(draft, path, typed, extras) {
+        Ok(()) => Ok(()),
+        Err(NoMemory) => {
+            *draft = draft.fresh();
+            Err(NoMemory)
+        }
+    }
 }

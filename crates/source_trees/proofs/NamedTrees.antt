@@ -1,5 +1,5 @@
 -- Trees of the files of names, one name after another.
-use Rattle.std.proofs.Common.{◌≡◌, ℕ, ◌+◌, ◌<◌, ◌≤◌, Bool, true, false, cond, List, [], ◌∷◌, ◌++◌, Option, Some, None, is_some, refl, sym, ap, ◌∙◌, subst, drop, length, get_or, arith}
+use Rattle.std.proofs.Common.{◌≡◌, ℕ, ◌+◌, ◌<◌, ◌≤◌, Bool, true, false, cond, List, [], ◌∷◌, ◌++◌, Option, Some, None, is_some, refl, sym, ap, ◌∙◌, subst, drop, length, get_or, arith, append_assoc, Result, Ok, Err, OnErr}
 use Rattle.std.specs.BTreeMap.{is_at}
 use Rattle.std.specs.Cmp.Lexicographic.{nat_list_cmp_total}
 use Rattle.std.specs.FinMap as finite
@@ -13,10 +13,14 @@ use Rattle.file_plan.specs.View.{plan_perm_view, plan_view}
 use Rattle.file_plan.specs.declared.source.PlanPerm.{PlanPerm}
 use Rattle.file_plan.specs.declared.tree.Tree.{Tree}
 use Rattle.file_plan.proofs.FilesInUse.{named_absent, named_seen, named_new, among_all, no_fewer, in_use_append}
-use Rattle.source_trees.specs.Reading.{AddsTrees, CountsAdded, CountsAtMost}
+use Rattle.source_trees.specs.Reading.{AddsFront, AddsTrees, CountsAdded, CountsAtMost}
 
 abbrev Trees : Type 0
 Trees = finite.FinMap text_cmp Tree
+
+pub on_err : {T E P : Type 0} (r : Result T E) → P → OnErr r P
+on_err (Ok x) p = tt
+on_err (Err x) p = p
 
 module _ (files : FilesData) where
   -- No name.
@@ -48,6 +52,32 @@ module _ (files : FilesData) where
   pub most_first : (xs ys : List (List ℕ)) (a : Trees) (p q : ℕ) → CountsAtMost files xs a p q → CountsAtMost files (xs ++ ys) a p q
   most_first xs ys a p q front seen among are =
       omega (arith, front seen among are, no_fewer files ys (in_use_by files seen xs), ap finite.len (in_use_append files xs ys seen))
+
+  -- The first of names.
+
+  pub front_none : (names : List (List ℕ)) (old : Trees) → AddsFront files names old old
+  front_none names old = record { front = []; rest = names; split = refl; adds = adds_none old }
+
+  pub front_more : (xs ys : List (List ℕ)) (a b c : Trees) → AddsTrees files xs a b → AddsFront files ys b c → AddsFront files (xs ++ ys) a c
+  front_more xs ys a b c adds behind = record {
+    front = xs ++ behind.front;
+    rest = behind.rest;
+    split = ap (λ l. xs ++ l) behind.split ∙ sym (append_assoc xs behind.front behind.rest);
+    adds = adds_more xs behind.front a b c adds behind.adds;
+  }
+
+  pub front_first : (xs ys : List (List ℕ)) (a b : Trees) → AddsFront files xs a b → AddsFront files (xs ++ ys) a b
+  front_first xs ys a b first = record {
+    front = first.front;
+    rest = first.rest ++ ys;
+    split = ap (λ l. l ++ ys) first.split ∙ append_assoc first.front first.rest ys;
+    adds = first.adds;
+  }
+
+  -- .. where nothing changed, whatever the answer is
+  pub front_same : {T E : Type 0} (r : Result T E) (names : List (List ℕ)) (old new : Trees) → OnErr r (new ≡ old) → OnErr r (AddsFront files names old new)
+  front_same (Ok x) names old new e = tt
+  front_same (Err x) names old new e = subst (λ (m : Trees). AddsFront files names old m) (sym e) (front_none names old)
 
   -- One name.
 

@@ -1,5 +1,5 @@
 -- Trees of the files of names, beside the trees of those seen.
-use Rattle.std.specs.Prelude.{◌≡◌, ◌≤◌, ◌+◌, ℕ, List}
+use Rattle.std.specs.Prelude.{◌≡◌, ◌≤◌, ◌+◌, ℕ, List, ◌++◌}
 use Rattle.std.specs.FinMap as finite
 use Rattle.tk_io.specs.FilesData.{FilesData}
 use Rattle.tk_io.specs.Order.{text_cmp}
@@ -11,6 +11,13 @@ use Rattle.file_plan.specs.declared.tree.Tree.{Tree}
 abbrev pub AddsTrees : FilesData → List (List ℕ) → finite.FinMap text_cmp Tree → finite.FinMap text_cmp Tree → Type 0
 AddsTrees files names old new =
     (seen : FilesData) → AreAmong seen files → AreTreesIn seen old → AreTreesIn (in_use_by files seen names) new
+
+-- those of the files of the first of these names
+pub record AddsFront (files : FilesData) (names : List (List ℕ)) (old new : finite.FinMap text_cmp Tree) : Type 0 where
+  pub front : List (List ℕ)
+  pub rest : List (List ℕ)
+  pub split : names ≡ front ++ rest
+  pub adds : AddsTrees files front old new
 
 -- the number rises by one for each file that was not seen
 abbrev pub CountsAdded : FilesData → List (List ℕ) → finite.FinMap text_cmp Tree → ℕ → ℕ → Type 0

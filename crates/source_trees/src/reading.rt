@@ -1,10 +1,10 @@
 //! Files that are read, each once.
 
-ghost use Rattle.std.specs.Prelude.{◌≡◌, [], ◌∷◌, None, OnOk};
+ghost use Rattle.std.specs.Prelude.{◌≡◌, [], ◌∷◌, None, OnOk, OnErr};
 ghost use Rattle.std.specs.FinMap as map;
 ghost use Rattle.file_plan.specs.InUse.{source_names, names_in, file_names};
 ghost use Rattle.file_plan.specs.View.{plan_source_view, plan_sources_view, plan_view};
-ghost use Rattle.source_trees.specs.Reading.{AddsTrees, CountsAdded, CountsAtMost};
+ghost use Rattle.source_trees.specs.Reading.{AddsFront, AddsTrees, CountsAdded, CountsAtMost};
 
 use file_plan::{Files, PlanPerm, PlanSource, Trees, read_tree};
 use std::alloc::Global;
@@ -21,6 +21,7 @@ fn read_new<'s, L: Ledger>(
 ) -> Result<(), NoMemory>
     requires { map.get trees.old name.now ≡ None }
     ensures trees { OnOk result (AddsTrees files.now (name.now ∷ []) trees.old trees.new) }
+    ensures err { OnErr result (AddsFront files.now (name.now ∷ []) trees.old trees.new) }
     ensures steps { OnOk result
         (CountsAdded files.now (name.now ∷ []) trees.old parses.old parses.new) }
     ensures at_most { CountsAtMost files.now (name.now ∷ []) trees.old parses.old parses.new }
@@ -43,6 +44,7 @@ fn read_once<'s, L: Ledger>(
     parses: &mut Steps<L>,
 ) -> Result<(), NoMemory>
     ensures trees { OnOk result (AddsTrees files.now (name.now ∷ []) trees.old trees.new) }
+    ensures err { OnErr result (AddsFront files.now (name.now ∷ []) trees.old trees.new) }
     ensures steps { OnOk result
         (CountsAdded files.now (name.now ∷ []) trees.old parses.old parses.new) }
     ensures at_most { CountsAtMost files.now (name.now ∷ []) trees.old parses.old parses.new }
@@ -62,6 +64,8 @@ fn read_source<'s, L: Ledger>(
 ) -> Result<(), NoMemory>
     ensures trees { OnOk result
         (AddsTrees files.now (source_names (plan_source_view source.now)) trees.old trees.new) }
+    ensures err { OnErr result
+        (AddsFront files.now (source_names (plan_source_view source.now)) trees.old trees.new) }
     ensures steps { OnOk result (CountsAdded files.now (source_names (plan_source_view source.now))
         trees.old parses.old parses.new) }
     ensures at_most { CountsAtMost files.now (source_names (plan_source_view source.now))
@@ -82,6 +86,8 @@ fn read_sources<'s, L: Ledger>(
 ) -> Result<(), NoMemory>
     ensures trees { OnOk result
         (AddsTrees files.now (names_in (plan_sources_view sources.now)) trees.old trees.new) }
+    ensures err { OnErr result
+        (AddsFront files.now (names_in (plan_sources_view sources.now)) trees.old trees.new) }
     ensures steps { OnOk result (CountsAdded files.now (names_in (plan_sources_view sources.now))
         trees.old parses.old parses.new) }
     ensures at_most { CountsAtMost files.now (names_in (plan_sources_view sources.now))
@@ -104,6 +110,9 @@ pub fn read_named<'s, L: Ledger>(
 ) -> Result<(), NoMemory>
     ensures trees { OnOk result
         (AddsTrees files.now (file_names (plan_view plan.now)) trees.old trees.new) }
+    // Where memory runs out, those of the files of the first names are added, and no others.
+    ensures err { OnErr result
+        (AddsFront files.now (file_names (plan_view plan.now)) trees.old trees.new) }
     ensures steps { OnOk result
         (CountsAdded files.now (file_names (plan_view plan.now)) trees.old parses.old parses.new) }
     // Where memory runs out, some files are not read.

@@ -1,6 +1,7 @@
 //! The names of tokens on platforms.
 
-ghost use Rattle.std.specs.Prelude.{◌≡◌, ◌++◌, ◌∷◌, ◌<◌, true, length, codes, IfOk, OnOk};
+ghost use Rattle.std.specs.Prelude.{◌≡◌, [], ◌++◌, ◌∷◌, ◌<◌, true, length, codes, IfOk, OnOk};
+ghost use Rattle.std.specs.Prelude.{OnErr};
 ghost use Rattle.std.specs.List.{flat_map, list_all};
 ghost use Rattle.std.specs.Str.{bytes_eq};
 ghost use Rattle.name_path.specs.Names.{IsTokenPath, root_name};
@@ -186,9 +187,28 @@ fn write_identifier(
     Ok(())
 }
 
+// Writes the name in place of what the buffer holds; on `NoMemory` the buffer holds anything.
+fn name_in(
+    alloc: Global,
+    platform: Platform,
+    path: &Path<'_>,
+    cfg: &Config,
+    name: &mut Bytes,
+) -> Result<(), NoMemory>
+    ensures is { OnOk result (name.new ≡ name_on platform cfg.now.prefix path.now) }
+    ensures named { OnOk result (IsTokenPath path.now → is_name_on platform name.new ≡ true) }
+{
+    let prefix = cfg.prefix.as_slice();
+    match platform {
+        Platform::Css => write_property(prefix, path, name),
+        Platform::Android => write_identifier(alloc, Platform::Android, prefix, path, name),
+        Platform::Swift => write_identifier(alloc, Platform::Swift, prefix, path, name),
+    }
+}
+
 /// Writes the name of the token at the path in place of what the buffer holds: the prefix and the path's names without a
 /// last `$root`, character by character. On CSS they are joined by `-` after `--`, elsewhere by `_`, with a `_` before a
-/// leading digit. The path `$root` alone has the name `root`. On `NoMemory` the buffer holds anything.
+/// leading digit. The path `$root` alone has the name `root`. On `NoMemory` the buffer is empty.
 pub fn write_name(
     alloc: Global,
     platform: Platform,
@@ -199,12 +219,14 @@ pub fn write_name(
     ensures is { OnOk result (name.new ≡ name_on platform cfg.now.prefix path.now) }
     // A path that a token can have gives a name of the platform's language.
     ensures named { OnOk result (IsTokenPath path.now → is_name_on platform name.new ≡ true) }
+    ensures cleared { OnErr result (name.new ≡ []) }
 {
-    let prefix = cfg.prefix.as_slice();
-    match platform {
-        Platform::Css => write_property(prefix, path, name),
-        Platform::Android => write_identifier(alloc, Platform::Android, prefix, path, name),
-        Platform::Swift => write_identifier(alloc, Platform::Swift, prefix, path, name),
+    match name_in(alloc, platform, path, cfg, name) {
+        Ok(()) => Ok(()),
+        Err(NoMemory) => {
+            name.truncate(0);
+            Err(NoMemory)
+        }
     }
 }
 

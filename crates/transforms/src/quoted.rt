@@ -1,7 +1,8 @@
 //! Texts between quotes.
 
-ghost use Rattle.std.specs.Prelude.{◌≡◌, ◌++◌, OnOk};
+ghost use Rattle.std.specs.Prelude.{◌≡◌, ◌++◌, OnOk, OnErr};
 ghost use Rattle.std.specs.List.{flat_map};
+ghost use Rattle.tk_io.specs.Writing.{Extends};
 ghost use Rattle.transforms.specs.Quoted.{is_printable_char, is_printable, escaped_character};
 
 use tk_io::{Bytes, NoMemory};
@@ -21,7 +22,8 @@ pub fn is_printable(text: &str) -> bool
 }
 
 fn append_escape(out: &mut Bytes, c: u8) -> Result<(), NoMemory>
-    ensures { OnOk result (out.new ≡ out.old ++ escaped_character c) }
+    ensures ok { OnOk result (out.new ≡ out.old ++ escaped_character c) }
+    ensures err { OnErr result (out.new ≡ out.old) }
 {
     if c == b'"' || c == b'\\' {
         return out.append(&[b'\\', c]);
@@ -29,9 +31,10 @@ fn append_escape(out: &mut Bytes, c: u8) -> Result<(), NoMemory>
     out.append(&[c])
 }
 
-/// Appends the text as it stands between quotes: with a `\` before each `"` and `\`.
+/// Appends the text as it stands between quotes: with a `\` before each `"` and `\`; of a refusal a part may stay.
 pub fn append_escaped(out: &mut Bytes, text: &[u8]) -> Result<(), NoMemory>
-    ensures { OnOk result (out.new ≡ out.old ++ flat_map escaped_character text.now) }
+    ensures ok { OnOk result (out.new ≡ out.old ++ flat_map escaped_character text.now) }
+    ensures err { OnErr result (Extends out.old out.new) }
 {
     for c in text {
         append_escape(out, *c)?;

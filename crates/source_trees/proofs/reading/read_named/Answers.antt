@@ -1,12 +1,12 @@
 use Rattle.std.proofs.Common.{◌+◌, [], drop, sym, subst, ap}
 use Rattle.file_plan.specs.InUse.{names_in, file_names}
 use Rattle.file_plan.specs.View.{plan_sources_view, plan_view}
-use Rattle.source_trees.specs.Reading.{AddsTrees, CountsAdded, CountsAtMost}
-use Rattle.source_trees.proofs.NamedTrees.{next_perms, no_perms, adds_none, counts_none, adds_more, counts_more, most_more, most_first, at_most}
+use Rattle.source_trees.specs.Reading.{AddsFront, AddsTrees, CountsAdded, CountsAtMost}
+use Rattle.source_trees.proofs.NamedTrees.{next_perms, no_perms, adds_none, counts_none, adds_more, front_more, front_first, on_err, counts_more, most_more, most_first, at_most}
 use Rattle.source_trees.proofs.reading.read_named.Goals as goal
 
 pub loop-perm-init : goal.loop-perm-init
-loop-perm-init g c = record { trees = λ new a. a; steps = λ n a. a; most = λ n a. a }
+loop-perm-init g c = record { trees = λ new a. a; front = λ new a. a; steps = λ n a. a; most = λ n a. a }
 
 pub loop-perm-preserved : goal.loop-perm-preserved
 loop-perm-preserved g c =
@@ -21,6 +21,8 @@ loop-perm-preserved g c =
     record {
       trees = λ new a. c.loop-perm.invariant.trees new
           (subst (λ ns. AddsTrees files ns c.loop-perm.trees new) (sym next) (adds_more files x xs c.loop-perm.trees c.read_sources.new.trees new adds a));
+      front = λ new a. c.loop-perm.invariant.front new
+          (subst (λ ns. AddsFront files ns c.loop-perm.trees new) (sym next) (front_more files x xs c.loop-perm.trees c.read_sources.new.trees new adds a));
       steps = λ n a. c.loop-perm.invariant.steps n
           (subst (λ ns. CountsAdded files ns c.loop-perm.trees c.loop-perm.parses n) (sym next) (counts_more files x xs c.loop-perm.trees c.read_sources.new.trees c.loop-perm.parses c.read_sources.new.parses n adds counts a));
       most = λ n a. c.loop-perm.invariant.most n
@@ -39,6 +41,19 @@ returns-in_err-read_sources-clause-at_most g c =
     (subst (λ ns. CountsAtMost files ns c.loop-perm.trees c.loop-perm.parses c.read_sources.new.parses) (sym next)
     (most_first files x xs c.loop-perm.trees c.loop-perm.parses c.read_sources.new.parses
     (subst (λ l. CountsAtMost files (names_in (plan_sources_view l)) c.loop-perm.trees c.loop-perm.parses c.read_sources.new.parses) c.as_slice.ensures c.in_err-read_sources.ensures.at_most)))
+
+pub returns-in_err-read_sources-clause-err : goal.returns-in_err-read_sources-clause-err
+returns-in_err-read_sources-clause-err g c =
+    let files = c.args.files.now in
+    let plan = c.args.plan.now in
+    let i = c.loop-perm.perm-index in
+    let x = names_in (plan_sources_view c.perm-item.result.sources) in
+    let xs = file_names (plan_view (drop (i + 1) plan)) in
+    let next = ap file_names (next_perms plan i c.perm-item.result c.loop-perm-test.true c.perm-item.is) in
+    on_err c.from_residual.result
+    (c.loop-perm.invariant.front c.read_sources.new.trees
+    (subst (λ ns. AddsFront files ns c.loop-perm.trees c.read_sources.new.trees) (sym next)
+    (front_first files x xs c.loop-perm.trees c.read_sources.new.trees (subst (λ l. AddsFront files (names_in (plan_sources_view l)) c.loop-perm.trees c.read_sources.new.trees) c.as_slice.ensures c.in_err-read_sources.ensures.err))))
 
 pub returns-clause-trees : goal.returns-clause-trees
 returns-clause-trees g c =
