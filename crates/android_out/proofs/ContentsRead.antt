@@ -11,14 +11,14 @@ use Rattle.transforms.specs.Runs.{PassesNumbers}
 use Rattle.transforms.proofs.RunsAreFirst.{all-append, numbers_pass, numbers_start}
 use Rattle.transforms.proofs.Spelled.{both as together}
 use Rattle.android_out.specs.Element.{Content, color, dimen, integer, item, string, tag_of}
-use Rattle.android_out.specs.Reading.{hex_color_in, numbered, is_unit, with_unit, alone, whole_alone, content_in, no_tag}
+use Rattle.android_out.specs.Reading.{hex_color_in, numbered, is_unit, with_unit, alone, whole_alone, content_in, no_markup}
 use Rattle.android_out.specs.Spelling.{content_text}
 
 -- a digit in upper case
 record IsDigit (n : ℕ) : Type 0 where
   value : digit_value (to_ascii_uppercase (digit_char n)) ≡ n
   hexadecimal : is_ascii_hexdigit (to_ascii_uppercase (digit_char n)) ≡ true
-  plain : no_tag (to_ascii_uppercase (digit_char n)) ≡ true
+  plain : no_markup (to_ascii_uppercase (digit_char n)) ≡ true
 
 digit : (n : ℕ) → n < 16 → IsDigit n
 digit zero h = record { value = refl; hexadecimal = refl; plain = refl }
@@ -56,7 +56,7 @@ color_read a r g b ha hr hg hb =
     ∙ ap (λ x. Some (color a r x (hex_value (hex_byte b)))) (byte_value g hg)
     ∙ ap (λ x. Some (color a r g x)) (byte_value b hb))
 
-color_plain : (a r g b : ℕ) → a < 256 → r < 256 → g < 256 → b < 256 → list_all no_tag (hex_color (a ∷ r ∷ g ∷ b ∷ [])) ≡ true
+color_plain : (a r g b : ℕ) → a < 256 → r < 256 → g < 256 → b < 256 → list_all no_markup (hex_color (a ∷ r ∷ g ∷ b ∷ [])) ≡ true
 color_plain a r g b ha hr hg hb =
     let alpha = two_digits a ha in let red = two_digits r hr in
     let green = two_digits g hg in let blue = two_digits b hb in
@@ -76,18 +76,18 @@ unit_ends (c ∷ w) h = let l = both (is_ascii_alphabetic c) (list_all is_ascii_
 dimen_read : (d : Decimal) (u : List ℕ) → IsDec d → is_unit u ≡ true → numbered with_unit (spelling d ++ u) ≡ Some (dimen d u)
 dimen_read d u h is = number_read with_unit d u h (unit_ends u is) ∙ rw is refl
 
-no_tag_passes : PassesNumbers no_tag
-no_tag_passes = record { digit = λ c h. grind arith; minus = refl; point = refl }
+no_markup_passes : PassesNumbers no_markup
+no_markup_passes = record { digit = λ c h. grind arith; minus = refl; point = refl }
 
-number_plain : (d : Decimal) → IsDec d → list_all no_tag (spelling d) ≡ true
-number_plain d h = numbers_pass no_tag no_tag_passes d h
+number_plain : (d : Decimal) → IsDec d → list_all no_markup (spelling d) ≡ true
+number_plain d h = numbers_pass no_markup no_markup_passes d h
 
-letters_plain : (w : List ℕ) → list_all is_ascii_alphabetic w ≡ true → list_all no_tag w ≡ true
+letters_plain : (w : List ℕ) → list_all is_ascii_alphabetic w ≡ true → list_all no_markup w ≡ true
 letters_plain [] h = refl
 letters_plain (c ∷ w) h =
-    let l = both (is_ascii_alphabetic c) (list_all is_ascii_alphabetic w) h in let a : no_tag c ≡ true = grind (arith, l.0) in together (no_tag c) (list_all no_tag w) a (letters_plain w l.1)
+    let l = both (is_ascii_alphabetic c) (list_all is_ascii_alphabetic w) h in let a : no_markup c ≡ true = grind (arith, l.0) in together (no_markup c) (list_all no_markup w) a (letters_plain w l.1)
 
-unit_plain : (u : List ℕ) → is_unit u ≡ true → list_all no_tag u ≡ true
+unit_plain : (u : List ℕ) → is_unit u ≡ true → list_all no_markup u ≡ true
 unit_plain [] h = cc
 unit_plain (c ∷ w) h = letters_plain (c ∷ w) h
 
@@ -97,7 +97,7 @@ pub data IsFine : Content → Type 0 where
   fine_dimen : (d : Decimal) (u : List ℕ) → IsDec d → is_unit u ≡ true → IsFine (dimen d u)
   fine_integer : (d : Decimal) → IsDec d → (d.s == 0) ≡ true → IsFine (integer d)
   fine_item : (d : Decimal) → IsDec d → IsFine (item d)
-  fine_string : (t : List ℕ) → list_all no_tag t ≡ true → IsFine (string t)
+  fine_string : (t : List ℕ) → list_all no_markup t ≡ true → IsFine (string t)
 
 pub fine_read : {c : Content} → IsFine c → content_in (tag_of c) (content_text c) ≡ Some c
 fine_read (fine_color a r g b ha hr hg hb) = color_read a r g b ha hr hg hb
@@ -106,9 +106,9 @@ fine_read (fine_integer d h whole) = alone_read whole_alone d h ∙ rw whole ref
 fine_read (fine_item d h) = alone_read (λ e. alone (item e)) d h
 fine_read (fine_string t h) = refl
 
-pub fine_plain : {c : Content} → IsFine c → list_all no_tag (content_text c) ≡ true
+pub fine_plain : {c : Content} → IsFine c → list_all no_markup (content_text c) ≡ true
 fine_plain (fine_color a r g b ha hr hg hb) = color_plain a r g b ha hr hg hb
-fine_plain (fine_dimen d u h is) = all-append no_tag (spelling d) u (number_plain d h) (unit_plain u is)
+fine_plain (fine_dimen d u h is) = all-append no_markup (spelling d) u (number_plain d h) (unit_plain u is)
 fine_plain (fine_integer d h whole) = number_plain d h
 fine_plain (fine_item d h) = number_plain d h
 fine_plain (fine_string t h) = h

@@ -1,5 +1,6 @@
 mod BlocksJoin
 mod ContentsRead
+mod ElementsAreTagged
 mod OneReading
 mod OwnNamesApart
 mod SheetsDenote

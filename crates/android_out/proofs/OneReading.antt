@@ -8,7 +8,8 @@ use Rattle.transforms.specs.declared.platform.Platform.TheVariants.{Android}
 use Rattle.transforms.proofs.Endings.{kept_name}
 use Rattle.transforms.proofs.RunsAreFirst.{runs_once}
 use Rattle.android_out.specs.Element.{Content, Values, Tag, color_tag, dimen_tag, integer_tag, item_tag, string_tag, tag_of, tag_name, attributes, element_text}
-use Rattle.android_out.specs.Reading.{content_in, no_tag, IsElement, is_blank, after_comment, Block, ended, blank_byte, comment, element, head, foot, Reads}
+use Rattle.android_out.proofs.ElementsAreTagged.{element_is}
+use Rattle.android_out.specs.Reading.{content_in, no_markup, IsElement, is_blank, after_comment, Block, ended, blank_byte, comment, element, head, foot, Reads}
 
 -- the tag whose name begins so
 abbrev tag_at : List ℕ → Option Tag
@@ -62,10 +63,10 @@ pub record AreSame (name other : List ℕ) (content another : Content) (s t : Li
   pub contents : content ≡ another
   pub rests : s ≡ t
 
-inside_once : (tag other : Tag) (same : tag ≡ other) (a b : List ℕ) (content another : Content) (s t : List ℕ) → list_all no_tag a ≡ true → list_all no_tag b ≡ true
+inside_once : (tag other : Tag) (same : tag ≡ other) (a b : List ℕ) (content another : Content) (s t : List ℕ) → list_all no_markup a ≡ true → list_all no_markup b ≡ true
     → content_in tag a ≡ Some content → content_in other b ≡ Some another → a ++ (60 ∷ behind_content tag s) ≡ b ++ (60 ∷ behind_content other t) → (content ≡ another) × (s ≡ t)
 inside_once tag other same a b content another s t h i x y e =
-    let (inside, behind) = runs_once no_tag a b 60 (behind_content tag s) (behind_content other t) h i refl e in
+    let (inside, behind) = runs_once no_markup a b 60 (behind_content tag s) (behind_content other t) h i refl e in
     let P : Tag → Type 0 = λ z. content_in z b ≡ Some another in
     let Q : Tag → Type 0 = λ z. behind_content tag s ≡ behind_content z t in
     let some : Some content ≡ Some another = sym x ∙ ap (content_in tag) inside ∙ subst P (sym same) y in
@@ -82,7 +83,7 @@ elements_once text other name another content said s t x y e =
     let tag = tag_of content in
     let more = tag_of said in
     let long : 60 ∷ (tag_name tag ++ behind_tag tag name x.inside s) ≡ 60 ∷ (tag_name more ++ behind_tag more another y.inside t) =
-    sym (spread tag name x.inside s) ∙ ap (λ z. z ++ s) (sym x.whole) ∙ e ∙ ap (λ z. z ++ t) y.whole ∙ spread more another y.inside t in
+    sym (spread tag name x.inside s) ∙ ap (λ z. z ++ s) (sym (element_is x)) ∙ e ∙ ap (λ z. z ++ t) (element_is y) ∙ spread more another y.inside t in
     let open_ : tag_name tag ++ behind_tag tag name x.inside s ≡ tag_name more ++ behind_tag more another y.inside t = cc in
     let some : Some tag ≡ Some more = sym (tag_again tag (behind_tag tag name x.inside s)) ∙ ap tag_at open_ ∙ tag_again more (behind_tag more another y.inside t) in
     let same : tag ≡ more = cc in
@@ -106,7 +107,7 @@ begins : (t text name rest : List ℕ) (content : Content) → t ≡ text ++ res
 begins t text name rest content e is = record {
   tag = tag_of content;
   more = behind_tag (tag_of content) name is.inside rest;
-  whole = e ∙ ap (λ z. z ++ rest) is.whole ∙ spread (tag_of content) name is.inside rest;
+  whole = e ∙ ap (λ z. z ++ rest) (element_is is) ∙ spread (tag_of content) name is.inside rest;
 }
 
 no_blank : (c : ℕ) → is_blank c ≡ true → c ≡ 60 → ⊥

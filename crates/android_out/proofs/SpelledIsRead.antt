@@ -1,24 +1,25 @@
 -- What is spelled is read as it is.
-use Rattle.std.proofs.Common.{◌≡◌, ℕ, ◌==◌, not, Bool, true, false, List, [], ◌∷◌, ◌++◌, flat_map, refl, subst, append_assoc, codes, Some, arith}
+use Rattle.std.proofs.Common.{◌≡◌, ℕ, ◌==◌, not, Bool, true, false, List, [], ◌∷◌, ◌++◌, flat_map, refl, sym, subst, append_assoc, codes, Some, arith}
 use Rattle.std.specs.List.{list_all, AllByRecursion}
 use Rattle.dec_fix.proofs.Again.{both}
 use Rattle.transforms.specs.PlatformName.{is_kept, is_identifier}
 use Rattle.transforms.specs.declared.platform.Platform.TheVariants.{Android}
 use Rattle.transforms.proofs.Endings.{kept_name}
 use Rattle.android_out.specs.Element.{Content, Values, tag_of, element_text}
-use Rattle.android_out.specs.Reading.{content_in, no_tag, IsElement, after_comment, Block, ended, blank_byte, comment, element}
+use Rattle.android_out.proofs.ElementsAreTagged.{tagged}
+use Rattle.android_out.specs.Reading.{content_in, no_markup, IsElement, after_comment, Block, ended, blank_byte, comment, element}
 use Rattle.android_out.specs.Spelling.{content_text, line_text, omitted_text, body_text}
 
 -- a name and a content that are read as they are spelled
 pub record IsSpellable (v : List ℕ × Content) : Type 0 where
   pub named : is_identifier v.0 ≡ true
-  pub plain : list_all no_tag (content_text v.1) ≡ true
+  pub plain : list_all no_markup (content_text v.1) ≡ true
   pub says : content_in (tag_of v.1) (content_text v.1) ≡ Some v.1
 
 line_read : (v : List ℕ × Content) (t : List ℕ) (ws : Values) → IsSpellable v → Block t ws → Block (line_text v ++ t) (v ∷ ws)
 line_read v t ws h b =
     let text = element_text (tag_of v.1) v.0 (content_text v.1) in
-    let is : IsElement text v.0 v.1 = record { inside = content_text v.1; whole = refl; named = h.named; plain = h.plain; says = h.says } in
+    let is : IsElement text v.0 v.1 = record { inside = content_text v.1; whole = sym (tagged (tag_of v.1) v.0 (content_text v.1)); named = h.named; plain = h.plain; says = h.says } in
     let regroup : (text ++ codes "\n") ++ t ≡ text ++ (10 ∷ t) = append_assoc text (codes "\n") t in
     let behind : Block (10 ∷ t) ws = blank_byte (10 ∷ t) 10 t ws refl refl b in
     let whole : Block ((text ++ codes "\n") ++ t) (v ∷ ws) = element ((text ++ codes "\n") ++ t) text v.0 (10 ∷ t) v.1 ws regroup is behind in

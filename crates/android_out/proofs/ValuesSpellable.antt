@@ -38,7 +38,7 @@ use Rattle.composite_rules.specs.declared.typed.Typed.TheVariants as typed
 use Rattle.composite_rules.specs.declared.typography.Typography.{Typography}
 use Rattle.android_out.specs.Element.{Content, color, integer, item, string}
 use Rattle.android_out.specs.PlatformValue.{is_srgb, component_color, digits_color, color_content, is_rem, size_content, whole_content, milliseconds_in, is_plain_char, are_family_words, family_content, simple_content, one_value, unless_omitted, android_values}
-use Rattle.android_out.specs.Reading.{no_tag, is_unit}
+use Rattle.android_out.specs.Reading.{no_markup, is_unit}
 use Rattle.android_out.specs.inner.Written.{when_some, words_from}
 use Rattle.android_out.proofs.Words.{words_by_bytes}
 use Rattle.android_out.proofs.ContentsRead.{IsFine, fine_color, fine_dimen, fine_integer, fine_item, fine_string, fine_read, fine_plain}
@@ -154,18 +154,18 @@ fine_milliseconds Ms d h = exact_dec d h
 fine_milliseconds S d h = times_dec d 1000 h (omega arith)
 
 -- families
-plain_byte : (c : ℕ) → is_plain_char c ≡ true → no_tag c ≡ true
+plain_byte : (c : ℕ) → is_plain_char c ≡ true → no_markup c ≡ true
 plain_byte c h = grind (arith, nat_tests)
 
-words_plain : (b : Bool) (t : List ℕ) → words_from b t ≡ true → list_all no_tag t ≡ true
+words_plain : (b : Bool) (t : List ℕ) → words_from b t ≡ true → list_all no_markup t ≡ true
 words_plain b [] h = refl
 words_plain b (c ∷ t) h = at (λ x i. words_plain x t i) (c == 32) refl (is_plain_char c) refl b h
   where
-    at : ((x : Bool) → words_from x t ≡ true → list_all no_tag t ≡ true) → (s : Bool) → (c == 32) ≡ s → (k : Bool) → is_plain_char c ≡ k → (b : Bool)
-        → when_some (λ x. words_from x t) (if s then (if b then Some false else None) else (if k then Some true else None)) ≡ true → list_all no_tag (c ∷ t) ≡ true
-    at again true e k f true h = let a : no_tag c ≡ true = grind (arith, nat_tests, e) in together (no_tag c) (list_all no_tag t) a (again false h)
+    at : ((x : Bool) → words_from x t ≡ true → list_all no_markup t ≡ true) → (s : Bool) → (c == 32) ≡ s → (k : Bool) → is_plain_char c ≡ k → (b : Bool)
+        → when_some (λ x. words_from x t) (if s then (if b then Some false else None) else (if k then Some true else None)) ≡ true → list_all no_markup (c ∷ t) ≡ true
+    at again true e k f true h = let a : no_markup c ≡ true = grind (arith, nat_tests, e) in together (no_markup c) (list_all no_markup t) a (again false h)
     at again true e k f false h = cc
-    at again false e true f b h = together (no_tag c) (list_all no_tag t) (plain_byte c f) (again true h)
+    at again false e true f b h = together (no_markup c) (list_all no_markup t) (plain_byte c f) (again true h)
     at again false e false f b h = cc
 
 fine_family : (families : List (List ℕ)) → AreFine (family_content families)

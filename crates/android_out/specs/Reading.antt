@@ -9,7 +9,7 @@ use Rattle.dec_fix.specs.Following.{number_at}
 use Rattle.transforms.specs.Hexadecimal.{hex_value}
 use Rattle.transforms.specs.PlatformName.{is_identifier}
 use Rattle.transforms.specs.Runs.{starts_number}
-use Rattle.android_out.specs.Element.{Content, color, dimen, integer, item, string, Values, Tag, color_tag, dimen_tag, integer_tag, item_tag, string_tag, tag_of, element_text}
+use Rattle.android_out.specs.Element.{Content, color, dimen, integer, item, string, Values, Tag, color_tag, dimen_tag, integer_tag, item_tag, string_tag, tag_of}
 
 -- `#` and eight hexadecimal digits
 abbrev pub eight_digits : List ℕ → Option Content
@@ -50,23 +50,41 @@ content_in integer_tag t = numbered whole_alone t
 content_in item_tag t = numbered (λ d. alone (item d)) t
 content_in string_tag t = Some (string t)
 
--- what a tag begins and ends with
+-- what a tag begins and ends with, and a reference to a character
 abbrev pub less_than : ℕ
 less_than = 60
 
 abbrev pub greater_than : ℕ
 greater_than = 62
 
--- not the start of a tag
-abbrev pub no_tag : ℕ → Bool
-no_tag c = not (c == less_than)
+abbrev pub ampersand : ℕ
+ampersand = 38
+
+-- Neither the start of a tag nor of a reference: text that an XML reader takes as it stands.
+abbrev pub no_markup : ℕ → Bool
+no_markup c = not (c == less_than) && not (c == ampersand)
+
+-- an element's start tag up to the value of its attribute `name`, and its end tag
+abbrev pub before_name : Tag → List ℕ
+before_name color_tag = codes "<color name=\""
+before_name dimen_tag = codes "<dimen name=\""
+before_name integer_tag = codes "<integer name=\""
+before_name item_tag = codes "<item type=\"dimen\" format=\"float\" name=\""
+before_name string_tag = codes "<string name=\""
+
+abbrev pub end_tag : Tag → List ℕ
+end_tag color_tag = codes "</color>"
+end_tag dimen_tag = codes "</dimen>"
+end_tag integer_tag = codes "</integer>"
+end_tag item_tag = codes "</item>"
+end_tag string_tag = codes "</string>"
 
 -- The text is an element of this name which says this.
 pub record IsElement (text name : List ℕ) (content : Content) : Type 0 where
   pub inside : List ℕ
-  pub whole : text ≡ element_text (tag_of content) name inside
+  pub whole : text ≡ before_name (tag_of content) ++ (name ++ (codes "\">" ++ (inside ++ end_tag (tag_of content))))
   pub named : is_identifier name ≡ true
-  pub plain : list_all no_tag inside ≡ true
+  pub plain : list_all no_markup inside ≡ true
   pub says : content_in (tag_of content) inside ≡ Some content
 
 abbrev pub is_blank : ℕ → Bool

@@ -1,6 +1,6 @@
 //! The fragment of a token.
 
-ghost use Rattle.std.specs.Prelude.{◌≡◌, ◌<◌, ◌^◌, true, [], ◌∷◌, IfOk, OnOk};
+ghost use Rattle.std.specs.Prelude.{◌≡◌, ◌<◌, ◌^◌, true, [], ◌∷◌, IfOk, OnOk, OnErr};
 ghost use Rattle.transforms.specs.PlatformName.{is_identifier};
 ghost use Rattle.transforms.specs.View.{frame_view};
 ghost use Rattle.composite_rules.specs.Sound.{IsTyped, IsTypography};
@@ -124,7 +124,7 @@ fn written<'a>(
 /// whole number of milliseconds within 32 bits, a weight that is not whole, a family that is not plain words, and the kinds
 /// without elements.
 ///
-/// The draft holds these lines alone afterwards, whatever it held. One element has the name that is lent. The value is one
+/// The draft holds these lines alone afterwards, whatever it held; on `NoMemory` it is empty. One element has the name that is lent. The value is one
 /// that a token can have. The lines are read as the elements of the names where the token's name is an identifier.
 pub fn fragment<'a>(
     alloc: Global,
@@ -141,8 +141,14 @@ pub fn fragment<'a>(
     ensures base { cfg.now.rem_base < 2 ^ 8 }
     ensures reads { is_identifier name.now ≡ true
         → OnOk result (Block draft.new (android_values cfg.now name.now typed.now)) }
+    ensures cleared { OnErr result (draft.new ≡ []) }
 {
     has_base(cfg);
-    let names = written(alloc, draft, cfg, name, typed)?;
-    Ok(names)
+    match written(alloc, draft, cfg, name, typed) {
+        Ok(names) => Ok(names),
+        Err(NoMemory) => {
+            draft.truncate(0);
+            Err(NoMemory)
+        }
+    }
 }
