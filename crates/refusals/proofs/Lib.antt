@@ -1,2 +1,3 @@
+mod Parts
 mod Refusals
 pub mod Reports

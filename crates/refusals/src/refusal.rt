@@ -1,7 +1,8 @@
-//! What is printed of a refusal.
+//! What is printed of a refusal. Where memory runs out while a line is appended, a part of it may stay.
 
-ghost use Rattle.std.specs.Prelude.{◌≡◌, ◌+◌, ◌++◌, ◌∷◌, [], IfOk, OnOk, codes, take, flat_map};
+ghost use Rattle.std.specs.Prelude.{◌≡◌, ◌+◌, ◌++◌, ◌∷◌, [], IfOk, OnOk, OnErr, codes, take, flat_map};
 ghost use Rattle.std.specs.Fmt.{decimal};
+ghost use Rattle.tk_io.specs.Writing.{Extends};
 ghost use Rattle.name_path.specs.Reference.{path_text, place_text, pointer_text};
 ghost use Rattle.refusals.specs.Refusal.{rule_name, line_of, column_of, refusal_text, file_text, report, report_text, quoted_line, platform_name, detail_line, lost_group, ring_group, counted, of_token, at_place, ring_place, other_token, on_platform, of_key, ring_set};
 
@@ -143,7 +144,8 @@ pub fn refuse_span(
 
 // A word, and a text as a JSON string.
 fn append_quoted(out: &mut Bytes, word: &[u8], text: &[u8]) -> Result<(), NoMemory>
-    ensures { OnOk result (out.new ≡ out.old ++ quoted_line word.now text.now) }
+    ensures ok { OnOk result (out.new ≡ out.old ++ quoted_line word.now text.now) }
+    ensures err { OnErr result (Extends out.old out.new) }
 {
     out.append(word)?;
     write_string_bytes(text, out)?;
@@ -152,7 +154,8 @@ fn append_quoted(out: &mut Bytes, word: &[u8], text: &[u8]) -> Result<(), NoMemo
 
 // A word, and the pointer to a group.
 fn append_group(out: &mut Bytes, word: &[u8], group: &Path<'_>) -> Result<(), NoMemory>
-    ensures { OnOk result (out.new ≡ out.old ++ quoted_line word.now (pointer_text group.now)) }
+    ensures ok { OnOk result (out.new ≡ out.old ++ quoted_line word.now (pointer_text group.now)) }
+    ensures err { OnErr result (Extends out.old out.new) }
 {
     let mut pointer = out.fresh();
     print_group(group, &mut pointer)?;
@@ -161,7 +164,8 @@ fn append_group(out: &mut Bytes, word: &[u8], group: &Path<'_>) -> Result<(), No
 
 // A word, and the path of a token.
 fn append_path(out: &mut Bytes, word: &[u8], path: &Path<'_>) -> Result<(), NoMemory>
-    ensures { OnOk result (out.new ≡ out.old ++ quoted_line word.now (path_text path.now)) }
+    ensures ok { OnOk result (out.new ≡ out.old ++ quoted_line word.now (path_text path.now)) }
+    ensures err { OnErr result (Extends out.old out.new) }
 {
     let mut text = out.fresh();
     print_path(path, &mut text)?;
@@ -170,7 +174,8 @@ fn append_path(out: &mut Bytes, word: &[u8], path: &Path<'_>) -> Result<(), NoMe
 
 // A word, and the pointer to a place.
 fn append_pointer(out: &mut Bytes, word: &[u8], place: &Place<'_>) -> Result<(), NoMemory>
-    ensures { OnOk result (out.new ≡ out.old ++ quoted_line word.now (place_text place.now)) }
+    ensures ok { OnOk result (out.new ≡ out.old ++ quoted_line word.now (place_text place.now)) }
+    ensures err { OnErr result (Extends out.old out.new) }
 {
     let mut pointer = out.fresh();
     print_place(place, &mut pointer)?;
@@ -179,15 +184,17 @@ fn append_pointer(out: &mut Bytes, word: &[u8], place: &Place<'_>) -> Result<(),
 
 /// The line of the group that names a lost target.
 pub fn append_lost_group(out: &mut Bytes, group: &Path<'_>) -> Result<(), NoMemory>
-    ensures { OnOk result (out.new ≡ out.old ++ detail_line (lost_group group.now)) }
+    ensures ok { OnOk result (out.new ≡ out.old ++ detail_line (lost_group group.now)) }
+    ensures err { OnErr result (Extends out.old out.new) }
 {
     append_group(out, b"place ", group)
 }
 
 /// A line for each group of a ring.
 pub fn append_ring_groups(out: &mut Bytes, ring: &Paths<'_>) -> Result<(), NoMemory>
-    ensures { OnOk result (out.new ≡ out.old
+    ensures ok { OnOk result (out.new ≡ out.old
         ++ flat_map (λ group. detail_line (ring_group group)) ring.now) }
+    ensures err { OnErr result (Extends out.old out.new) }
 {
     for group in ring.as_slice() {
         append_group(out, b"ring ", group)?;
@@ -197,7 +204,8 @@ pub fn append_ring_groups(out: &mut Bytes, ring: &Paths<'_>) -> Result<(), NoMem
 
 /// The line of a count.
 pub fn append_count(out: &mut Bytes, count: u64) -> Result<(), NoMemory>
-    ensures { OnOk result (out.new ≡ out.old ++ detail_line (counted count)) }
+    ensures ok { OnOk result (out.new ≡ out.old ++ detail_line (counted count)) }
+    ensures err { OnErr result (Extends out.old out.new) }
 {
     let mut buffer = Buffer::new();
     out.append(b"count ")?;
@@ -207,22 +215,25 @@ pub fn append_count(out: &mut Bytes, count: u64) -> Result<(), NoMemory>
 
 /// The line of the token whose verdict it is.
 pub fn append_token(out: &mut Bytes, path: &Path<'_>) -> Result<(), NoMemory>
-    ensures { OnOk result (out.new ≡ out.old ++ detail_line (of_token path.now)) }
+    ensures ok { OnOk result (out.new ≡ out.old ++ detail_line (of_token path.now)) }
+    ensures err { OnErr result (Extends out.old out.new) }
 {
     append_path(out, b"token ", path)
 }
 
 /// The line of the place where a rule is broken.
 pub fn append_place(out: &mut Bytes, place: &Place<'_>) -> Result<(), NoMemory>
-    ensures { OnOk result (out.new ≡ out.old ++ detail_line (at_place place.now)) }
+    ensures ok { OnOk result (out.new ≡ out.old ++ detail_line (at_place place.now)) }
+    ensures err { OnErr result (Extends out.old out.new) }
 {
     append_pointer(out, b"place ", place)
 }
 
 /// A line for each place of a ring.
 pub fn append_ring_places(out: &mut Bytes, ring: &Ring<'_>) -> Result<(), NoMemory>
-    ensures { OnOk result (out.new ≡ out.old
+    ensures ok { OnOk result (out.new ≡ out.old
         ++ flat_map (λ place. detail_line (ring_place place)) ring.now) }
+    ensures err { OnErr result (Extends out.old out.new) }
 {
     for place in ring.as_slice() {
         append_pointer(out, b"ring ", place)?;
@@ -232,7 +243,8 @@ pub fn append_ring_places(out: &mut Bytes, ring: &Ring<'_>) -> Result<(), NoMemo
 
 /// The line of the earlier token that has the name.
 pub fn append_other(out: &mut Bytes, path: &Path<'_>) -> Result<(), NoMemory>
-    ensures { OnOk result (out.new ≡ out.old ++ detail_line (other_token path.now)) }
+    ensures ok { OnOk result (out.new ≡ out.old ++ detail_line (other_token path.now)) }
+    ensures err { OnErr result (Extends out.old out.new) }
 {
     append_path(out, b"other ", path)
 }
@@ -249,7 +261,8 @@ fn platform_name(platform: Platform) -> &'static [u8]
 
 /// The line of the platform on which two tokens have one name.
 pub fn append_platform(out: &mut Bytes, platform: Platform) -> Result<(), NoMemory>
-    ensures { OnOk result (out.new ≡ out.old ++ detail_line (on_platform platform)) }
+    ensures ok { OnOk result (out.new ≡ out.old ++ detail_line (on_platform platform)) }
+    ensures err { OnErr result (Extends out.old out.new) }
 {
     out.append(b"platform ")?;
     out.append(platform_name(platform))?;
@@ -258,7 +271,8 @@ pub fn append_platform(out: &mut Bytes, platform: Platform) -> Result<(), NoMemo
 
 /// The line of a refused key.
 pub fn append_key(out: &mut Bytes, key: &[u8]) -> Result<(), NoMemory>
-    ensures { OnOk result (out.new ≡ out.old ++ detail_line (of_key key.now)) }
+    ensures ok { OnOk result (out.new ≡ out.old ++ detail_line (of_key key.now)) }
+    ensures err { OnErr result (Extends out.old out.new) }
 {
     append_quoted(out, b"key ", key)
 }
@@ -275,7 +289,8 @@ fn set_path<'t>(alloc: Global, name: &'t str) -> Result<Path<'t>, NoMemory>
 
 // The line of a set of a ring.
 fn append_set(alloc: Global, out: &mut Bytes, name: &Text<'_>) -> Result<(), NoMemory>
-    ensures { OnOk result (out.new ≡ out.old ++ detail_line (ring_set name.now)) }
+    ensures ok { OnOk result (out.new ≡ out.old ++ detail_line (ring_set name.now)) }
+    ensures err { OnErr result (Extends out.old out.new) }
 {
     let path = set_path(alloc, name.as_str())?;
     append_group(out, b"ring ", &path)?;
@@ -284,8 +299,9 @@ fn append_set(alloc: Global, out: &mut Bytes, name: &Text<'_>) -> Result<(), NoM
 
 /// A line for each set of a ring.
 pub fn append_ring_sets(alloc: Global, out: &mut Bytes, ring: &Trail<'_>) -> Result<(), NoMemory>
-    ensures { OnOk result (out.new ≡ out.old
+    ensures ok { OnOk result (out.new ≡ out.old
         ++ flat_map (λ name. detail_line (ring_set name)) ring.now) }
+    ensures err { OnErr result (Extends out.old out.new) }
 {
     for name in ring.as_slice() {
         append_set(alloc, out, name)?;

@@ -13,6 +13,6 @@ returns-in_ok-append_key-in-Key c =
     let end = length (file_text files config_path) in
     let b = c.in_ok-body-in-Key.body in
     let key = c.as_slice.result.now in
-    let text = told files rule.ConfigKey config_path 0 end b c.append_key.new.out (of_key key ∷ []) c.in_ok-body-in-Key.ensures (one_more b c.append_key.new.out (detail_line (of_key key)) c.in_ok-append_key-in-Key.ensures)
+    let text = told files rule.ConfigKey config_path 0 end b c.append_key.new.out (of_key key ∷ []) c.in_ok-body-in-Key.ensures (one_more b c.append_key.new.out (detail_line (of_key key)) c.in_ok-append_key-in-Key.ensures.ok)
     ∙ ap (λ k. report_text files (report rule.ConfigKey config_path 0 end (of_key k ∷ []))) c.as_slice.ensures in
     rw c.in-Key.is (IfOk-weaker c.one_output-in-Key.result _ (refused_config files (config_reports end (Key c.in-Key.key))) (λ o is. is ∙ ap (one_output (codes "REFUSED")) text) c.one_output-in-Key.ensures)

@@ -6,4 +6,4 @@ use Rattle.build_plain.proofs.permutation.count_text.Goals as goal
 pub returns : goal.returns
 returns c =
     told c.args.files.now c.args.rule c.args.first.now 0 0 c.in_ok-out.out c.append_count.new.out (counted c.args.count ∷ []) c.in_ok-out.ensures
-    (one_more c.in_ok-out.out c.append_count.new.out (detail_line (counted c.args.count)) c.in_ok-append_count.ensures)
+    (one_more c.in_ok-out.out c.append_count.new.out (detail_line (counted c.args.count)) c.in_ok-append_count.ensures.ok)

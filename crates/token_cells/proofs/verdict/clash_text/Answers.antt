@@ -12,5 +12,5 @@ returns c =
     let platform = detail_line (on_platform c.args.platform) in
     told c.args.files.now rule.NameClash def.file def.start def.end c.in_ok-out.out c.append_platform.new.out (of_token c.args.path.now ∷ other_token c.args.other.now ∷ on_platform c.args.platform ∷ [])
     c.in_ok-out.ensures
-    (three_more c.in_ok-out.out c.append_token.new.out c.append_other.new.out c.append_platform.new.out token other _ c.in_ok-append_token.ensures c.in_ok-append_other.ensures
-    (one_more c.append_other.new.out c.append_platform.new.out platform c.in_ok-append_platform.ensures))
+    (three_more c.in_ok-out.out c.append_token.new.out c.append_other.new.out c.append_platform.new.out token other _ c.in_ok-append_token.ensures.ok c.in_ok-append_other.ensures.ok
+    (one_more c.append_other.new.out c.append_platform.new.out platform c.in_ok-append_platform.ensures.ok))
