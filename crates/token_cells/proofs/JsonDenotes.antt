@@ -25,9 +25,9 @@ use Rattle.token_cells.specs.Cell.{TokenPath, AreCells, extras_of}
 use Rattle.token_cells.specs.Breaks.{cell_reports}
 use Rattle.token_cells.specs.Sheets.{bodies_for, sheet_for}
 use Rattle.token_cells.specs.declared.format.Format.TheVariants as Form
-use Rattle.token_cells.specs.OtherSheets.{IsTypedOf, HasExtras, JsonCellsDenote}
+use Rattle.token_cells.specs.OtherSheets.{IsJsonFor, JsonCellsDenote}
 use Rattle.token_cells.specs.TokenCell.{TokenCell, Refused, Made}
-use Rattle.token_cells.proofs.Beside.{nil_cons, weaker, name_clashes_none}
+use Rattle.token_cells.proofs.Beside.{nil_cons, name_clashes_none}
 
 -- each token's extensions, where it has some, are a text of JSON
 abbrev HaveExtensions : Flat → Type 0
@@ -57,14 +57,9 @@ have_extensions slices flat defs path f there =
     let same : f.def.extensions ≡ extensions_of f.def.source es = ap (λ x. x.extensions) d.same in
     (found.0, subst (λ o. HaveValue o found.0) (sym same) found.1)
 
-record Has (flat : Flat) (settings : Settings) (token : TokenAt) (c : Cell) : Type 0 where
-  path : c.path ≡ token.0
-  value : IsTypedOf flat settings token.0 c.typed
-  extras : HasExtras flat token.0 c.extras
-
 record AreMade (flat : Flat) (settings : Settings) (tokens : List TokenAt) (cells : List TokenCell) : Type 0 where
   sheet : List Cell
-  have : AllZip (Has flat settings) tokens sheet
+  have : AllZip (λ token c. IsJsonFor flat settings token.0 c) tokens sheet
   are : AllByRecursion IsJsonCell sheet
   bodies : flat_map (bodies_for Form.Json) cells ≡ map cell_text sheet
 
@@ -80,7 +75,7 @@ module _ (keeps : ValuesKeep) (flat : Flat) (settings : Settings) (extensions : 
       let cell : Cell = record { path = t.0; typed = here.typed; extras = extras_of here.entry; extensions = w } in
       record {
         sheet = cell ∷ rest.sheet;
-        have = (record { path = refl; value = (here.links, here.value); extras = (here.entry, here.there, refl) }, rest.have);
+        have = (record { at = refl; value = (here.links, here.value); extras = (here.entry, here.there, refl); extensions = has }, rest.have);
         are = (record { typed = keeps settings.legacy here.value.kind here.value.meaning here.typed here.value.is_typed; bytes = here.gives.json_of.bytes; extensions = has }, rest.are);
         bodies = ap₂ (λ (x : List ℕ) (xs : List (List ℕ)). x ∷ xs) here.gives.json_of.body rest.bodies;
       }
@@ -93,6 +88,6 @@ json_denotes keeps slices denote flat settings cells (found, none) defs =
     let bytes : sheet_bytes made.sheet ≡ sheet_for Form.Json cells = ap (sheet_text json_frame) (sym made.bodies) in
     record {
       tokens = made.sheet;
-      values = weaker (Has flat settings) (λ token c. (c.path ≡ token.0) × IsTypedOf flat settings token.0 c.typed × HasExtras flat token.0 c.extras) (λ token c h. (h.path, h.value, h.extras)) (finite.entries flat) made.sheet made.have;
+      values = made.have;
       denotes = subst (λ b. Denotes b (sheet_members made.sheet)) bytes (denote made.sheet made.are);
     }

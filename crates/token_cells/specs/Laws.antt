@@ -1,23 +1,26 @@
 -- Laws over the definitions.
-use Rattle.std.specs.Prelude.{◌≡◌, ℕ, true, List, [], ◌∷◌, ◌++◌, map, Some, Err, AllPairs, Contains}
+use Rattle.std.specs.Prelude.{◌≡◌, ℕ, true, List, [], ◌∷◌, ◌++◌, map, Some, None, Err, AllPairs, Contains}
+use Rattle.std.specs.FinMap as finite
 use Rattle.json_span.specs.PlainView.{Value as Plain}
 use Rattle.name_path.specs.declared.kind.Kind.{Kind}
 use Rattle.name_path.specs.declared.place.Place.{Place}
 use Rattle.alias_ref.specs.Asking.{IsRingOfPlaces}
-use Rattle.alias_ref.specs.Laws.{Flat}
+use Rattle.alias_ref.specs.Kinds.{KindOf, own_in, group_in}
+use Rattle.alias_ref.specs.Laws.{Flat, IsTooDeep, IsTooBig}
 use Rattle.alias_ref.specs.Meaning.{Leads}
 use Rattle.alias_ref.specs.Unchanged.{AreDefinedAlong, Unchanged}
-use Rattle.alias_ref.specs.Written.{misspelled, is_reference, written_in}
+use Rattle.alias_ref.specs.Visits.{walk_break}
+use Rattle.alias_ref.specs.Written.{misspelled, is_reference, whole, written_in}
 use Rattle.alias_ref.specs.declared.fault.RefRule.TheVariants as reference
 use Rattle.type_rules.specs.declared.fault.ValueRule.{ValueRule}
 use Rattle.composite_rules.specs.Value.{value_of}
-use Rattle.group_inherit.specs.Flattening.{TokenAt}
+use Rattle.group_inherit.specs.Flattening.{Flattened, TokenAt}
 use Rattle.transforms.specs.Clash.{NamedToken, ShareNoName}
 use Rattle.transforms.specs.Config.{Settings}
 use Rattle.transforms.specs.declared.platform.Platform.{Platform}
 use Rattle.refusals.specs.Refusal.{Report}
 use Rattle.token_cells.specs.Cell.{TokenPath, IsMeant, TokenBreak, IsTokenBreak, IsCell, AreCells}
-use Rattle.token_cells.specs.Breaks.{Celled, names_on, clash_report, clashes_on}
+use Rattle.token_cells.specs.Breaks.{Celled, place_in, place_span, names_on, clash_report, clashes_on}
 use Rattle.token_cells.specs.TokenCell.{TokenCell}
 use Rattle.refusals.specs.declared.rule.CellRule.TheVariants.{Ref, Value}
 
@@ -29,19 +32,34 @@ pub record BreaksValue (flat : Flat) (settings : Settings) (path : TokenPath) (r
   pub token : place.token ≡ path
   pub broken : value_of settings.legacy kind meaning ≡ Err (record { rule = r; trail = place.trail })
 
+-- the place is the token's whole value; its references break no rule, and nothing gives it a kind
+pub record LacksType (flat : Flat) (path : TokenPath) (place : Place) : Type 0 where
+  pub at : place ≡ whole path
+  pub unbroken : walk_break (written_in flat) path ≡ None
+  pub missing : KindOf (written_in flat) (own_in flat) (group_in flat) path None
+
 -- What is told of a token's break holds. A ring is one: its places differ, each asks for the next, and the last for
 -- the first. A wrong spelling stands at the place, a reference whose target is lost stands there and leads nowhere,
--- and a rule of values is broken there by what the token means.
+-- where a walk is too deep or too big so many places or visits come before the place, a token without a type breaks
+-- no rule of references and nothing gives it a kind, and a rule of values is broken there by what the token means.
 pub record IsReal (flat : Flat) (settings : Settings) (path : TokenPath) (b : TokenBreak) : Type 0 where
   pub cycle : b.rule ≡ Ref reference.Cycle → IsRingOfPlaces (written_in flat) b.ring
   pub syntax : b.rule ≡ Ref reference.RefSyntax → written_in flat b.place ≡ Some misspelled
   pub target : b.rule ≡ Ref reference.RefTarget
       → (is_reference (written_in flat b.place) ≡ true) × ((q : Place) → Leads (written_in flat) b.place q → ⊥)
+  pub deep : b.rule ≡ Ref reference.Deep → IsTooDeep (written_in flat) path b.place
+  pub big : b.rule ≡ Ref reference.Big → IsTooBig (written_in flat) path b.place
+  pub missing : b.rule ≡ Ref reference.NoType → LacksType flat path b.place
   pub value : (r : ValueRule) → b.rule ≡ Value r → BreaksValue flat settings path r b.place
 
 abbrev pub BreaksAreReal : Type 0
 BreaksAreReal = (flat : Flat) (settings : Settings) (path : TokenPath) (b : TokenBreak) → IsTokenBreak flat settings path b
     → IsReal flat settings path b
+
+-- What is told of a token's break is told in the file of a definition that is there, at the span of the place in it.
+abbrev pub BreaksHavePlaces : Type 0
+BreaksHavePlaces = (flat : Flat) (settings : Settings) (path : TokenPath) (entry : Flattened) (b : TokenBreak) → finite.get flat path ≡ Some entry
+    → IsTokenBreak flat settings path b → (f : Flattened) × (finite.get flat b.place.token ≡ Some f) × (place_span flat b.place ≡ place_in f b.place)
 
 -- tokens of a flat tree come to one list of cells
 abbrev pub OneCells : Type 0

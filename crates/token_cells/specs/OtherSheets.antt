@@ -12,7 +12,7 @@ use Rattle.composite_rules.specs.declared.typed.Typed.{Typed}
 use Rattle.ring.specs.Lists.{In}
 use Rattle.android_out.specs.Sheets as android
 use Rattle.ios_out.specs.Sheets as swift
-use Rattle.json_out.specs.Properties.{ExtrasData}
+use Rattle.json_out.specs.Properties.{ExtrasData, HaveValue}
 use Rattle.json_out.specs.Sheets as json
 use Rattle.token_cells.specs.Cell.{TokenPath, IsValueOf, AreCells, extras_of}
 use Rattle.token_cells.specs.Breaks.{token_reports}
@@ -40,12 +40,18 @@ pub record SwiftDenotes (flat : Flat) (settings : Settings) (bytes : List ℕ) :
 abbrev pub HasExtras : Flat → TokenPath → ExtrasData → Type 0
 HasExtras flat path extras = (f : Flattened) × (finite.get flat path ≡ Some f) × (extras ≡ extras_of f)
 
+-- what the JSON file has of a token: its value, what is said of it, and its extensions as the value of their slice
+pub record IsJsonFor (flat : Flat) (settings : Settings) (path : TokenPath) (c : json.Cell) : Type 0 where
+  pub at : c.path ≡ path
+  pub value : IsTypedOf flat settings path c.typed
+  pub extras : HasExtras flat path c.extras
+  pub extensions : HaveValue c.extras.extensions c.extensions
+
 -- The bytes are read as one object, whose members are those of the tokens: the type, the value, and what else is said
 -- of them.
 pub record JsonDenotes (flat : Flat) (settings : Settings) (bytes : List ℕ) : Type 0 where
   pub tokens : List json.Cell
-  pub values : AllZip (λ token c. (c.path ≡ token.0) × IsTypedOf flat settings token.0 c.typed × HasExtras flat token.0 c.extras)
-      (finite.entries flat) tokens
+  pub values : AllZip (λ token c. IsJsonFor flat settings token.0 c) (finite.entries flat) tokens
   pub denotes : json.Denotes bytes (json.sheet_members tokens)
 
 -- no token has a break, and no two of them have a name in common

@@ -3,7 +3,7 @@
 ghost use Rattle.token_cells.specs.Denotes.{CellsDenote};
 ghost use Rattle.token_cells.specs.Existence.{EachCell, EachCells};
 ghost use Rattle.token_cells.specs.OtherSheets.{AndroidCellsDenote, JsonCellsDenote, SwiftCellsDenote};
-ghost use Rattle.token_cells.specs.Laws.{ApartAreUnclashed, BreaksAreReal, ClashesAreReal, OneCells, UnchangedCells, UnclashedAreApart};
+ghost use Rattle.token_cells.specs.Laws.{ApartAreUnclashed, BreaksAreReal, BreaksHavePlaces, ClashesAreReal, OneCells, UnchangedCells, UnclashedAreApart};
 
 use alias_ref::{
     meanings_fit, one_answer, one_meaning, parts_mean, source_decides, unbroken_tokens,
@@ -46,9 +46,11 @@ pub fn sheets_denote()
 }
 
 /// What is told of a token's break holds: a ring is one, a wrong spelling and a lost target stand where they are told, and
-/// a rule of values is broken there by what the token means.
+/// a rule of values is broken there by what the token means. It is told in the file of a definition that is there, at the
+/// span of the place in it.
 pub fn breaks_are_real()
-    ensures { BreaksAreReal }
+    ensures real { BreaksAreReal }
+    ensures places { BreaksHavePlaces }
 {
     alias_ref::breaks_are_real();
 }
