@@ -16,7 +16,9 @@
 -- What is promised, with the calls and clauses that carry it:
 -- * the outputs of files are a function of the files alone: the one refusal of a configuration or a
 --   plan that breaks a rule, or for each permutation of the plan its four files or the refusal of
---   the first of its breaks in the order of the rules (`build`: `ok`; `one_build`)
+--   its first break, in this order: of its sources, one after another, each its file, JSON and
+--   shape; of extension; of its tokens in path order (references, then a missing type, then the
+--   value); of names that two tokens have, on CSS, Android and Swift (`build`: `ok`; `one_build`)
 -- * each file in use is one step of `parses`, whatever names it, each merged tree one of `merges`,
 --   each token of a flat tree one of `evals`; no more are counted where memory runs out (`build`:
 --   `work`, `at_most`)
@@ -28,9 +30,9 @@
 --   `outputs`, `work`; `one_build`)
 -- * the outputs denote what tokens mean: of the outputs that a build gives, each permutation of the
 --   plan has either four files under its name, which denote the values of the tokens of its flat
---   tree, each by the reading of its language, name for name and no other, or the one file that
---   tells the first of its breaks, and never both; at every path of the outputs stands such a file
---   (`outputs_denote`: `each`, `either`, `no_other`)
+--   tree, each by the reading of its language, name for name and no other (of JSON member for
+--   member), or the one file that tells the first of its breaks, and never both; at every path of
+--   the outputs stands such a file (`outputs_denote`: `each`, `either`, `no_other`)
 
 pub mod Breaks
 pub mod Out

@@ -20,12 +20,18 @@
 -- * sheets denote what tokens mean: where cells have no break, the bytes of the style sheet are
 --   read as one sheet that declares exactly the names of the tokens, each with the value that the
 --   token's whole value means, read under its kind, after 256 rounds of `var()`; each name that
---   stands for a part is that of a token with that part as its value; and the files for Android,
---   Swift and programs have exactly the names and values that their platforms are to have
+--   stands for a part is that of a token with that part as its value; the files for Android and
+--   Swift have exactly the names and values that their platforms are to have; and the file for
+--   programs is one JSON object, and no other, with one member for each token, in their order: its
+--   path joined by `.`, its type, its value with all parts, its description, the value that the
+--   slice of its `$extensions` has, and the mark of deprecation that holds for it
 --   (`sheets_denote`, `other_sheets_denote`)
 -- * what is told of a token's break holds: a cycle is real, a wrong spelling and a lost target
---   stand where they are told, and a rule of values is broken there by what the token means; a
---   clash that is told is one, and none is told exactly where no token has a name of an earlier one
+--   stand where they are told, where a walk is told to be too deep or too big as many places or
+--   visits come before the place, a token that lacks a type breaks no rule of references and
+--   nothing gives it a kind, and a rule of values is broken there by what the token means; it is
+--   told in the file of a definition that is there, at the span of the place in it; a clash that is
+--   told is one, and none is told exactly where no token has a name of an earlier one
 --   (`breaks_are_real`, `clashes_are_real`)
 
 pub mod TokenCell
