@@ -24,10 +24,10 @@ use Rattle.rebuild_core.specs.Sums.{IsOneIf, IsOneUnless}
 use Rattle.rebuild_core.specs.Work.{UsedOfPlan, UsedUnder, IsMerge, KeptPerm, kept_perm, contents_of, named, KeptOf, KeptUnder, IsKept, IsReachedSince, SourcesWork, PermWorkFrom, PermsWorkFrom, AreRead, PlanWorkFrom, WorkUnderFrom, IsWorkFrom}
 use Rattle.rebuild_core.proofs.Below.{OneLaws, EachLaws}
 use Rattle.rebuild_core.proofs.EachWork.{each_work}
-use Rattle.rebuild_core.proofs.MapEntries.{entry_found}
+use Rattle.tree_changes.proofs.MapEntries.{entry_found}
 use Rattle.rebuild_core.proofs.OneWork.{one_kept, one_used}
 use Rattle.rebuild_core.proofs.Summing.{unless_held, not_held, sum_none}
-use Rattle.rebuild_core.proofs.Walks.{none_reached}
+use Rattle.tree_changes.proofs.Walks.{none_reached}
 
 -- A permutation is found by its name.
 

@@ -1,10 +1,5 @@
-pub mod MapEntries
-pub mod Standing
 pub mod Decided
 pub mod Summing
-pub mod Walks
-pub mod ReferencesWalked
-pub mod Unreached
 pub mod ReachesDecided
 pub mod Below
 pub mod OneWork

@@ -13,10 +13,10 @@ use Rattle.alias_ref.specs.Laws.{Flat}
 use Rattle.alias_ref.specs.Refs.{refs_of}
 use Rattle.alias_ref.specs.Unchanged.{Reaches, at_start, by_reference}
 use Rattle.token_cells.specs.Cell.{TokenPath}
-use Rattle.rebuild_core.specs.Reached.{is_changed, IsReached}
+use Rattle.tree_changes.specs.Reached.{is_changed, IsReached}
 use Rattle.rebuild_core.proofs.Decided.{Decided, is_true, by_way}
-use Rattle.rebuild_core.proofs.MapEntries.{entry_there}
-use Rattle.rebuild_core.proofs.Walks.{begun}
+use Rattle.tree_changes.proofs.MapEntries.{entry_there}
+use Rattle.tree_changes.proofs.Walks.{begun}
 
 -- Tests over lists.
 

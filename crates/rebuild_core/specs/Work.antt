@@ -23,7 +23,7 @@ use Rattle.token_cells.specs.Cell.{TokenPath}
 use Rattle.build_plain.specs.Breaks.{home_of}
 use Rattle.build_plain.specs.Out.{settings_of}
 use Rattle.build_plain.specs.Work.{Work, work, added}
-use Rattle.rebuild_core.specs.Reached.{IsReached}
+use Rattle.tree_changes.specs.Reached.{IsReached}
 use Rattle.rebuild_core.specs.Sums.{IsOneIf, IsOneUnless, IsSum}
 
 -- Of files: which of them are in use. None is where the configuration is refused, and where the plan is refused none but
