@@ -22,3 +22,5 @@ mod NamedAlike
 mod AlikeRows
 mod UnchangedTokens
 mod Known
+mod Unreached
+mod KeptRows

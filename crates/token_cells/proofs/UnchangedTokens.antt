@@ -75,27 +75,3 @@ module _ (alike : UnchangedIsAlike) (shown : ShownBySource) where
             json_of = subst (λ x. IsJsonOf path h.typed x json) (same_extras h.entry g.0 h.there g.1 g.2) h.gives.json_of;
           };
         }
-
-  -- from a token that names no other no references lead away
-  only_itself : (flat : Flat) (path : TokenPath) (f : Flattened) → finite.get flat path ≡ Some f → refs_of f.def ≡ [] → (p : TokenPath) → Reaches flat path p → path ≡ p
-  only_itself flat path f e none p at_start = refl
-  only_itself flat path f e none p (by_ref {path = q} {f = g} next r k i) =
-      let here : path ≡ q = only_itself flat path f e none q r in
-      let is_same : f ≡ g = some_same f g (sym e ∙ (ap (finite.get flat) here ∙ k)) in
-      absurd (subst (In p) (sym (ap (λ x. refs_of x.def) is_same) ∙ none) i)
-    where
-      some_same : (x y : Flattened) → Some x ≡ Some y → x ≡ y
-      some_same x y h = cc
-
-  -- .. so that it comes to the same where its own entry is the same
-  pub lone_cell : (old new : Flat) (settings : Settings) (path : TokenPath) (f g : Flattened) (c : TokenCell) → finite.get old path ≡ Some f → finite.get new path ≡ Some g
-      → raw_of f ≡ raw_of g → IsDefinition f.def → IsDefinition g.def → refs_of g.def ≡ [] → IsCell old settings path c → IsCell new settings path c
-  lone_cell old new settings path f g c e k r of_f of_g none h =
-      let only = only_itself new path g k none in
-      let defined : (flat : Flat) (x : Flattened) → finite.get flat path ≡ Some x → IsDefinition x.def → AreDefinedAlong flat new path =
-      λ flat x at is p y to at_p. subst (λ z. IsDefinition z.def) (some_same x y (sym at ∙ (ap (finite.get flat) (only p to) ∙ at_p))) is in
-      let un : Unchanged old new path = λ p to. subst (λ q. raw_in old q ≡ raw_in new q) (only p to) (ap (option_map raw_of) e ∙ (ap Some r ∙ sym (ap (option_map raw_of) k))) in
-      same_cell old new path (defined old f e of_f) (defined new g k of_g) un settings c h
-    where
-      some_same : (x y : Flattened) → Some x ≡ Some y → x ≡ y
-      some_same x y i = cc

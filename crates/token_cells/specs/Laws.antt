@@ -1,6 +1,7 @@
 -- Laws over the definitions.
-use Rattle.std.specs.Prelude.{◌≡◌, ℕ, true, List, [], ◌∷◌, ◌++◌, map, Some, None, Err, AllPairs, Contains}
+use Rattle.std.specs.Prelude.{◌≡◌, ◌⊎◌, ◌↔◌, ℕ, true, List, [], ◌∷◌, ◌++◌, map, Some, None, Err, AllPairs, Contains}
 use Rattle.std.specs.FinMap as finite
+use Rattle.std.specs.List.{AllZip}
 use Rattle.json_span.specs.PlainView.{Value as Plain}
 use Rattle.name_path.specs.declared.kind.Kind.{Kind}
 use Rattle.name_path.specs.declared.place.Place.{Place}
@@ -8,10 +9,11 @@ use Rattle.alias_ref.specs.Asking.{IsRingOfPlaces}
 use Rattle.alias_ref.specs.Kinds.{KindOf, own_in, group_in}
 use Rattle.alias_ref.specs.Laws.{Flat, IsTooDeep, IsTooBig}
 use Rattle.alias_ref.specs.Meaning.{Leads}
-use Rattle.alias_ref.specs.Unchanged.{AreDefinedAlong, Unchanged}
+use Rattle.alias_ref.specs.Unchanged.{AreDefinedAlong, AreDefinitions, Unchanged}
 use Rattle.alias_ref.specs.Visits.{walk_break}
 use Rattle.alias_ref.specs.Written.{misspelled, is_reference, whole, written_in}
 use Rattle.alias_ref.specs.declared.fault.RefRule.TheVariants as reference
+use Rattle.tree_changes.specs.Reached.{IsReached}
 use Rattle.type_rules.specs.declared.fault.ValueRule.{ValueRule}
 use Rattle.composite_rules.specs.Value.{value_of}
 use Rattle.group_inherit.specs.Flattening.{Flattened, TokenAt}
@@ -70,6 +72,23 @@ OneCells = (flat : Flat) (settings : Settings) (tokens : List TokenAt) (cells ot
 abbrev pub UnchangedCells : Type 0
 UnchangedCells = (old new : Flat) (settings : Settings) (path : TokenPath) (cell : TokenCell) → AreDefinedAlong old new path → AreDefinedAlong new new path
     → Unchanged old new path → IsCell old settings path cell → IsCell new settings path cell
+
+-- A token that is not reached comes to the same in both trees: it is refused with the same rule, place and ring, or it
+-- gives the same to each platform. The definitions to which its references lead are what their sources show.
+abbrev pub UnreachedIsAlike : Type 0
+UnreachedIsAlike = (old new : Flat) (settings : Settings) (path : TokenPath) (cell : TokenCell)
+    → AreDefinedAlong old new path → AreDefinedAlong new new path → (IsReached old new path → ⊥)
+    → IsCell old settings path cell ↔ IsCell new settings path cell
+
+-- a cell that is found in the new tree, or taken from the old one, where the token is not reached
+abbrev pub IsTakenOrFound : Flat → Flat → Settings → TokenAt → TokenCell → Type 0
+IsTakenOrFound old new settings token cell =
+    IsCell new settings token.0 cell ⊎ ((IsReached old new token.0 → ⊥) × IsCell old settings token.0 cell)
+
+-- Such cells are those of the new tree.
+abbrev pub TakenAreCells : Type 0
+TakenAreCells = (old new : Flat) (settings : Settings) (cells : List TokenCell) → AreDefinitions old → AreDefinitions new
+    → AllZip (IsTakenOrFound old new settings) (finite.entries new) cells → AreCells new settings (finite.entries new) cells
 
 -- a token's path, and its names on the platform
 abbrev pub named_on : Platform → Celled → NamedToken

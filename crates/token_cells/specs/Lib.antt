@@ -13,6 +13,10 @@
 --   taken from an earlier tree (`cell`: `cell`, `step`; `cells_of`; `one_cells`)
 -- * a token from which no walk of references leads to a change comes in a new tree to what it came
 --   to in the old one, wherever its file stands (`unchanged_cells`)
+-- * a token that is not reached comes in both trees, where their definitions are what their sources
+--   show, to the same under one configuration, refused or not, wherever its file stands; so the
+--   cells of a tree may be taken from any other, but for the tokens that are reached
+--   (`unreached_cells`: `alike`, `taken`)
 -- * each token of a flat tree that texts define comes to something under settings that a
 --   configuration can have, and to one thing (`each_cell`: `one`, `all`; `one_cells`)
 -- * the text of the first break of a flat tree's tokens, and none exactly where there is none; a

@@ -7,7 +7,7 @@ ghost use Rattle.token_cells.specs.TokenCell.{TokenCell};
 ghost use Rattle.token_cells.specs.inner.AddedToPages.{AreSheets, AreShown, HoldAll};
 ghost use Rattle.token_cells.specs.inner.Kept.{open_texts, rows_view, texts_of};
 
-use crate::earlier::Earlier;
+use crate::earlier::{Earlier, KeptRows};
 use crate::evaluated::Evaluated;
 use crate::gathering::grown;
 use crate::pages::{OpenPages, Pages};
@@ -63,7 +63,8 @@ impl<'s> Cells<'s> {
 }
 
 /// What each token of the flat tree comes to, in path order, and the files that they give. Each token is one step. A token
-/// that stands as it stood in the earlier tree and names no other is neither evaluated nor spelled again.
+/// that stands as it stood in the earlier tree, as do all to which its references lead, is neither evaluated nor spelled
+/// again.
 pub fn cells_of<'s, N: Ledger>(
     alloc: Global,
     flat: Flat<'s>,
@@ -78,6 +79,7 @@ pub fn cells_of<'s, N: Ledger>(
     // Where memory runs out, some tokens are not evaluated.
     ensures at_most { evals.new ≤ evals.old + length (map.entries flat.entry) }
 {
-    let growing = grown(alloc, &flat, cfg, earlier, evals)?;
-    growing.end(flat, cfg)
+    let KeptRows { rows, lone } = earlier.kept(alloc, cfg, &flat)?;
+    let growing = grown(alloc, &flat, cfg, rows.as_slice(), evals)?;
+    growing.end(flat, cfg, lone)
 }

@@ -1,10 +1,8 @@
 //! Flat trees whose tokens are evaluated.
 
-ghost use Rattle.std.specs.Prelude.{◌≡◌, Some};
+ghost use Rattle.std.specs.Prelude.{◌≡◌};
 ghost use Rattle.std.specs.FinMap as map;
-ghost use Rattle.std.specs.List.{slice_get};
-ghost use Rattle.group_inherit.specs.Flattening.{TokenAt};
-ghost use Rattle.token_cells.specs.inner.Earlier.{AreLone, IsLone};
+ghost use Rattle.tree_changes.specs.Lone.{AreLone};
 
 use crate::cells::Cells;
 use group_inherit::Flat;
@@ -15,7 +13,7 @@ use std::marker::Model;
 pub struct Evaluated<'s> {
     tokens: Flat<'s>,
     cells: Cells<'s>,
-    /// Of each token whether it is known to name no other.
+    /// Of each token, as far as it is said, whether it is known to name no other.
     lone: Vec<bool>,
 }
 
@@ -23,13 +21,14 @@ impl<'s> Model for Evaluated<'s> {
     ghost use Rattle.std.specs.FinMap as map;
     ghost use Rattle.std.specs.Coded.{codes};
     ghost use Rattle.token_cells.specs.Evaluated.{EvaluatedTree, coded_flat};
-    ghost use Rattle.token_cells.specs.inner.Earlier.{AreLone};
 
     ghost Value = { EvaluatedTree };
 
     ghost coded = { Prim.hlevel (codes, coded_flat) };
 
     ghost view = { λ e. record { tokens = e.tokens; cells = e.cells } };
+
+    ghost use Rattle.tree_changes.specs.Lone.{AreLone};
 
     ghost invariant = { λ e. AreLone (map.entries e.tokens) e.lone.items };
 }
@@ -69,14 +68,10 @@ impl<'s> Evaluated<'s> {
         (self.tokens, self.cells)
     }
 
-    /// Whether the i-th token is known to name no other.
-    pub(crate) fn is_lone(&self, i: usize) -> bool
-        ensures { (token : TokenAt) → slice_get (map.entries self.now.tokens) i ≡ Some token
-            → IsLone token result }
+    /// Of each token, as far as it is said, whether it is known to name no other.
+    pub(crate) fn lone(&self) -> &[bool]
+        ensures { AreLone (map.entries self.now.tokens) result.now }
     {
-        match self.lone.get(i) {
-            Some(lone) => *lone,
-            None => false,
-        }
+        self.lone.as_slice()
     }
 }

@@ -7,14 +7,15 @@ ghost use Rattle.group_inherit.specs.Flattening.{TokenAt};
 ghost use Rattle.alias_ref.specs.Laws.{Flat as FlatTree};
 ghost use Rattle.transforms.specs.Config.{Settings};
 ghost use Rattle.token_cells.specs.Cell.{AreCells, IsCell};
-ghost use Rattle.token_cells.specs.inner.Earlier.{IsKeptCell, IsLone};
+ghost use Rattle.tree_changes.specs.Lone.{AreLone};
+ghost use Rattle.token_cells.specs.declared.keeping.Kept.{Kept as KeptRow};
+ghost use Rattle.token_cells.specs.inner.Earlier.{AreKept};
 ghost use Rattle.token_cells.specs.inner.Kept.{kept_view};
 ghost use Rattle.token_cells.specs.inner.Making.{ComesTo};
 ghost use Rattle.token_cells.specs.inner.Turns.{HasAdded};
 
 use crate::cells::Cells;
 use crate::drafts::Drafts;
-use crate::earlier::Earlier;
 use crate::evaluated::Evaluated;
 use crate::keeping::Kept;
 use crate::pages::OpenPages;
@@ -28,15 +29,18 @@ use std::sync::ledger::Ledger;
 use tk_io::{NoMemory, Steps};
 use transforms::Config;
 
-/// What a token comes to, and whether it is known to name no other.
-#[derive(Drop)]
-struct Answer<'s> {
-    row: Row<'s>,
-    lone: bool,
+// What is kept of the i-th token.
+fn kept_of<'a, 's>(kepts: &[Option<Kept<'a, 's>>], i: usize) -> Option<Kept<'a, 's>>
+    ensures { (k : KeptRow) → result ≡ Some k → slice_get kepts.now i ≡ Some (Some k) }
+{
+    match kepts.get(i) {
+        Some(kept) => *kept,
+        None => None,
+    }
 }
 
 // What the i-th token of the flat tree comes to. It is one step.
-fn token_answer<'s, N: Ledger>(
+fn token_row<'s, N: Ledger>(
     alloc: Global,
     drafts: &mut Drafts,
     pages: &mut OpenPages,
@@ -46,22 +50,20 @@ fn token_answer<'s, N: Ledger>(
     cfg: &Config,
     kept: Option<Kept<'_, 's>>,
     evals: &mut Steps<N>,
-) -> Result<Answer<'s>, NoMemory>
+) -> Result<Row<'s>, NoMemory>
     requires token { slice_get (map.entries evaluator.old) i ≡ Some token.now }
-    requires kept { IfSome kept (λ k. IsKeptCell cfg.now token.now (kept_view k)) }
+    requires kept { IfSome kept (λ k. IsCell evaluator.old cfg.now token.now.0 (kept_view k)) }
     ensures tree { evaluator.new ≡ evaluator.old }
     ensures step { evals.new ≡ evals.old + 1 }
-    ensures row { IfOk result (λ a.
-        ComesTo (IsCell evaluator.old cfg.now token.now.0) pages.old pages.new a.row) }
-    ensures lone { IfOk result (λ a. IsLone token.now a.lone) }
+    ensures row { IfOk result
+        (ComesTo (IsCell evaluator.old cfg.now token.now.0) pages.old pages.new) }
 {
     if let Some(kept) = kept {
         evals.tick();
         let row = kept.add_to(pages)?;
-        return Ok(Answer { row, lone: true });
+        return Ok(row);
     }
-    let row = evaluated_row(alloc, drafts, pages, evaluator, i, token, cfg, evals)?;
-    Ok(Answer { row, lone: false })
+    evaluated_row(alloc, drafts, pages, evaluator, i, token, cfg, evals)
 }
 
 /// What the tokens that were added come to, and the files that grow by them.
@@ -70,10 +72,6 @@ pub(crate) struct Growing<'s> {
     drafts: Drafts,
     pages: OpenPages,
     rows: Vec<Row<'s>>,
-    /// Of each token whether it is known to name no other.
-    lone: Vec<bool>,
-    /// Where the next token is looked for in an earlier tree.
-    at: usize,
 }
 
 impl<'s> Growing<'s> {
@@ -88,50 +86,44 @@ impl<'s> Growing<'s> {
             drafts: Drafts::new(alloc),
             pages,
             rows,
-            lone: Vec::new(alloc),
-            at: 0,
         })
     }
 
-    /// Adds the i-th token. It is one step.
+    /// Adds the i-th token, of which this is kept. It is one step.
     fn add<N: Ledger>(
         &mut self,
         alloc: Global,
         evaluator: &mut Evaluator<'_, 's>,
-        earlier: &Earlier<'s>,
+        kept: Option<Kept<'_, 's>>,
         i: usize,
         token: &(Path<'s>, Entry<'s>),
         cfg: &Config,
         evals: &mut Steps<N>,
     ) -> Result<(), NoMemory>
         requires token { slice_get (map.entries evaluator.old) i ≡ Some token.now }
+        requires kept { IfSome kept (λ k. IsCell evaluator.old cfg.now token.now.0 (kept_view k)) }
         ensures tree { evaluator.new ≡ evaluator.old }
         ensures added { OnOk result ((tokens : List TokenAt)
             → HasAdded evaluator.old cfg.now tokens self.old
             → HasAdded evaluator.old cfg.now (tokens ++ token.now ∷ []) self.new) }
-        ensures step { OnOk result (evals.new ≡ evals.old + 1) }
-        ensures at_most { evals.new ≤ evals.old + 1 }
+        ensures step { evals.new ≡ evals.old + 1 }
     {
-        let kept = earlier.cell(alloc, cfg, &mut self.at, token)?;
-        let Answer { row, lone } = token_answer(
-            alloc,
-            &mut self.drafts,
-            &mut self.pages,
-            evaluator,
-            i,
-            token,
-            cfg,
-            kept,
-            evals,
-        )?;
+        let drafts = &mut self.drafts;
+        let pages = &mut self.pages;
+        let row = token_row(alloc, drafts, pages, evaluator, i, token, cfg, kept, evals)?;
         self.rows.push(row)?;
-        self.lone.push(lone)?;
         Ok(())
     }
 
     /// The tree of these tokens, which were all added.
-    pub(crate) fn end(self, flat: Flat<'s>, cfg: &Config) -> Result<Evaluated<'s>, NoMemory>
-        requires { HasAdded flat cfg.now (map.entries flat) self }
+    pub(crate) fn end(
+        self,
+        flat: Flat<'s>,
+        cfg: &Config,
+        lone: Vec<bool>,
+    ) -> Result<Evaluated<'s>, NoMemory>
+        requires added { HasAdded flat cfg.now (map.entries flat) self }
+        requires lone { AreLone (map.entries flat) lone.items }
         ensures tokens { IfOk result (λ tree. tree.tokens ≡ flat.entry) }
         ensures cells { IfOk result (λ tree.
             AreCells flat.entry cfg.now (map.entries flat.entry) tree.cells) }
@@ -140,22 +132,21 @@ impl<'s> Growing<'s> {
             drafts: _,
             pages,
             rows,
-            lone,
-            at: _,
         } = self;
         let cells = Cells::new(pages, rows)?;
         Ok(Evaluated::new(flat, cells, lone))
     }
 }
 
-/// Adds all tokens of the flat tree, in path order. Each is one step.
+/// Adds all tokens of the flat tree, in path order, of which this is kept. Each is one step.
 pub(crate) fn grown<'s, N: Ledger>(
     alloc: Global,
     flat: &Flat<'s>,
     cfg: &Config,
-    earlier: &Earlier<'s>,
+    kepts: &[Option<Kept<'_, 's>>],
     evals: &mut Steps<N>,
 ) -> Result<Growing<'s>, NoMemory>
+    requires { AreKept flat.now cfg.now kepts.now }
     ensures added { IfOk result (HasAdded flat.now cfg.now (map.entries flat.now)) }
     ensures steps { OnOk result (evals.new ≡ evals.old + length (map.entries flat.now)) }
     ensures at_most { evals.new ≤ evals.old + length (map.entries flat.now) }
@@ -164,7 +155,8 @@ pub(crate) fn grown<'s, N: Ledger>(
     let mut growing = Growing::new(alloc, tokens.len())?;
     let mut evaluator = Evaluator::new(alloc, flat)?;
     for (i, token) in tokens.iter().enumerate() {
-        growing.add(alloc, &mut evaluator, earlier, i, token, cfg, evals)?;
+        let kept = kept_of(kepts, i);
+        growing.add(alloc, &mut evaluator, kept, i, token, cfg, evals)?;
     }
     Ok(growing)
 }

@@ -3,11 +3,11 @@
 ghost use Rattle.token_cells.specs.Denotes.{CellsDenote};
 ghost use Rattle.token_cells.specs.Existence.{EachCell, EachCells};
 ghost use Rattle.token_cells.specs.OtherSheets.{AndroidCellsDenote, JsonCellsDenote, SwiftCellsDenote};
-ghost use Rattle.token_cells.specs.Laws.{ApartAreUnclashed, BreaksAreReal, BreaksHavePlaces, ClashesAreReal, OneCells, UnchangedCells, UnclashedAreApart};
+ghost use Rattle.token_cells.specs.Laws.{ApartAreUnclashed, BreaksAreReal, BreaksHavePlaces, ClashesAreReal, OneCells, TakenAreCells, UnchangedCells, UnclashedAreApart, UnreachedIsAlike};
 
 use alias_ref::{
-    meanings_fit, one_answer, one_meaning, parts_mean, source_decides, unbroken_tokens,
-    unchanged_is_alike,
+    differ_decides, meanings_fit, one_answer, one_meaning, parts_mean, source_decides,
+    unbroken_tokens, unchanged_is_alike,
 };
 use composite_rules::{part_laws, value_laws};
 use css_out::sheet_laws;
@@ -29,6 +29,19 @@ pub fn unchanged_cells()
 {
     unchanged_is_alike();
     source_decides();
+}
+
+/// A token that is not reached comes in both trees to the same under one configuration, wherever its file stands: it is
+/// refused with the same rule, place and ring, or it gives the same to each platform. So the cells of a tree may be taken
+/// from any earlier one, but for the tokens that are reached. Cells hold places: what is printed of them are spans of
+/// the tree in which they stand.
+pub fn unreached_cells()
+    ensures alike { UnreachedIsAlike }
+    ensures taken { TakenAreCells }
+{
+    unchanged_cells();
+    source_decides();
+    differ_decides();
 }
 
 /// Cells without a break, of which no two have a name in common, give a style sheet that denotes the values of their tokens,

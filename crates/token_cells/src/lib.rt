@@ -32,7 +32,7 @@ pub use evaluated::Evaluated;
 pub use format::Format;
 pub use laws::{
     breaks_are_real, clashes_are_real, each_cell, one_cells, other_sheets_denote, sheets_denote,
-    unchanged_cells,
+    unchanged_cells, unreached_cells,
 };
 pub use sheet::sheet_of;
 pub use token_cell::cell;

@@ -1,26 +1,33 @@
 -- What is known of tokens that were evaluated earlier.
-use Rattle.std.specs.Prelude.{◌≡◌, List, [], Bool, true, Some}
+use Rattle.std.specs.Prelude.{◌≡◌, ℕ, List, Option, Some, None}
 use Rattle.std.specs.FinMap as finite
-use Rattle.std.specs.List.{AllZip}
+use Rattle.std.specs.List.{slice_get}
 use Rattle.group_inherit.specs.Flattening.{TokenAt}
 use Rattle.alias_ref.specs.Laws.{Flat}
-use Rattle.alias_ref.specs.Refs.{refs_of}
+use Rattle.tree_changes.specs.Lone.{AreLone}
 use Rattle.transforms.specs.Config.{Settings}
 use Rattle.token_cells.specs.Cell.{IsCell, AreCells}
 use Rattle.token_cells.specs.Evaluated.{KnownTree}
-use Rattle.token_cells.specs.TokenCell.{TokenCell}
+use Rattle.token_cells.specs.declared.earlier.KeptRows.{KeptRows}
+use Rattle.token_cells.specs.declared.keeping.Kept.{Kept}
+use Rattle.token_cells.specs.declared.row.Row.{Row}
+use Rattle.token_cells.specs.inner.Kept.{PageTexts, kept_view, rows_view}
 
--- a token that is said to be lone names no other
-abbrev pub IsLone : TokenAt → Bool → Type 0
-IsLone token lone = lone ≡ true → refs_of token.1.def ≡ []
+-- what is kept for a token that keeps this place: the row there, if anything
+abbrev pub IsKeptOf : PageTexts → List Row → Option ℕ → Option Kept → Type 0
+IsKeptOf pages rows place None = Unit {0}
+IsKeptOf pages rows place (Some kept) =
+    (i : ℕ) × (place ≡ Some i) × (slice_get (rows_view pages rows) i ≡ Some (kept_view kept))
 
-abbrev pub AreLone : List TokenAt → List Bool → Type 0
-AreLone tokens lone = AllZip IsLone tokens lone
+-- the tokens of the flat tree come to what is kept at their places, where something is
+abbrev pub AreKept : Flat → Settings → List (Option Kept) → Type 0
+AreKept flat settings kepts = (i : ℕ) (token : TokenAt) (kept : Kept) → slice_get (finite.entries flat) i ≡ Some token
+    → slice_get kepts i ≡ Some (Some kept) → IsCell flat settings token.0 (kept_view kept)
 
--- the cell of the token wherever it stands in a flat tree, which names no other
-pub record IsKeptCell (settings : Settings) (token : TokenAt) (cell : TokenCell) : Type 0 where
-  pub comes : (flat : Flat) → finite.get flat token.0 ≡ Some token.1 → IsCell flat settings token.0 cell
-  pub lone : refs_of token.1.def ≡ []
+-- .. and it is known which of them name no other
+pub record IsKept (flat : Flat) (settings : Settings) (kept : KeptRows) : Type 0 where
+  pub rows : AreKept flat settings kept.rows.items
+  pub lone : AreLone (finite.entries flat) kept.lone.items
 
 -- whose cells are those of its tokens
 abbrev pub IsKnown : KnownTree → Type 0

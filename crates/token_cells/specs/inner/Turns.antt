@@ -6,7 +6,6 @@ use Rattle.transforms.specs.Config.{Settings}
 use Rattle.token_cells.specs.Cell.{AreCells}
 use Rattle.token_cells.specs.TokenCell.{TokenCell}
 use Rattle.token_cells.specs.declared.gathering.Growing.{Growing}
-use Rattle.token_cells.specs.inner.Earlier.{AreLone}
 use Rattle.token_cells.specs.inner.AddedToPages.{AreShown, HoldAll}
 use Rattle.token_cells.specs.inner.Kept.{open_texts}
 
@@ -16,4 +15,3 @@ pub record HasAdded (flat : Flat) (settings : Settings) (tokens : List TokenAt) 
   pub are : AreCells flat settings tokens cells
   pub hold : HoldAll g.pages cells
   pub shown : AreShown (open_texts g.pages) g.rows.items cells
-  pub lone : AreLone tokens g.lone.items

@@ -4,11 +4,11 @@ use Rattle.token_cells.specs.Cell.{AreCells}
 use Rattle.token_cells.proofs.gathering.Growing.end.Goals as goal
 
 pub new-requires : goal.new-requires
-new-requires c = (c.requires.cells, c.requires.hold, c.requires.shown)
+new-requires c = (c.requires.added.cells, c.requires.added.hold, c.requires.added.shown)
 
 pub new-requires-2 : goal.new-requires-2
 new-requires-2 c = c.requires.lone
 
 pub returns-clause-cells : goal.returns-clause-cells
 returns-clause-cells c =
-    subst (AreCells c.args.flat c.args.cfg.now (map.entries c.args.flat)) (sym (c.new-2.ensures.cells ∙ c.in_ok-cells.ensures c.requires.cells c.requires.shown)) c.requires.are
+    subst (AreCells c.args.flat c.args.cfg.now (map.entries c.args.flat)) (sym (c.new-2.ensures.cells ∙ c.in_ok-cells.ensures c.requires.added.cells c.requires.added.shown)) c.requires.added.are
