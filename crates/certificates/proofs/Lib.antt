@@ -1,0 +1,5 @@
+mod Cutting
+mod Escapes
+mod Finding
+mod Strings
+mod Lines
