@@ -1,0 +1,2 @@
+mod PlacesWritten
+mod ValidExplains

@@ -1,0 +1,13 @@
+-- `Valid` says when a certificate holds of a flat tree: each hop is a written reference that leads
+-- to its target, where each place before a step is settled by the hops before it alone; the place
+-- that is explained settles by all hops at the end, which is no reference; and files and spans are
+-- those of the tree. It knows nothing of how hops are found.
+--
+-- What is promised, with the calls and clauses that carry it:
+-- * whether a place is written is told exactly (`written`)
+-- * of a valid certificate each hop leads to its target, the place that is explained settles at the
+--   end, and the end is no reference; what the end means, the place means; and valid certificates of
+--   one place have one end (`valid_explains`, `explained_value`)
+
+pub mod Validity
+pub mod Laws
