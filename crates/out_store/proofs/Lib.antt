@@ -1,0 +1,14 @@
+pub mod Brought
+pub mod Deciding
+pub mod Effects
+pub mod Keys
+pub mod Lines
+pub mod Lists
+pub mod Memories
+pub mod Passed
+pub mod Places
+pub mod Runs
+pub mod Steps
+pub mod Synced
+pub mod Told
+pub mod Whole

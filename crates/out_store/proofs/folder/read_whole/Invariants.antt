@@ -1,0 +1,4 @@
+use Rattle.out_store.proofs.folder.read_whole.Given as goal
+
+abbrev pub decreases-loop-left : goal.decreases-loop-left
+decreases-loop-left l = l.left
