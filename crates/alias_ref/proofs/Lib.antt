@@ -46,4 +46,6 @@ mod LiteralsInTurn
 mod LiteralsMean
 mod PlainCopies
 mod RememberedTokens
+mod AliasChains
+mod SharedAliases
 mod Targets

@@ -61,7 +61,7 @@ not_below t (x ∷ es) zero f h e =
 not_below t (x ∷ es) (suc i) f h e = not_below t es i f (second (is_lt (names_cmp t x.0)) (below_all names_cmp t es) h) e
 
 -- each path stands at one place
-one_place : (es : List TokenAt) (i j : ℕ) (t : List Step) (f g : Flattened) → T (is_sorted names_cmp es) → slice_get es i ≡ Some (t, f) → slice_get es j ≡ Some (t, g) → i ≡ j
+pub one_place : (es : List TokenAt) (i j : ℕ) (t : List Step) (f g : Flattened) → T (is_sorted names_cmp es) → slice_get es i ≡ Some (t, f) → slice_get es j ≡ Some (t, g) → i ≡ j
 one_place [] i j t f g h e k = cc
 one_place (x ∷ es) zero zero t f g h e k = refl
 one_place (x ∷ es) zero (suc j) t f g h e k =
@@ -105,7 +105,7 @@ more_at tokens paths i path places new place so_far within is stands made =
 
 -- What is remembered.
 
-some_same : {A : Type 0} (x y : A) → Some x ≡ Some y → x ≡ y
+pub some_same : {A : Type 0} (x y : A) → Some x ≡ Some y → x ≡ y
 some_same x y e = cc
 
 pub blank_none : IsBlank []
@@ -162,7 +162,7 @@ module _ (flat : Flat) (m : Memories) where
   same_home true old new token h s = subst (λ b. Serves flat m b token) (sym s.0) h
   same_home false old new token h s = tt
 
-  longer : (b : List Place) (p : Place) → Serves flat m b p.token → Serves flat m (b ++ p ∷ []) p.token
+  pub longer : (b : List Place) (p : Place) → Serves flat m b p.token → Serves flat m (b ++ p ∷ []) p.token
   longer b p s = record { right = s.right; is_new = s.is_new; at_home = λ q i. at q (In-either q b (p ∷ []) i) }
     where
       at : (q : Place) → In q b ⊎ In q (p ∷ []) → q.token ≡ p.token

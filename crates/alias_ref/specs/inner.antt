@@ -7,3 +7,4 @@ pub mod Steps
 pub mod Walks
 pub mod Literals
 pub mod Remembering
+pub mod Chains

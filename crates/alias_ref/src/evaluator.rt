@@ -6,7 +6,10 @@ ghost use Rattle.std.specs.List.{slice_get};
 ghost use Rattle.alias_ref.specs.Answer.{IsResolved, IsRefBreak, HasRealRing};
 ghost use Rattle.alias_ref.specs.Written.{written_in};
 ghost use Rattle.alias_ref.specs.inner.Remembering.{Remembers};
+ghost use Rattle.alias_ref.specs.inner.Chains.{AreAliases};
 
+use crate::aliases::Aliases;
+use crate::chain::follow_aliases;
 use crate::fault::RefFault;
 use crate::memory::Memory;
 use crate::remembering::{FARTHEST, prepare};
@@ -26,6 +29,7 @@ use tk_io::{NoMemory, Steps};
 pub struct Evaluator<'a, 's> {
     flat: &'a Flat<'s>,
     memory: Memory<'s>,
+    aliases: Aliases,
 }
 
 impl<'a, 's> Model for Evaluator<'a, 's> {
@@ -35,6 +39,7 @@ impl<'a, 's> Model for Evaluator<'a, 's> {
     ghost use Rattle.group_inherit.specs.Codes.{coded_flattened};
     ghost use Rattle.group_inherit.specs.Flattening.{Flattened};
     ghost use Rattle.alias_ref.specs.inner.Remembering.{Remembers};
+    ghost use Rattle.alias_ref.specs.inner.Chains.{AreAliases};
 
     ghost Value = { map.FinMap names_cmp Flattened };
 
@@ -42,7 +47,7 @@ impl<'a, 's> Model for Evaluator<'a, 's> {
 
     ghost view = { λ e. e.flat.now };
 
-    ghost invariant = { λ e. Remembers e.flat.now e.memory.known.items };
+    ghost invariant = { λ e. Remembers e.flat.now e.memory.known.items × AreAliases e.flat.now e.aliases.targets.items };
 }
 
 impl<'a, 's> fmt::Debug for Evaluator<'a, 's> {
@@ -51,16 +56,19 @@ impl<'a, 's> fmt::Debug for Evaluator<'a, 's> {
     }
 }
 
-/// What the token of a place comes to, which may be remembered.
+/// What the token of a place comes to, which may be remembered. A chain of aliases that breaks a rule is told at once.
 fn answer<'s>(
     alloc: Global,
     flat: &Flat<'s>,
     memory: &Memory<'s>,
+    aliases: &mut Aliases,
     i: usize,
     token: &(Path<'s>, Entry<'s>),
 ) -> Result<Rc<Resolved<'s>>, RefFault<'s>>
     requires token { slice_get (map.entries flat.now) i ≡ Some token.now }
     requires right { Remembers flat.now memory.now.known.items }
+    requires aliases { AreAliases flat.now aliases.old.targets.items }
+    ensures targets { aliases.new.targets ≡ aliases.old.targets }
     ensures resolved { IfOk result (λ r. IsResolved flat.now token.now.0 r.value) }
     ensures broken { IfErr result (λ e. IsRefBreak flat.now token.now.0 e) }
     ensures ring { IfErr result (λ e. HasRealRing (written_in flat.now) e) }
@@ -69,6 +77,7 @@ fn answer<'s>(
         let resolved = known.resolved.clone()?;
         return Ok(resolved);
     }
+    follow_aliases(alloc, flat, aliases, i)?;
     let mut visits = 0;
     let resolved = resolve(alloc, flat, memory, &token.0, &token.1, &mut visits)?;
     let resolved = Rc::new(alloc, resolved)?;
@@ -81,7 +90,12 @@ impl<'a, 's> Evaluator<'a, 's> {
         ensures { IfOk result (λ e. e ≡ flat.entry.now) }
     {
         let memory = Memory::with_places(alloc, flat.len())?;
-        Ok(Evaluator { flat, memory })
+        let aliases = Aliases::with_places(alloc, flat.len())?;
+        Ok(Evaluator {
+            flat,
+            memory,
+            aliases,
+        })
     }
 
     /// What the i-th token of the tree comes to, as [`evaluate`](crate::evaluate). One step of `evals`, whatever it answers.
@@ -104,7 +118,14 @@ impl<'a, 's> Evaluator<'a, 's> {
     {
         evals.tick();
         let flat = self.flat;
-        prepare(alloc, flat, &mut self.memory, i, FARTHEST)?;
-        answer(alloc, flat, &self.memory, i, token)
+        prepare(
+            alloc,
+            flat,
+            &mut self.memory,
+            &mut self.aliases,
+            i,
+            FARTHEST,
+        )?;
+        answer(alloc, flat, &self.memory, &mut self.aliases, i, token)
     }
 }

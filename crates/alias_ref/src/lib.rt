@@ -2,6 +2,8 @@
 //! and links of tokens (Format Module 2025.10, aliases and references).
 #![tactic(auto)]
 
+mod aliases;
+mod chain;
 mod content;
 mod copying;
 mod evaluator;
@@ -15,6 +17,7 @@ mod recalling;
 mod refs;
 mod remembering;
 mod resolved;
+mod sharing;
 mod span;
 mod spot;
 mod trace;

@@ -1,7 +1,8 @@
 //! The tokens that values name.
 
-ghost use Rattle.std.specs.Prelude.{◌≡◌, ◌++◌, IfOk, OnOk};
-ghost use Rattle.alias_ref.specs.Written.{role_behind};
+ghost use Rattle.std.specs.Prelude.{◌≡◌, ◌++◌, [], List, IfOk, OnOk, IsTrue};
+ghost use Rattle.json_span.specs.Tree.{tree_of};
+ghost use Rattle.alias_ref.specs.Written.{Step, refers, role_behind, written_as};
 ghost use Rattle.alias_ref.specs.Refs.{named_by, refs_in, refs_of};
 ghost use Rattle.alias_ref.specs.inner.Contents.{content_view, role_of};
 ghost use Rattle.json_span.specs.View.{ref_view, field_view, items_view, fields_view};
@@ -21,6 +22,21 @@ pub fn refs_of<'s>(alloc: Global, def: &TokenDef<'s>) -> Result<Paths<'s>, NoMem
     let mut paths = Paths::new(alloc);
     add_refs(alloc, def.value.as_ref(), def.by_ref, &mut paths)?;
     Ok(paths)
+}
+
+/// Whether the whole value of a token is a reference without steps.
+pub(crate) fn is_alias<'s>(alloc: Global, def: &TokenDef<'s>) -> Result<bool, NoMemory>
+    ensures { IfOk result (λ b. IsTrue b → (named : List Step)
+        × (written_as (role_of def.now.by_ref) (tree_of def.now.value) ≡ refers named [])) }
+{
+    let node = def.value.as_ref();
+    let content = read_content(alloc, node, def.by_ref)?;
+    match content {
+        Content::Refers(named) => Ok(named.trail.is_empty()),
+        Content::Leaf(_) | Content::Array(_) | Content::Object(_) | Content::Misspelled => Ok(
+            false,
+        ),
+    }
 }
 
 /// Adds what a value names. `by_ref` says that it is the text of a token's own `$ref`.

@@ -1,15 +1,21 @@
 //! Remembering what tokens come to, in an order in which each follows those that it names.
 
-ghost use Rattle.std.specs.Prelude.{◌≡◌, IfOk, IfSome, Some};
+ghost use Rattle.std.specs.Prelude.{◌≡◌, [], length, Some, None, IfOk, IfSome, IsTrue};
 ghost use Rattle.std.specs.FinMap as map;
 ghost use Rattle.std.specs.List.{slice_get};
+ghost use Rattle.alias_ref.specs.Answer.{IsResolved};
 ghost use Rattle.alias_ref.specs.Refs.{refs_of};
-ghost use Rattle.alias_ref.specs.inner.Remembering.{AreAt, Remembers, all_known};
+ghost use Rattle.alias_ref.specs.Visits.{walked};
+ghost use Rattle.alias_ref.specs.Written.{whole, written_in};
+ghost use Rattle.alias_ref.specs.inner.Remembering.{AreAt, Remembers, all_known, known_at};
+ghost use Rattle.alias_ref.specs.inner.Chains.{AreAliases};
 
+use crate::aliases::Aliases;
 use crate::fault::RefFault;
 use crate::memory::{Known, Memory, place_of};
-use crate::refs::refs_of;
+use crate::refs::{is_alias, refs_of};
 use crate::resolved::resolve;
+use crate::sharing::shared;
 use group_inherit::{Entry, Flat};
 use name_path::{Path, Paths};
 use std::alloc::Global;
@@ -50,12 +56,73 @@ fn all_known(memory: &Memory<'_>, i: usize, places: &[usize]) -> bool
     true
 }
 
+/// Keeps to which token the whole value of the token of a place refers, where it does so without steps. Those that it names
+/// stand at the places.
+fn lead<'s>(
+    alloc: Global,
+    flat: &Flat<'s>,
+    aliases: &mut Aliases,
+    i: usize,
+    token: &(Path<'s>, Entry<'s>),
+    named: &[usize],
+) -> Result<(), NoMemory>
+    requires token { slice_get (map.entries flat.now) i ≡ Some token.now }
+    requires named { AreAt (map.entries flat.now) (refs_of token.now.1.def) named.now }
+    requires right { AreAliases flat.now aliases.old.targets.items }
+    ensures { AreAliases flat.now aliases.new.targets.items }
+{
+    if named.len() != 1 {
+        return Ok(());
+    }
+    let Some(target) = named.get(0) else {
+        return Ok(());
+    };
+    let alias = is_alias(alloc, &token.1.def)?;
+    if alias {
+        aliases.lead(i, *target);
+    }
+    Ok(())
+}
+
+/// What the token of a place comes to, by what is remembered of others; none where it breaks a rule.
+fn known_of<'s>(
+    alloc: Global,
+    flat: &Flat<'s>,
+    memory: &Memory<'s>,
+    aliases: &Aliases,
+    i: usize,
+    token: &(Path<'s>, Entry<'s>),
+) -> Result<Option<Known<'s>>, NoMemory>
+    requires token { slice_get (map.entries flat.now) i ≡ Some token.now }
+    requires right { Remembers flat.now memory.now.known.items }
+    requires new { known_at memory.now.known.items i ≡ None }
+    requires aliases { AreAliases flat.now aliases.now.targets.items }
+    ensures resolved { IfOk result (λ o. IfSome o (λ k.
+        IsResolved flat.now token.now.0 k.resolved.value)) }
+    ensures counted { IfOk result (λ o. IfSome o (λ k.
+        length (walked (written_in flat.now) [] (whole token.now.0)) ≡ k.visits)) }
+{
+    if let Some(known) = shared(alloc, flat, memory, aliases, i, token)? {
+        return Ok(Some(known));
+    }
+    let mut visits = 0;
+    match resolve(alloc, flat, memory, &token.0, &token.1, &mut visits) {
+        Ok(resolved) => {
+            let resolved = Rc::new(alloc, resolved)?;
+            Ok(Some(Known { visits, resolved }))
+        }
+        Err(RefFault::Broken { .. }) => Ok(None),
+        Err(RefFault::NoMemory) => Err(NoMemory),
+    }
+}
+
 /// Remembers what the token of a place comes to, where it breaks no rule and something is remembered of each token that it
 /// names. These stand at the places.
 fn remember<'s>(
     alloc: Global,
     flat: &Flat<'s>,
     memory: &mut Memory<'s>,
+    aliases: &Aliases,
     i: usize,
     token: &(Path<'s>, Entry<'s>),
     named: &[usize],
@@ -63,6 +130,7 @@ fn remember<'s>(
     requires token { slice_get (map.entries flat.now) i ≡ Some token.now }
     requires named { AreAt (map.entries flat.now) (refs_of token.now.1.def) named.now }
     requires right { Remembers flat.now memory.old.known.items }
+    requires aliases { AreAliases flat.now aliases.now.targets.items }
     ensures { Remembers flat.now memory.new.known.items }
 {
     if memory.at(i).is_some() {
@@ -71,29 +139,57 @@ fn remember<'s>(
     if !all_known(memory, i, named) {
         return Ok(());
     }
-    let mut visits = 0;
-    match resolve(alloc, flat, memory, &token.0, &token.1, &mut visits) {
-        Ok(resolved) => {
-            let resolved = Rc::new(alloc, resolved)?;
-            memory.keep(i, Known { visits, resolved });
-            Ok(())
-        }
-        Err(RefFault::Broken { .. }) => Ok(()),
-        Err(RefFault::NoMemory) => Err(NoMemory),
+    if let Some(known) = known_of(alloc, flat, memory, aliases, i, token)? {
+        memory.keep(i, known);
     }
+    Ok(())
 }
 
-/// Remembers what the token of a place comes to, after those that it names and those that these name, so far from it. The
-/// first token itself is passed over where it names none: most are never asked for again.
+/// The places of the tokens that the token of a place names, which is looked at; none where one of them is not there. The
+/// first token is passed over where it names none: most are never asked for again.
+fn look<'s>(
+    alloc: Global,
+    flat: &Flat<'s>,
+    memory: &mut Memory<'s>,
+    aliases: &mut Aliases,
+    i: usize,
+    token: &(Path<'s>, Entry<'s>),
+    first: bool,
+) -> Result<Option<Vec<usize>>, NoMemory>
+    requires token { slice_get (map.entries flat.now) i ≡ Some token.now }
+    requires aliases { AreAliases flat.now aliases.old.targets.items }
+    ensures known { memory.new.known ≡ memory.old.known }
+    ensures aliases { AreAliases flat.now aliases.new.targets.items }
+    ensures named { IfOk result (λ o. IfSome o (λ named.
+        AreAt (map.entries flat.now) (refs_of token.now.1.def) named.items)) }
+{
+    let paths = refs_of(alloc, &token.1.def)?;
+    if first && paths.is_empty() {
+        return Ok(None);
+    }
+    memory.see(i);
+    let tokens = flat.as_slice();
+    let Some(named) = places_of(alloc, tokens, &paths)? else {
+        return Ok(None);
+    };
+    let places = named.as_slice();
+    lead(alloc, flat, aliases, i, token, places)?;
+    Ok(Some(named))
+}
+
+/// Remembers what the token of a place comes to, after those that it names and those that these name, so far from it.
 pub(crate) fn prepare<'s>(
     alloc: Global,
     flat: &Flat<'s>,
     memory: &mut Memory<'s>,
+    aliases: &mut Aliases,
     i: usize,
     left: usize,
 ) -> Result<(), NoMemory>
-    requires { Remembers flat.now memory.old.known.items }
-    ensures { Remembers flat.now memory.new.known.items }
+    requires known { Remembers flat.now memory.old.known.items }
+    requires aliases { AreAliases flat.now aliases.old.targets.items }
+    ensures known { Remembers flat.now memory.new.known.items }
+    ensures aliases { AreAliases flat.now aliases.new.targets.items }
 {
     let tokens = flat.as_slice();
     let Some(token) = tokens.get(i) else {
@@ -102,17 +198,13 @@ pub(crate) fn prepare<'s>(
     if left == 0 || memory.is_seen(i) {
         return Ok(());
     }
-    let paths = refs_of(alloc, &token.1.def)?;
-    if left == FARTHEST && paths.is_empty() {
-        return Ok(());
-    }
-    memory.see(i);
-    let Some(named) = places_of(alloc, tokens, &paths)? else {
+    let first = left == FARTHEST;
+    let Some(named) = look(alloc, flat, memory, aliases, i, token, first)? else {
         return Ok(());
     };
     let places = named.as_slice();
     for place in places {
-        prepare(alloc, flat, memory, *place, left - 1)?;
+        prepare(alloc, flat, memory, aliases, *place, left - 1)?;
     }
-    remember(alloc, flat, memory, i, token, places)
+    remember(alloc, flat, memory, aliases, i, token, places)
 }

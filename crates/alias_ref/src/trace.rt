@@ -24,7 +24,7 @@ use tk_io::{NoMemory, Text};
 use token_tree::TokenDef;
 
 /// How many places may stand on a branch before a visit.
-const MOST_ON_BRANCH: usize = 256;
+pub(crate) const MOST_ON_BRANCH: usize = 256;
 
 /// How many visits may come before a visit.
 const MOST_VISITS: u32 = 1024;
@@ -66,7 +66,7 @@ fn rest_of<'s>(alloc: Global, places: &[Place<'s>], from: usize) -> Result<Ring<
 }
 
 /// The part of a branch from the place on; none where the place does not stand on it.
-fn ring_from<'s>(
+pub(crate) fn ring_from<'s>(
     alloc: Global,
     places: &[Place<'s>],
     place: &Place<'s>,
