@@ -16,11 +16,14 @@ mod telling;
 mod wiring;
 mod workspace;
 
+pub use building::build_files;
 pub use clean::run_clean;
 pub use command_words::{Command, WordStop, read_words};
 pub use generated_script::gen_script;
 pub use laws::{one_status, one_stream};
 pub use numbered::run_numbered;
+pub use reading::read_events;
+pub use refusal::is_refused;
 pub use running::run;
 pub use status::Status;
 pub use wiring::program;
