@@ -1,0 +1,87 @@
+use Rattle.std.proofs.Common.{◌≡◌, ◌⊎◌, ◌∙◌, ℕ, List, ap, sym, subst}
+use Rattle.store_cli.specs.Report.{error_text}
+use Rattle.store_cli.specs.Stored.{IsStored}
+use Rattle.store_cli.specs.inner.Ending.{place_of, status_of}
+use Rattle.token_cli.specs.Report.{Reports}
+use Rattle.store_cli.specs.declared.status.StoreStatus.{StoreStatus}
+use Rattle.store_cli.specs.declared.status.StoreStatus.TheVariants as status
+use Rattle.store_cli.proofs.Endings.{completed, endless, ends_as, unreadable}
+use Rattle.store_cli.proofs.Stopping.{blocked_status, text_of_status}
+use Rattle.store_cli.proofs.running.run_store.Goals as goal
+
+pub returns-clause-done : goal.returns-clause-done
+returns-clause-done g c e =
+    (ends_as c.main_job-ended.result c.status_of.result status.Done _ _ c.main_job-ended.ensures.ends c.status_of.ensures e).1
+
+pub returns-clause-refused : goal.returns-clause-refused
+returns-clause-refused g c e =
+    (ends_as c.main_job-ended.result c.status_of.result status.Refused _ _ c.main_job-ended.ensures.ends c.status_of.ensures e).1
+
+pub returns-clause-usage : goal.returns-clause-usage
+returns-clause-usage g c e =
+    ends_as c.main_job-ended.result c.status_of.result status.Usage _ _ c.main_job-ended.ensures.ends c.status_of.ensures e
+
+pub returns-clause-words : goal.returns-clause-words
+returns-clause-words g c none =
+    let (is, unread, unheld) = c.main_job-ended.ensures.words none in
+    (c.status_of.ensures ∙ ap status_of is, unread, unheld)
+
+pub returns-clause-bad_script : goal.returns-clause-bad_script
+returns-clause-bad_script g c e =
+    let r = c.main_job-ended.result in
+    let ends = ends_as r c.status_of.result status.BadScript _ _ c.main_job-ended.ensures.ends c.status_of.ensures e in (
+      place_of r,
+      ends.0,
+      ends.1,
+      subst
+          (λ (s : StoreStatus). Reports (g.E.Sink.written c.args.err.now) (g.E.Sink.written c.report.new.err)
+          (g.E.Sink.faults c.args.err.now) (g.E.Sink.faults c.report.new.err) (error_text s (place_of r)))
+          (sym c.status_of.ensures) c.report.ensures,
+    )
+
+pub returns-clause-read_fault : goal.returns-clause-read_fault
+returns-clause-read_fault g c e =
+    ends_as c.main_job-ended.result c.status_of.result status.ReadFault _ _ c.main_job-ended.ensures.ends c.status_of.ensures e
+
+pub returns-clause-store_fault : goal.returns-clause-store_fault
+returns-clause-store_fault g c e =
+    (ends_as c.main_job-ended.result c.status_of.result status.StoreFault _ _ c.main_job-ended.ensures.ends c.status_of.ensures e).0
+
+pub returns-clause-bad_manifest : goal.returns-clause-bad_manifest
+returns-clause-bad_manifest g c e =
+    (ends_as c.main_job-ended.result c.status_of.result status.BadManifest _ _ c.main_job-ended.ensures.ends c.status_of.ensures e).0
+
+pub returns-clause-too_long : goal.returns-clause-too_long
+returns-clause-too_long g c e =
+    ends_as c.main_job-ended.result c.status_of.result status.TooLong _ _ c.main_job-ended.ensures.ends c.status_of.ensures e
+
+pub returns-clause-taken : goal.returns-clause-taken
+returns-clause-taken g c not = c.main_job-ended.ensures.taken (λ e. not (c.status_of.ensures ∙ ap status_of e))
+
+pub returns-clause-complete : goal.returns-clause-complete
+returns-clause-complete g c script es one told short is unread good =
+    subst (λ (s : StoreStatus). IsStored s ⊎ (s ≡ status.BadManifest)) (sym c.status_of.ensures)
+    (completed _ one _ _ script told _ _ unread _ _ _ _ c.main_job-ended.result short es is good c.main_job-ended.ensures.ends)
+
+pub returns-clause-unread : goal.returns-clause-unread
+returns-clause-unread g c script one told short none unread =
+    subst (λ (s : StoreStatus). (s ≡ status.BadScript) ⊎ (s ≡ status.NoMemory)) (sym c.status_of.ensures)
+    (unreadable _ one _ _ script told _ _ unread _ _ _ _ c.main_job-ended.result short none c.main_job-ended.ensures.ends)
+
+pub returns-clause-endless : goal.returns-clause-endless
+returns-clause-endless g c script one told more unread =
+    subst (λ (s : StoreStatus). (s ≡ status.TooLong) ⊎ (s ≡ status.NoMemory)) (sym c.status_of.ensures)
+    (endless _ one _ _ script told _ _ unread _ _ _ _ c.main_job-ended.result more c.main_job-ended.ensures.ends)
+
+pub returns-clause-kept : goal.returns-clause-kept
+returns-clause-kept g c = c.main_job-ended.ensures.kept
+
+pub returns-clause-blocked : goal.returns-clause-blocked
+returns-clause-blocked g c = blocked_status c.main_job-ended.result c.status_of.result (g.T.Store.held c.args.store.now) c.status_of.ensures c.main_job-ended.ensures.blocked
+
+pub returns-clause-error : goal.returns-clause-error
+returns-clause-error g c not =
+    subst
+    (λ (text : List ℕ). Reports (g.E.Sink.written c.args.err.now) (g.E.Sink.written c.report.new.err)
+    (g.E.Sink.faults c.args.err.now) (g.E.Sink.faults c.report.new.err) text)
+    (text_of_status c.main_job-ended.result c.status_of.result c.status_of.ensures not) c.report.ensures

@@ -1,0 +1,29 @@
+-- How a run ends: the number of its status, and what is said on the error sink.
+use Rattle.std.specs.Prelude.{ℕ, List, [], ◌++◌, codes}
+use Rattle.std.specs.Fmt.{decimal}
+use Rattle.store_cli.specs.declared.status.StoreStatus.{StoreStatus}
+use Rattle.store_cli.specs.declared.status.StoreStatus.TheVariants as status
+
+-- the text of each status; a script that is refused is said with the byte at which it is
+abbrev pub error_text : StoreStatus → ℕ → List ℕ
+error_text status.Done at = []
+error_text status.Refused at = []
+error_text status.Usage at = codes "usage: tokc_store ROOT\n"
+error_text status.BadScript at = codes "tokc_store: bad script at byte " ++ decimal at ++ codes "\n"
+error_text status.ReadFault at = codes "tokc_store: read failed\n"
+error_text status.NoMemory at = codes "tokc_store: out of memory\n"
+error_text status.TooLong at = codes "tokc_store: script too long\n"
+error_text status.StoreFault at = codes "tokc_store: store failed\n"
+error_text status.BadManifest at = codes "tokc_store: bad manifest\n"
+
+-- the number that the program ends with
+abbrev pub status_number : StoreStatus → ℕ
+status_number status.Done = 0
+status_number status.Refused = 1
+status_number status.Usage = 2
+status_number status.BadScript = 3
+status_number status.ReadFault = 4
+status_number status.NoMemory = 6
+status_number status.TooLong = 7
+status_number status.StoreFault = 10
+status_number status.BadManifest = 11

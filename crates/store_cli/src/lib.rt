@@ -1,0 +1,13 @@
+//! The command line of tokc_store: a script whose files' outputs a folder is brought to.
+#![tactic(auto)]
+
+mod building;
+mod reporting;
+mod running;
+mod status;
+mod stop;
+mod wiring;
+
+pub use running::run_store;
+pub use status::StoreStatus;
+pub use wiring::program;
