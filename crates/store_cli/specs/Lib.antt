@@ -21,7 +21,8 @@
 --   else (`run_store`: `error`, `bad_script`)
 --
 -- `program` ends with the number of a status. That it is the one of `run_store` over the folder of
--- the first word is no clause, since no clause says what a process is given.
+-- the first word is no clause, since no clause says what a process is given: runs of the program
+-- over real folders (`tools/tests`) hold it.
 
 pub mod Report
 pub mod Stored
