@@ -3,6 +3,7 @@
 ghost use Rattle.std.specs.Prelude.{◌≡◌, [], ◌∷◌, ◌++◌, OnOk, OnErr, length, ◌==◌, map};
 ghost use Rattle.std.specs.List.{slice_get};
 ghost use Rattle.std.specs.Option.{option_map};
+ghost use Rattle.edit_script.specs.Files.{path_of};
 ghost use Rattle.edit_script.specs.View.{event_view};
 
 use std::alloc::Global;
@@ -10,13 +11,17 @@ use std::fmt;
 use std::marker::Model;
 use tk_io::NoMemory;
 
-/// One event of a script. Paths and texts are slices of the script.
+/// One event of a script. Paths and texts are slices of the script; offsets are in bytes.
 #[derive(Clone, Copy, PartialEq, Eq)]
 pub enum Event<'s> {
     /// The file at this path gets this text.
     Put(&'s str, &'s str),
     /// The file at this path is given up.
     Del(&'s str),
+    /// The text of the file at the first path goes to the second path, and the first file is given up.
+    Move(&'s str, &'s str),
+    /// The bytes from the first offset to the second, of the text of the file at this path, are replaced by these.
+    Patch(&'s str, usize, usize, &'s str),
     /// What stands is committed.
     Commit,
 }
@@ -24,6 +29,21 @@ pub enum Event<'s> {
 impl<'s> fmt::Debug for Event<'s> {
     fn fmt<W: fmt::Write>(&self, f: &mut fmt::Formatter<W>) -> fmt::Result {
         f.write_str("Event")
+    }
+}
+
+impl<'s> Event<'s> {
+    /// The path whose text the event looks at: its own, and of a move the first; none of a commit.
+    pub fn path(&self) -> Option<&'s str>
+        ensures { option_map (λ path. path.now) result ≡ path_of (event_view self.now) }
+    {
+        match self {
+            Event::Put(path, _)
+            | Event::Del(path)
+            | Event::Move(path, _)
+            | Event::Patch(path, _, _, _) => Some(path),
+            Event::Commit => None,
+        }
     }
 }
 

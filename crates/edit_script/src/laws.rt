@@ -1,4 +1,5 @@
-//! Laws of the definitions, for the crates above: functions that do nothing and are called for what they ensure.
+//! Laws of scripts, changes and streams, for the crates above: functions that do nothing and are called for what they
+//! ensure.
 
 ghost use Rattle.std.specs.Prelude.{◌≡◌, ℕ, suc, ◌+◌, ◌≤◌, List, [], ◌∷◌, ◌++◌, length, take, Some};
 ghost use Rattle.std.specs.Prelude.{map as map_list};
@@ -8,9 +9,9 @@ ghost use Rattle.std.specs.Str.{IsUtf8};
 ghost use Rattle.tk_io.specs.FilesData.{FilesData};
 ghost use Rattle.edit_script.specs.Delta.{ChangeData, Delta, IsDelta, AreDeltas, applied, replayed};
 ghost use Rattle.edit_script.specs.Delta.{held_at};
-ghost use Rattle.edit_script.specs.Files.{AreFilesAfter, AreFilesAt, up_to, commit_count};
-ghost use Rattle.edit_script.specs.Files.{as_one_commit};
-ghost use Rattle.edit_script.specs.Script.{EventData, put, del, commit, IsScript, IsScriptStop};
+ghost use Rattle.edit_script.specs.Script.{EventData, IsScript, IsScriptOf, IsScriptStop};
+ghost use Rattle.edit_script.specs.Script.{IsSpellable, event_text, header};
+ghost use Rattle.edit_script.specs.declared.version.Version.TheVariants.{First, Second};
 ghost use Rattle.edit_script.specs.declared.line.Line.TheVariants.{StreamHead, StatsHead};
 ghost use Rattle.edit_script.specs.declared.line.Line.TheVariants.{Commit as CommitLine, Done};
 ghost use Rattle.edit_script.specs.View.{Lined, with_line};
@@ -24,6 +25,19 @@ pub fn one_reading()
         → IsScript bytes fs → es ≡ fs }
 {}
 
+/// No spelling of an event begins as another's, of whatever version.
+pub fn spellings_apart()
+    ensures { (e : EventData) → (f : EventData) → (a : List ℕ) → (b : List ℕ) → IsSpellable e
+        → IsSpellable f → event_text e ++ a ≡ event_text f ++ b → (e ≡ f) × (a ≡ b) }
+{}
+
+/// What stands behind the first line of a script of the first version reads as the same events behind that of the
+/// second.
+pub fn second_version()
+    ensures { (rest : List ℕ) → (es : List EventData) → IsScriptOf First (header First ++ rest) es
+        → IsScriptOf Second (header Second ++ rest) es }
+{}
+
 /// A script is text.
 pub fn script_is_text()
     ensures { (bytes : List ℕ) → (es : List EventData) → IsScript bytes es → IsUtf8 bytes }
@@ -33,43 +47,6 @@ pub fn script_is_text()
 pub fn one_stop()
     ensures { (bytes : List ℕ) → (m : ℕ) → (n : ℕ) → IsScriptStop bytes m → IsScriptStop bytes n
         → m ≡ n }
-{}
-
-/// The files after no event, and after one event more.
-pub fn one_more_event()
-    ensures none { AreFilesAfter [] map.empty }
-    ensures put { (es : List EventData) → (files : FilesData) → (path : List ℕ) → (text : List ℕ)
-        → AreFilesAfter es files
-        → AreFilesAfter (es ++ put path text ∷ []) (map.insert files path text) }
-    ensures del { (es : List EventData) → (files : FilesData) → (path : List ℕ)
-        → AreFilesAfter es files → AreFilesAfter (es ++ del path ∷ []) (map.remove files path) }
-    ensures commit { (es : List EventData) → (files : FilesData) → AreFilesAfter es files
-        → AreFilesAfter (es ++ commit ∷ []) files }
-{}
-
-/// The files after events are one map.
-pub fn one_map()
-    ensures { (es : List EventData) → (files : FilesData) → (others : FilesData)
-        → AreFilesAfter es files → AreFilesAfter es others → files ≡ others }
-{}
-
-/// The events up to a commit are those before it, and the commit.
-pub fn up_to_commit()
-    ensures { (before : List EventData) → (after : List EventData)
-        → up_to (suc (commit_count before)) (before ++ commit ∷ after) ≡ before ++ commit ∷ [] }
-{}
-
-/// The events with their commits taken out and one at the end: what stands there, and that it is the only commit.
-pub fn whole_events()
-    ensures files { (es : List EventData) → (files : FilesData) → AreFilesAfter es files
-        → AreFilesAt (as_one_commit es) 1 files }
-    ensures count { (es : List EventData) → commit_count (as_one_commit es) ≡ 1 }
-{}
-
-/// The commits of two lists of events are counted apart.
-pub fn counted_commits()
-    ensures { (xs : List EventData) → (ys : List EventData)
-        → commit_count (xs ++ ys) ≡ commit_count xs + commit_count ys }
 {}
 
 /// There is one delta from some outputs to others.

@@ -5,9 +5,10 @@ ghost use Rattle.std.specs.List.{slice_get};
 ghost use Rattle.edit_script.specs.View.{Lined, with_line};
 
 use crate::checks::{check, check_at};
+use bumpalo::Bump;
 use edit_script::{
-    Change, Changes, Event, Events, Line, ScriptStop, delta, read_script, short_line, write_change,
-    write_line,
+    Change, Changes, Event, Events, Line, Outcome, ScriptStop, delta, effect, made_length,
+    read_script, short_line, write_change, write_line,
 };
 use std::alloc::Global;
 use tk_io::{Bytes, MemSink, NoMemory, Outputs};
@@ -48,6 +49,29 @@ const TEXTS: &[(&str, Result<usize, usize>)] = &[
     ("tokc-script 1\ndel é\n", Err(14)),
     ("tokc-script 1\ndel a b\n", Err(14)),
     ("tokc-script 1\ndel a/.b/..c/-_9Z\n", Ok(1)),
+    ("tokc-script 1\ncommit\npatch a 0 0 0\n\n", Err(21)),
+    ("tokc-script 2", Err(0)),
+    ("tokc-script 2\n", Ok(0)),
+    (
+        "tokc-script 2\nput a 1\nx\nmove a a\ndel a\ncommit\n",
+        Ok(4),
+    ),
+    ("tokc-script 2\nmove a.json b.json\n", Ok(1)),
+    ("tokc-script 2\nmove a.json\n", Err(14)),
+    ("tokc-script 2\nmove a  b\n", Err(14)),
+    ("tokc-script 2\nmove a b c\n", Err(14)),
+    ("tokc-script 2\nmove a ..\n", Err(14)),
+    ("tokc-script 2\npatch a 0 0 0\n\n", Ok(1)),
+    ("tokc-script 2\npatch a 99999999 0 2\né\ncommit\n", Ok(2)),
+    ("tokc-script 2\npatch a 00 0 0\n\n", Err(14)),
+    ("tokc-script 2\npatch a 0 01 0\n\n", Err(14)),
+    ("tokc-script 2\npatch a 0 -1 0\n\n", Err(14)),
+    ("tokc-script 2\npatch a 100000000 0 0\n\n", Err(14)),
+    ("tokc-script 2\npatch a 0 0\n\n", Err(14)),
+    ("tokc-script 2\npatch a 0 0 0 \n\n", Err(14)),
+    ("tokc-script 2\npatch . 0 0 0\n\n", Err(14)),
+    ("tokc-script 2\npatch a 0 0 1\né\n", Err(14)),
+    ("tokc-script 2\ncommit\npatch a 0 0 1\nxy", Err(21)),
 ];
 
 const EVENTS: &str =
@@ -107,9 +131,157 @@ fn events_are_read(alloc: Global) -> bool {
     }
 }
 
+const SECOND: &str = "tokc-script 2\nmove a/b.json c\npatch c 3 14 5\nx\n é\n";
+
+// Whether these are the events of the text of the second version.
+fn are_second(events: &Events<'_>) -> bool {
+    events.at(0) == Some(&Event::Move("a/b.json", "c"))
+        && events.at(1) == Some(&Event::Patch("c", 3, 14, "x\n é"))
+        && events.at(2).is_none()
+}
+
+fn second_events_are_read(alloc: Global) -> bool {
+    match read_script(alloc, SECOND) {
+        Ok(events) => are_second(&events),
+        Err(_) => false,
+    }
+}
+
 #[test]
 fn reads_each_event(rt: HostRuntime) {
     assert!(rt; events_are_read(rt.alloc()));
+    assert!(rt; second_events_are_read(rt.alloc()));
+}
+
+// An event, the text of its path, what earlier patches made, what comes of it, and how much it made.
+type EffectRow<'s> = (Event<'s>, Option<&'s str>, u64, Outcome<'s>, u64);
+
+const EFFECTS: &[EffectRow<'_>] = &[
+    (
+        Event::Put("p", "x"),
+        Some("abc"),
+        7,
+        Outcome::Put("p", "x"),
+        0,
+    ),
+    (Event::Del("p"), None, 7, Outcome::Del("p"), 0),
+    (Event::Commit, None, 7, Outcome::Commit, 0),
+    (
+        Event::Move("p", "q"),
+        Some("abc"),
+        7,
+        Outcome::Move("p", "q", "abc"),
+        0,
+    ),
+    (
+        Event::Move("p", "p"),
+        Some(""),
+        7,
+        Outcome::Move("p", "p", ""),
+        0,
+    ),
+    (Event::Move("p", "p"), None, 7, Outcome::Unfit, 0),
+    (
+        Event::Patch("p", 1, 2, "x"),
+        Some("abc"),
+        0,
+        Outcome::Put("p", "axc"),
+        3,
+    ),
+    (
+        Event::Patch("p", 3, 3, "é"),
+        Some("abc"),
+        0,
+        Outcome::Put("p", "abcé"),
+        5,
+    ),
+    (
+        Event::Patch("p", 0, 2, ""),
+        Some("é"),
+        0,
+        Outcome::Put("p", ""),
+        0,
+    ),
+    (
+        Event::Patch("p", 0, 0, ""),
+        Some(""),
+        0,
+        Outcome::Put("p", ""),
+        0,
+    ),
+    (Event::Patch("p", 0, 0, ""), None, 0, Outcome::Unfit, 0),
+    (
+        Event::Patch("p", 4, 4, ""),
+        Some("abc"),
+        0,
+        Outcome::Unfit,
+        0,
+    ),
+    (
+        Event::Patch("p", 2, 1, ""),
+        Some("abc"),
+        0,
+        Outcome::Unfit,
+        0,
+    ),
+    (Event::Patch("p", 1, 1, ""), Some("é"), 0, Outcome::Unfit, 0),
+    (Event::Patch("p", 1, 2, ""), Some("é"), 0, Outcome::Unfit, 0),
+    (Event::Patch("p", 0, 1, ""), Some("é"), 0, Outcome::Unfit, 0),
+    (
+        Event::Patch("p", 0, 1, "xy"),
+        Some("ab"),
+        1_073_741_821,
+        Outcome::Put("p", "xyb"),
+        3,
+    ),
+    (
+        Event::Patch("p", 0, 1, "xy"),
+        Some("ab"),
+        1_073_741_822,
+        Outcome::Unfit,
+        0,
+    ),
+    (
+        Event::Patch("p", 0, 2, ""),
+        Some("ab"),
+        1_073_741_824,
+        Outcome::Put("p", ""),
+        0,
+    ),
+    (
+        Event::Patch("p", 0, 1, ""),
+        Some("ab"),
+        1_073_741_824,
+        Outcome::Unfit,
+        0,
+    ),
+];
+
+// Whether this comes of the row's event, and it makes so much.
+fn is_effect(alloc: Global, row: &EffectRow<'_>) -> bool {
+    let (event, present, made, expected, length) = row;
+    if *made > 1_073_741_824 {
+        return false;
+    }
+    let arena = Bump::new(alloc);
+    match effect(event, *present, *made, &arena) {
+        Ok(outcome) => outcome == *expected && made_length(event, &outcome) == *length,
+        Err(_) => false,
+    }
+}
+
+#[test]
+fn tells_what_comes_of_events(rt: HostRuntime) {
+    for (i, row) in EFFECTS.iter().enumerate() {
+        check_at(&rt, is_effect(rt.alloc(), row), i);
+    }
+}
+
+#[test]
+fn tells_which_path_an_event_looks_at(rt: HostRuntime) {
+    assert!(rt; Event::Move("p", "q").path() == Some("p"));
+    assert!(rt; Event::Patch("p", 0, 0, "q").path() == Some("p"));
+    assert!(rt; Event::Commit.path().is_none());
 }
 
 fn put(outputs: &mut Outputs, alloc: Global, path: &str, text: &str) -> Result<(), NoMemory> {
