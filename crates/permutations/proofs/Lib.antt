@@ -15,5 +15,5 @@ mod InPlace
 mod Limits
 mod ListsAnswer
 mod NamesApart
-mod InlineParts
+mod SourcesWritten
 mod ChoicesInOrder

@@ -12,8 +12,9 @@
 --   their order and the first item weighing most, and as many as the product (`choice_laws`)
 -- * each plan is within the limits, or beyond one of them (`each_list_answers`)
 -- * names of different choices are different, and so are the names of a document's permutations
---   where contexts of one modifier differ in name; a set comes to what its sources come to
---   (`name_laws`, `source_laws`)
+--   where contexts of one modifier differ in name; a set comes to what its sources come to; tokens
+--   among the sources are parts of the document, and a string of it names each file (`name_laws`,
+--   `source_laws`)
 
 pub mod Name
 pub mod Permutation

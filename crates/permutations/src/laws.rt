@@ -1,7 +1,7 @@
 //! Laws of the definitions alone, for the layers above.
 
 ghost use Rattle.permutations.specs.Choices.{ChoicesAreCounted, ChoicesArePicks, PicksAreChoices};
-ghost use Rattle.permutations.specs.Laws.{EachListAnswers, InlinesArePart, NamesAreApart};
+ghost use Rattle.permutations.specs.Laws.{EachListAnswers, FilesAreNamed, InlinesArePart, NamesAreApart};
 ghost use Rattle.permutations.specs.Laws.{SetsComeToTheirSources};
 ghost use Rattle.permutations.specs.Name.{NamesTellChoices};
 
@@ -21,10 +21,11 @@ pub fn name_laws()
 {}
 
 /// Where no sets name each other in a ring, a set comes to what its sources come to. Tokens among the sources of a document's
-/// permutations are parts of the document.
+/// permutations are parts of the document, and a string of it names each file, which is told with the string's span.
 pub fn source_laws()
     ensures sets { SetsComeToTheirSources }
     ensures parts { InlinesArePart }
+    ensures named { FilesAreNamed }
 {}
 
 /// Each plan is within the limits, or beyond one of them: it has too many permutations, or one with too many sources.

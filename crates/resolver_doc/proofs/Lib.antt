@@ -11,3 +11,9 @@ mod PlanFaults
 mod HaveChoices
 mod PointersNamed
 mod ApartContexts
+mod BreakCases
+mod FormRules
+mod FormsListed
+mod NamingRules
+mod NamesListed
+mod ToldRules

@@ -13,7 +13,13 @@
 --   form, then what references name and names that stand twice, then rings of sets, with the ring's
 --   names and the string that closes it (`read_resolver`: `sound`, `ok`, `broken`; `plan_laws`,
 --   `break_laws`, `naming_laws`)
+-- * the lists of breaks are what the rules say: `Rules` states, place by place, what stands where in
+--   a document and which place breaks which rule, and each entry of a list is a rule that is broken
+--   at its place, and each rule that is broken an entry (`rule_laws`); what is told is a rule that is
+--   broken, and none before it (`told_laws`)
 -- * each document breaks no rule, or a break is told of it (`each_document_answers`)
+-- * an item of the order has a default exactly where it is a modifier with one
+--   (`Resolver::default_of`)
 
 pub mod Break
 pub mod Form
@@ -22,6 +28,8 @@ pub mod View
 pub mod Naming
 pub mod Rings
 pub mod ResolverView
+pub mod Default
 pub mod Answer
+pub mod Rules
 pub mod Laws
 pub mod inner

@@ -21,7 +21,7 @@ mod written;
 
 pub use document::form_break;
 pub use fault::PlanFault;
-pub use laws::{break_laws, each_document_answers, naming_laws, plan_laws};
+pub use laws::{break_laws, each_document_answers, naming_laws, plan_laws, rule_laws, told_laws};
 pub use reading::read_resolver;
 pub use resolver::Resolver;
 pub use rule::{Break, PlanRule};

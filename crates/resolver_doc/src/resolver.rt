@@ -6,9 +6,9 @@ ghost use Rattle.resolver_doc.specs.Rings.{HasNoRingOfSets, are_sets_right, are_
 ghost use Rattle.resolver_doc.specs.View.{sets_view, order_view};
 
 use crate::graph::graph_of;
-use crate::written::{Order, Sets};
+use crate::written::{Item, Order, Sets};
 use std::alloc::Global;
-use tk_io::NoMemory;
+use tk_io::{NoMemory, Text};
 
 /// What a resolver document without a broken rule says. Each reference to a set names one of the sets, and no sets name
 /// each other in a ring.
@@ -25,9 +25,11 @@ pub struct Resolver<'a, 's> {
 }
 
 impl<'a, 's> Resolver<'a, 's> {
-    ghost use Rattle.std.specs.Prelude.{◌≡◌, ◌+◌, IfOk, length};
+    ghost use Rattle.std.specs.Prelude.{◌≡◌, ◌+◌, IfOk, length, option_map};
     ghost use Rattle.ring.specs.Graph.{IsGraph};
+    ghost use Rattle.resolver_doc.specs.Default.{default_at};
     ghost use Rattle.resolver_doc.specs.Rings.{ListsNeeds};
+    ghost use Rattle.resolver_doc.specs.View.{order_view};
 
     /// What each set names, as a table for a search of rings and orders: row v lists the numbers of the sets that set v
     /// names, in order, and the row after the last set lists all sets.
@@ -37,5 +39,18 @@ impl<'a, 's> Resolver<'a, 's> {
         ensures long { IfOk result (λ graph. length graph.items ≡ length self.now.sets + 1) }
     {
         graph_of(alloc, self.sets.as_slice())
+    }
+
+    /// The default of the i-th item of the order, counted from 0. None exactly where that item is no modifier with a
+    /// default, or i is past the end. It takes no memory.
+    pub fn default_of(&self, i: usize) -> Option<&Text<'s>>
+        ensures { option_map (λ t. t.now) result ≡ default_at (order_view self.now.order) i }
+    {
+        match self.order.at(i) {
+            Some(Item::Modifier(_, _, Some(default))) => Some(default),
+            Some(Item::Modifier(_, _, None)) => None,
+            Some(Item::Set(_)) => None,
+            None => None,
+        }
     }
 }

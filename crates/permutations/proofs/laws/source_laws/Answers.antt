@@ -1,4 +1,4 @@
-use Rattle.permutations.proofs.InlineParts.{inlines_are_part}
+use Rattle.permutations.proofs.SourcesWritten.{inlines_are_part, files_are_named}
 use Rattle.permutations.proofs.SetsWithin.{set_comes_to}
 use Rattle.permutations.proofs.laws.source_laws.Goals as goal
 
@@ -7,3 +7,6 @@ returns-clause-sets c = set_comes_to
 
 pub returns-clause-parts : goal.returns-clause-parts
 returns-clause-parts c = inlines_are_part
+
+pub returns-clause-named : goal.returns-clause-named
+returns-clause-named c = files_are_named
