@@ -1,5 +1,5 @@
 -- Any files have a plan.
-use Rattle.std.proofs.Common.{◌≡◌, ℕ, List, Option, Some, None, inl, inr, ◌⊎◌, refl}
+use Rattle.std.proofs.Common.{ℕ, Some, None, inl, inr, ◌⊎◌, refl}
 use Rattle.json_span.specs.Answer.{Answer, shows, flawed, stops}
 use Rattle.json_span.specs.Laws.{EachHasAnswer}
 use Rattle.json_span.specs.Tree.{Placed}

@@ -4,3 +4,5 @@ mod SoundPlans
 mod FoundPlans
 mod FileMaps
 pub mod FilesInUse
+pub mod EventsTaken
+mod ToldPlans

@@ -5,13 +5,15 @@
 mod files;
 mod keeping;
 mod laws;
+mod loading;
 mod plan;
 mod refusal;
 mod source;
 mod tree;
 
 pub use files::Files;
-pub use laws::{each_plan, file_plan_laws, in_use_laws};
+pub use laws::{each_plan, file_plan_laws, in_use_laws, refusal_laws};
+pub use loading::LoadStop;
 pub use plan::plan_of;
 pub use refusal::PlanRefusal;
 pub use source::{Plan, PlanPerm, PlanSource, PlanSources};
