@@ -9,3 +9,5 @@ mod ShapesAdded
 mod ShapesHoldTokens
 mod SourcesHoldTokens
 mod StringsAreTexts
+mod ShapesListed
+mod NeedsInOrder

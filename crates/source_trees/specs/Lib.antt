@@ -18,6 +18,12 @@
 -- * any sources come to trees or breaks, and their merged tree has its members in order; where the
 --   files are texts, so are the names, marks and sources of merged tokens (`each_merge`;
 --   `merged_tokens`: `texts`)
+-- * the list of a token file's breaks is what the rules say: `ShapeRules` states, place by place, what
+--   stands where in a file and which place breaks which rule, and each entry is such a break and each
+--   such break an entry (`shape_rule_laws`)
+-- * a group needs its child groups in byte order of names, and then its target; its count is the
+--   number of its members and the counts of all that it needs; of a ring the first group is told
+--   whose target is the ring's next one (`extension_rule_laws`)
 
 pub mod Texts
 pub mod Sources
@@ -28,5 +34,7 @@ pub mod Merging
 pub mod Merges
 pub mod Contents
 pub mod MergedTokens
+pub mod ShapeRules
+pub mod ExtensionRules
 pub mod Laws
 pub mod inner

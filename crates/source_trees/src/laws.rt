@@ -5,9 +5,11 @@ ghost use Rattle.source_trees.specs.Laws.{OneFound, OneMerge, OneFlatOf};
 ghost use Rattle.source_trees.specs.Laws.{FoundByContent, MergedByContent, FlatByContent};
 ghost use Rattle.source_trees.specs.MergedTokens.{PathsAreOfTokens, TokensAreDefinitions};
 ghost use Rattle.source_trees.specs.MergedTokens.{TokensAreOfTexts, TokensStandInFiles};
+ghost use Rattle.source_trees.specs.ExtensionRules.{CountsAreSums, NeedsAreInOrder, RingsTellFirst};
+ghost use Rattle.source_trees.specs.ShapeRules.{BrokenShapesAreListed, ShapeBreaksBreak};
 
 use file_plan::in_use_laws;
-use group_inherit::{flat_by_path, one_answer, ordered_trees};
+use group_inherit::{flat_by_path, one_answer, ordered_trees, over_by_name};
 use json_span::plain_laws;
 use token_tree::{shape_laws, text_laws};
 
@@ -59,4 +61,21 @@ pub fn merged_tokens()
     text_laws();
     flat_by_path();
     plain_laws::<usize>();
+}
+
+/// The breaks of a token file's shape are what the rules say, place by place: each entry of the list breaks its rule at its
+/// place, and each place that breaks a rule is an entry.
+pub fn shape_rule_laws()
+    ensures breaks { ShapeBreaksBreak }
+    ensures all { BrokenShapesAreListed }
+{}
+
+/// A group needs its child groups in byte order of names, and then its target; its count is the number of its members and the
+/// counts of all that it needs; and of a ring the first group is told whose target is the ring's next one.
+pub fn extension_rule_laws()
+    ensures needs { NeedsAreInOrder }
+    ensures counts { CountsAreSums }
+    ensures rings { RingsTellFirst }
+{
+    over_by_name();
 }

@@ -11,7 +11,10 @@ mod shape;
 mod shapes;
 mod source;
 
-pub use laws::{each_merge, merged_by_content, merged_tokens, one_merge, shapes_known};
+pub use laws::{
+    each_merge, extension_rule_laws, merged_by_content, merged_tokens, one_merge, shape_rule_laws,
+    shapes_known,
+};
 pub use laying::{Merged, merged_sources};
 pub use merge::{Merge, Merges, merge_of};
 pub use reading::read_named;
