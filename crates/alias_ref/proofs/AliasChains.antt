@@ -7,12 +7,10 @@ use Rattle.std.specs.List.{slice_get}
 use Rattle.std.proofs.lemmas.Bool.{eq-eqb}
 use Rattle.std.proofs.lemmas.List.{take_more}
 use Rattle.tk_io.specs.Order.{names_cmp}
-use Rattle.ring.specs.Lists.{In}
 use Rattle.name_path.specs.declared.place.Place.{Place}
 use Rattle.json_span.specs.Tree.{tree_of}
 use Rattle.group_inherit.specs.Flattening.{TokenAt}
 use Rattle.alias_ref.specs.Written.{Step, refers, WrittenPlaces, whole, is_written, is_misspelled, written_as, written_in}
-use Rattle.alias_ref.specs.Refs.{refs_of}
 use Rattle.alias_ref.specs.Visits.{Way, visit, ends_at, way_of, settle_by, passed, walked, same_place, since, ref_break, break_if, own_break, first_break, walk_break, most_on_branch}
 use Rattle.alias_ref.specs.Laws.{Flat}
 use Rattle.alias_ref.specs.declared.fault.RefFault.{RefFault}
@@ -20,10 +18,9 @@ use Rattle.alias_ref.specs.declared.fault.RefFault.TheVariants as faults
 use Rattle.alias_ref.specs.declared.fault.RefRule.TheVariants as rule
 use Rattle.alias_ref.specs.inner.Contents.{role_of}
 use Rattle.alias_ref.specs.inner.Seen.{Clean, IsFault}
-use Rattle.alias_ref.specs.inner.Remembering.{PathStandsAt, AreAt}
+use Rattle.alias_ref.specs.inner.Remembering.{PathStandsAt}
 use Rattle.alias_ref.specs.inner.Chains.{Targets, target_at, HasNone, IsAlias, AreAliases, IsLed, whole_at, branch_of, HasToken, is_marked, IsChain, IsMarkedAt, IsBreakAt, IsNewBehind, LeadsTo, HasStepped}
 use Rattle.alias_ref.proofs.FirstBreaks.{clean_nil, unbroken, walked-fault}
-use Rattle.alias_ref.proofs.RefsAreWritten.{reference_listed}
 use Rattle.alias_ref.proofs.RememberedTokens.{some_same, one_place, entry_there}
 use Rattle.alias_ref.proofs.SamePlaces.{same_place-is}
 use Rattle.alias_ref.proofs.SpotsStand.{whole_role}
@@ -83,34 +80,15 @@ set_marked ms i at within = record { here = here ms i within; elsewhere = λ j a
     other (m ∷ ms) (suc i) zero apart = refl
     other (m ∷ ms) (suc i) (suc j) apart = other ms i j (λ e. apart (ap suc e))
 
--- a path that is named alone stands at the only place
-alone_at : (tokens : List TokenAt) (paths : List (List Step)) (places : List ℕ) (named : List Step) (j : ℕ) → AreAt tokens paths places → length places ≡ 1 → slice_get places 0 ≡ Some j → In named paths → PathStandsAt tokens named j
-alone_at tokens [] places named j at one first h = absurd h
-alone_at tokens (p ∷ ps) [] named j at one first h = absurd at
-alone_at tokens (p ∷ []) (k ∷ ks) named j (here, at) one first (inl e) =
-    let same : k ≡ j = some_same k j first in
-    subst (λ u. PathStandsAt tokens u j) (sym e) (subst (PathStandsAt tokens p) same here)
-alone_at tokens (p ∷ []) (k ∷ ks) named j (here, at) one first (inr h) = absurd h
-alone_at tokens (p ∷ q ∷ ps) (k ∷ []) named j (here, at) one first h = absurd at
-alone_at tokens (p ∷ q ∷ ps) (k ∷ l ∷ ks) named j at one first h = absurd (omega (arith, one))
-
 -- the whole value of a token is what its definition says
 whole_written : (flat : Flat) (i : ℕ) (token : TokenAt) → slice_get (flat_map.entries flat) i ≡ Some token → written_in flat (whole token.0) ≡ Some (written_as (role_of token.1.def.by_ref) (tree_of token.1.def.value))
 whole_written flat i token at =
     let there = whole_stands flat token.0 token.1 (entry_there flat i token at) in
     written_stands flat (whole token.0) token.1 token.1.def.value there ∙ ap (λ r. Some (written_as r (tree_of token.1.def.value))) (sym (whole_role token.1.def.by_ref))
 
-pub alias_led : (flat : Flat) (i j : ℕ) (token : TokenAt) (named : List Step) (places : List ℕ) → slice_get (flat_map.entries flat) i ≡ Some token → AreAt (flat_map.entries flat) (refs_of token.1.def) places → length places ≡ 1 → slice_get places 0 ≡ Some j
+pub alias_led : (flat : Flat) (i j : ℕ) (token : TokenAt) (named : List Step) → slice_get (flat_map.entries flat) i ≡ Some token → PathStandsAt (flat_map.entries flat) named j
     → written_as (role_of token.1.def.by_ref) (tree_of token.1.def.value) ≡ refers named [] → IsAlias flat token.0 j
-alias_led flat i j token named places at names one first is =
-    let written : written_in flat (whole token.0) ≡ Some (refers named []) = whole_written flat i token at ∙ ap Some is in
-    let listed = reference_listed flat (whole token.0) named [] written in
-    let same : listed.0 ≡ token.1 = some_same listed.0 token.1 (sym listed.1 ∙ entry_there flat i token at) in
-    record {
-      named = named;
-      stands = alone_at (flat_map.entries flat) (refs_of token.1.def) places named j names one first (subst (λ f. In named (refs_of f.def)) same listed.2);
-      written = written;
-    }
+alias_led flat i j token named at stands is = record { named = named; stands = stands; written = whole_written flat i token at ∙ ap Some is }
 
 -- Chains.
 

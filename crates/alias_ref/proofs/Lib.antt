@@ -32,6 +32,7 @@ mod VisitsAreSound
 mod ContentsOfValues
 mod IndexedItems
 mod SoundValues
+mod RefsInOrder
 mod MeaningsFit
 mod SpotsStand
 mod PartsInTurn

@@ -11,7 +11,7 @@ use Rattle.alias_ref.specs.Visits.{Visit, visit, lost, since, RefBreak, ref_brea
 use Rattle.alias_ref.specs.declared.fault.RefRule.TheVariants as rule
 use Rattle.alias_ref.specs.Laws.{Flat, HasToken}
 use Rattle.alias_ref.proofs.BreaksAreReal.{break_tells}
-use Rattle.alias_ref.proofs.LimitsAreReal.{Broke, first_broke, same_break, visits_visited}
+use Rattle.alias_ref.proofs.LimitsAreReal.{first_broke, same_break, visits_visited}
 use Rattle.alias_ref.proofs.WrittenParts.{token_lost}
 
 reference_written : (o : Option Written) → is_reference o ≡ true → is_written o ≡ true

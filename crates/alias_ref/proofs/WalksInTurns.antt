@@ -3,12 +3,13 @@ use Rattle.std.proofs.Common.{◌≡◌, ℕ, ◌+◌, ◌<◌, List, [], ◌∷
 use Rattle.name_path.specs.declared.place.Place.{Place}
 use Rattle.json_span.specs.PlainView.{Value}
 use Rattle.alias_ref.specs.Written.{Step, Written, leaf, refers, WrittenPlaces, whole, part, is_reference, is_written}
-use Rattle.alias_ref.specs.Visits.{Visit, visit, lost, Way, ends_at, after_visits, goes_on, go_if, steps_from, way_of, settled, settle_by, pass_written, at_end, walk_written, ref_break, own_break, first_break, walked, passed}
+use Rattle.alias_ref.specs.Visits.{Visit, visit, lost, Way, ends_at, after_visits, goes_on, then_go, go_if, steps_from, way_of, settled, settle_by, pass_written, at_end, walk_written, RefBreak, ref_break, own_break, first_break, walked, passed}
 use Rattle.alias_ref.specs.declared.fault.RefRule.TheVariants as rule
-use Rattle.std.specs.Prelude.{Result, Ok, Err}
-use Rattle.alias_ref.specs.inner.Seen.{Clean, IsFault, Sees}
+use Rattle.std.specs.Prelude.{Result, Ok, Err, IfOk, IfErr, OnOk}
+use Rattle.alias_ref.specs.inner.Seen.{Clean, IsFault, IsLost, Sees}
 use Rattle.alias_ref.specs.declared.fault.RefFault.{RefFault}
 use Rattle.alias_ref.specs.declared.fault.RefFault.TheVariants as faults
+use Rattle.alias_ref.specs.declared.spot.Spot.{Spot}
 use Rattle.alias_ref.proofs.TracesGrow.{drop_at}
 use Rattle.alias_ref.proofs.FirstBreaks.{clean_nil, clean_entry, clean_append, fault_later, fault_first, enters, walked-enters, passed-enters}
 
@@ -23,6 +24,10 @@ at_end-front xs (Some q) walk = (walk q, refl)
 joined-joined : (xs ys : List Visit) (w : Way) → after_visits xs (after_visits ys w) ≡ after_visits (xs ++ ys) w
 joined-joined xs ys w = let make : List Visit → Way = λ es. record { seen = es; ends = w.ends } in ap make (sym (append_assoc xs ys w.seen))
 
+pub on_ok : {X E : Type 0} (r : Result X E) {P : Type 0} → P → OnOk r P
+on_ok (Ok x) h = h
+on_ok (Err e) h = tt
+
 module _ (T : WrittenPlaces) where
   lost_breaks : (n : ℕ) (p : Place) → first_break T n (lost p ∷ []) ≡ Some (ref_break rule.RefTarget p)
   unfolding first_break
@@ -32,6 +37,11 @@ module _ (T : WrittenPlaces) where
   breaks_behind {n} {m} xs p c = fault_later T (faults.Broken rule.RefTarget p []) xs (lost p ∷ []) c (lost_breaks m p)
 
   -- the names of the ways of a reference
+  -- the fault of a lost target, where the first break is that
+  pub lost_told : (f : RefFault) (home : Place) {why : Type 0} (b : Option RefBreak) → IsLost f home why → (why → b ≡ Some (ref_break rule.RefTarget home)) → IsFault f b
+  lost_told (faults.Broken r p ring) home b (h, w) told = told w ∙ h
+  lost_told faults.NoMemory home b h told = tt
+
   pub way_lost : (settle : Place → Way) (home : Place) (t : List Step) (steps : List Step) (n : ℕ) → is_written (T (whole t)) ≡ false → first_break T n (way_of T settle home t steps).seen ≡ Some (ref_break rule.RefTarget home)
   way_lost settle home t steps n h = ap (λ b. first_break T n (go_if b home (steps_from T settle home (whole t) steps)).seen) h ∙ lost_breaks n home
 
@@ -56,6 +66,37 @@ module _ (T : WrittenPlaces) where
     -- without steps
     pub way_here : (t steps : List Step) → steps ≡ [] → is_written (T (whole t)) ≡ true → way_of T settle home t steps ≡ ends_at (whole t)
     way_here t steps e h = way_found settle home t steps h ∙ ap (steps_from T settle home (whole t)) e ∙ steps_none (whole t)
+
+    -- one step, and then the others
+    one_case : (xs : List Visit) (o : Option Place) (s : Step) (rest : List Step)
+        → goes_on xs o (λ q. go_if (is_written (T (part q s))) home (steps_from T settle home (part q s) rest))
+        ≡ then_go (goes_on xs o (λ q. go_if (is_written (T (part q s))) home (ends_at (part q s)))) (λ q. steps_from T settle home q rest)
+    one_case xs None s rest = refl
+    one_case xs (Some q) s rest = go (is_written (T (part q s)))
+      where
+        go : (b : Bool) → after_visits xs (go_if b home (steps_from T settle home (part q s) rest)) ≡ then_go (after_visits xs (go_if b home (ends_at (part q s)))) (λ x. steps_from T settle home x rest)
+        go true = ap (λ ys. after_visits ys (steps_from T settle home (part q s) rest)) (sym (append-nil xs))
+        go false = refl
+
+    one_step : (p : Place) (s : Step) (rest : List Step) → steps_from T settle home p (s ∷ rest) ≡ then_go (steps_from T settle home p (s ∷ [])) (λ q. steps_from T settle home q rest)
+    unfolding steps_from
+    one_step p s rest = one_case (settle p).seen (settle p).ends s rest
+
+    module _ (w : Way) (p : Place) (s : Step) (rest : List Step) {n m : ℕ} (es : List Visit) (clean : Clean T n m es) (so_far : after_visits es (steps_from T settle home p (s ∷ rest)) ≡ w) where
+      pub step_fault : (f : RefFault) → IsFault f (first_break T m (steps_from T settle home p (s ∷ [])).seen) → IsFault f (first_break T n w.seen)
+      step_fault f b =
+          let one = steps_from T settle home p (s ∷ []) in
+          let front = goes_on-front one.seen one.ends (λ q. steps_from T settle home q rest) in
+          let all : (steps_from T settle home p (s ∷ rest)).seen ≡ one.seen ++ front.0 = ap (λ x. x.seen) (one_step p s rest) ∙ front.1 in
+          let k = fault_later T f es (steps_from T settle home p (s ∷ rest)).seen clean
+          (subst (λ xs. IsFault f (first_break T m xs)) (sym all) (fault_first T f m one.seen front.0 b)) in
+          subst (λ x. IsFault f (first_break T n x.seen)) so_far k
+
+      pub step_on : (q : Place) → (steps_from T settle home p (s ∷ [])).ends ≡ Some q → after_visits (es ++ (steps_from T settle home p (s ∷ [])).seen) (steps_from T settle home q rest) ≡ w
+      step_on q e =
+          let one = steps_from T settle home p (s ∷ []) in
+          let on : steps_from T settle home p (s ∷ rest) ≡ after_visits one.seen (steps_from T settle home q rest) = one_step p s rest ∙ ap (λ o. goes_on one.seen o (λ x. steps_from T settle home x rest)) e in
+          sym (joined-joined es one.seen (steps_from T settle home q rest)) ∙ ap (after_visits es) (sym on) ∙ so_far
 
     -- a turn of the loop over the steps
     module _ (w : Way) (p : Place) (s : Step) (rest : List Step) {n m : ℕ} (es : List Visit) (clean : Clean T n m es) (so_far : after_visits es (steps_from T settle home p (s ∷ rest)) ≡ w) where
@@ -83,6 +124,19 @@ module _ (T : WrittenPlaces) where
     turns_done w p es so_far =
         let make : List Visit → Way = λ xs. record { seen = xs; ends = Some p } in
         sym so_far ∙ ap (after_visits es) (steps_none p) ∙ ap make (append-nil es)
+
+  -- a step from where a place settles
+  pub next_seen : (settle : Place → Way) (home p q : Place) (s : Step) {n m : ℕ} (r : Result Spot RefFault) {P : Spot → Type 0} {why : Type 0}
+      → Clean T n m (settle p).seen → (settle p).ends ≡ Some q → IfOk r (λ x. x.place ≡ part q s) → IfOk r P → ((x : Spot) → P x → is_written (T x.place) ≡ true) → IfErr r (λ f. IsLost f home why) → (why → is_written (T (part q s)) ≡ false)
+      → Sees T (steps_from T settle home p (s ∷ [])).seen n m r × IfOk r (λ e. (steps_from T settle home p (s ∷ [])).ends ≡ Some e.place)
+  next_seen settle home p q s {n} {m} (Ok x) c e place is written told gone =
+      let way = steps_from T settle home p (s ∷ []) in
+      let on = turn_on settle home way p s [] [] (clean_nil T n) refl q e (subst (λ y. is_written (T y) ≡ true) place (written x is)) in
+      let done = turns_done settle home way (part q s) (settle p).seen on in
+      (subst (λ (w : Way). Clean T n m w.seen) (sym done) c, ap (λ w. w.ends) done ∙ ap Some (sym place))
+  next_seen settle home p q s {n} {m} (Err f) c e place is written told gone =
+      let way = steps_from T settle home p (s ∷ []) in
+      (lost_told f home (first_break T n way.seen) told (λ h. turn_lost settle home way p s [] [] (clean_nil T n) refl q c e (gone h)), tt)
 
   -- a visit that doesn't break, and what it asks for
   module _ (n : ℕ) (b b' : List Place) (p : Place) (s : Written) {m : ℕ} (is : T p ≡ Some s) (own : own_break T n (visit b p) ≡ None) (more : b' ≡ b ++ p ∷ []) (one : m ≡ n + 1) where

@@ -1,6 +1,7 @@
 -- What the definitions come to.
-use Rattle.std.specs.Prelude.{◌≡◌, ◌≢◌, ◌↔◌, ◌<◌, ◌≤◌, ℕ, List, [], ◌∷◌, ◌++◌, length, true, false, Option, Some, None}
+use Rattle.std.specs.Prelude.{◌≡◌, ◌≢◌, ◌↔◌, ◌<◌, ◌≤◌, ◌^◌, ℕ, List, [], ◌∷◌, ◌++◌, length, true, false, Option, Some, None}
 use Rattle.std.specs.FinMap as flat_map
+use Rattle.std.specs.List.{AllZip}
 use Rattle.std.specs.Str.{IsUtf8}
 use Rattle.tk_io.specs.Order.{names_cmp}
 use Rattle.ring.specs.Lists.{In}
@@ -23,7 +24,7 @@ use Rattle.alias_ref.specs.Asking.{Manner, Chain, Differ, Lacks, IsRingOfPlaces,
 use Rattle.alias_ref.specs.Kinds.{Kinds, KindOf, LinksAt, IsLink, own_in, group_in}
 use Rattle.alias_ref.specs.PlainParts.{plain_at, Below}
 use Rattle.alias_ref.specs.Depth.{LinkDepth}
-use Rattle.alias_ref.specs.Refs.{refs_of}
+use Rattle.alias_ref.specs.Refs.{refs_of, IsWrittenBefore, AreInOrder}
 use Rattle.alias_ref.specs.Unchanged.{Unchanged, AreDefinedAlong, AreDefinitions}
 use Rattle.alias_ref.specs.declared.fault.RefRule.TheVariants as rule
 
@@ -170,6 +171,21 @@ WrittenAreListed = (d : Definition) (trail token steps : List Step) → written_
 -- .. and each token of the list is named by a well-spelled reference among the parts of the value
 abbrev pub ListedAreWritten : Type 0
 ListedAreWritten = (d : Definition) (token : List Step) → In token (refs_of d) → (role : Role) × (n : Placed) × (steps : List Step) × IsPart n d.value × (written_as role (tree_of n) ≡ refers token steps)
+
+-- The references of a value stand at these steps: each names the token at its place of the list, they are in written order, and there is no other.
+pub record AreRefsAt (d : Definition) (tokens trails : List (List Step)) : Type 0 where
+  pub named : AllZip (λ token trail. (steps : List Step) × (written_at d trail ≡ Some (refers token steps))) tokens trails
+  pub ordered : AreInOrder d.value trails
+  pub all : (trail token steps : List Step) → written_at d trail ≡ Some (refers token steps) → In trail trails
+
+-- The list of a definition, whose source has fewer bytes than any text, has one token for each well-spelled reference that is written in the value,
+-- in written order ..
+abbrev pub RefsInOrder : Type 0
+RefsInOrder = (d : Definition) → IsDefinition d → length d.source < 2 ^ 64 → (trails : List (List Step)) × AreRefsAt d (refs_of d) trails
+
+-- .. and no place comes before itself: each stands there once
+abbrev pub OrderIsStrict : Type 0
+OrderIsStrict = (n : Placed) (trail : List Step) → IsWrittenBefore n trail trail → ⊥
 
 -- Where no walk of references leads to a change, nothing changes.
 pub record AreAlike (old new : Flat) (token : List Step) : Type 0 where

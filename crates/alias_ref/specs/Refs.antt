@@ -1,8 +1,9 @@
 -- The tokens that the references of a value name, in written order.
-use Rattle.std.specs.Prelude.{List, [], ◌∷◌, ◌++◌}
-use Rattle.json_span.specs.Tree.{Tree, a_null, a_boolean, a_number, a_string, an_array, an_object, Placed, placed, Elements, no_elements, an_element, Members, no_members, a_member, entries_in}
+use Rattle.std.specs.Prelude.{◌≡◌, List, [], ◌∷◌, ◌++◌, Some}
+use Rattle.ring.specs.Lists.{In, Each}
+use Rattle.json_span.specs.Tree.{Tree, a_null, a_boolean, a_number, a_string, an_array, an_object, Placed, placed, tree_of, Elements, no_elements, an_element, Members, no_members, a_member, entries_in}
 use Rattle.token_tree.specs.Tree.{Definition}
-use Rattle.alias_ref.specs.Written.{Step, Written, leaf, parts, refers, misspelled, Role, of_value, text_written, object_written, role_behind, role_at}
+use Rattle.alias_ref.specs.Written.{Step, Written, leaf, parts, refers, misspelled, Role, of_value, text_written, object_written, role_behind, role_at, steps_of, parts_of, part_behind}
 
 -- the token that a reference names, where it is spelled well
 abbrev pub named_by : Written → List (List Step)
@@ -35,3 +36,15 @@ abbrev mutual
 -- those of a token's value
 unfoldable pub refs_of : Definition → List (List Step)
 refs_of d = refs_in (role_at d.by_ref []) d.value
+
+-- The order in which what stands in a value is written, by the steps to it: a value comes before its parts, and what stands in an earlier part before
+-- what stands in a later one.
+pub data IsWrittenBefore : Placed → List Step → List Step → Type 0 where
+  before_parts : {n : Placed} {s : Step} {trail : List Step} → IsWrittenBefore n [] (s ∷ trail)
+  before_later : {n : Placed} {s r : Step} {trail later : List Step} (front back : List Step) → steps_of (parts_of (tree_of n)) ≡ front ++ s ∷ back → In r back → (s ≡ r → ⊥) → IsWrittenBefore n (s ∷ trail) (r ∷ later)
+  before_inside : {n m : Placed} {s : Step} {trail later : List Step} → part_behind n s ≡ Some m → IsWrittenBefore m trail later → IsWrittenBefore n (s ∷ trail) (s ∷ later)
+
+-- each comes before all that follow it
+abbrev pub AreInOrder : Placed → List (List Step) → Type 0
+AreInOrder n [] = Unit {0}
+AreInOrder n (trail ∷ trails) = Each trails (IsWrittenBefore n trail) × AreInOrder n trails

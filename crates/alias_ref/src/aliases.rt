@@ -48,6 +48,20 @@ impl Aliases {
         }
     }
 
+    /// Where the aliases that are known end which lead on from a place, at most so many places on.
+    pub(crate) fn end_of(&self, i: usize, most: usize) -> usize {
+        let mut at = i;
+        let mut left = most;
+        while left > 0 {
+            let Some(target) = self.target(at) else {
+                return at;
+            };
+            at = target;
+            left -= 1;
+        }
+        at
+    }
+
     /// Whether the mark of a place says where it stands in the chain.
     pub(crate) fn is_marked(&self, chain: &[usize], i: usize) -> bool
         ensures { result ≡ is_marked self.now.marks.items chain.now i }

@@ -29,6 +29,7 @@ pub(crate) enum Content<'a, 's> {
     Misspelled,
 }
 
+/// Whether a text has the braces of a curly alias.
 pub(crate) fn is_curly(text: &str) -> bool
     ensures { result ≡ is_curly text.now }
 {
@@ -64,6 +65,7 @@ fn aliased<'a, 's>(alloc: Global, text: &Text<'s>) -> Result<Content<'a, 's>, No
     }
 }
 
+/// What a text is where it stands. `by_ref` says that it is that of a token's own `$ref`.
 fn text_content<'a, 's>(
     alloc: Global,
     text: Text<'s>,
@@ -89,6 +91,7 @@ fn is_alone(fields: Fields<'_, '_>) -> bool
     rest.next().is_some() && rest.next().is_none()
 }
 
+/// What an object is: a reference where it has a member `$ref`, which has to be its only one.
 fn object_content<'a, 's>(
     alloc: Global,
     fields: Fields<'a, 's>,
@@ -137,6 +140,7 @@ pub(crate) fn read_content<'a, 's>(
 }
 
 impl<'a, 's> Content<'a, 's> {
+    /// Whether it is a reference, spelled well or not.
     pub(crate) fn is_reference(&self) -> bool
         ensures { result ≡ is_reference (Some (content_view self.now)) }
     {
@@ -146,6 +150,7 @@ impl<'a, 's> Content<'a, 's> {
         }
     }
 
+    /// Whether it is a reference that is spelled wrongly.
     pub(crate) fn is_misspelled(&self) -> bool
         ensures { result ≡ is_misspelled (Some (content_view self.now)) }
     {

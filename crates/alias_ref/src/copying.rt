@@ -42,6 +42,7 @@ pub(crate) fn copy_plain<'s>(alloc: Global, plain: &Plain<'s>) -> Result<Plain<'
     copy_leaf(plain)
 }
 
+/// A copy of the items of an array.
 #[cycle(copying)]
 fn copy_items<'s>(alloc: Global, items: &PlainItems<'s>) -> Result<PlainItems<'s>, NoMemory>
     ensures { IfOk result (λ l. plain_items_view l ≡ plain_items_view items.now) }
@@ -55,6 +56,7 @@ fn copy_items<'s>(alloc: Global, items: &PlainItems<'s>) -> Result<PlainItems<'s
     Ok(list)
 }
 
+/// A copy of the members of an object.
 #[cycle(copying)]
 fn copy_fields<'s>(alloc: Global, fields: &PlainFields<'s>) -> Result<PlainFields<'s>, NoMemory>
     ensures { IfOk result (λ l. plain_fields_view l ≡ plain_fields_view fields.now) }

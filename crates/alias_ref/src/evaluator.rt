@@ -1,9 +1,10 @@
 //! The evaluator of a flat tree.
 
-ghost use Rattle.std.specs.Prelude.{◌≡◌, ◌+◌, Some, IfOk, IfErr};
+ghost use Rattle.std.specs.Prelude.{◌≡◌, ◌+◌, Some, IfOk, IfErr, IfSome};
 ghost use Rattle.std.specs.FinMap as map;
 ghost use Rattle.std.specs.List.{slice_get};
 ghost use Rattle.alias_ref.specs.Answer.{IsResolved, IsRefBreak, HasRealRing};
+ghost use Rattle.alias_ref.specs.Laws.{Flat as FlatTree};
 ghost use Rattle.alias_ref.specs.Written.{written_in};
 ghost use Rattle.alias_ref.specs.inner.Remembering.{Remembers};
 ghost use Rattle.alias_ref.specs.inner.Chains.{AreAliases};
@@ -13,7 +14,7 @@ use crate::chain::follow_aliases;
 use crate::fault::RefFault;
 use crate::memory::Memory;
 use crate::remembering::{FARTHEST, prepare};
-use crate::resolved::{Resolved, resolve};
+use crate::resolved::{Resolved, resolve, resolve_literal};
 use group_inherit::{Entry, Flat};
 use name_path::Path;
 use std::alloc::Global;
@@ -54,6 +55,29 @@ impl<'a, 's> fmt::Debug for Evaluator<'a, 's> {
     fn fmt<W: fmt::Write>(&self, f: &mut fmt::Formatter<W>) -> fmt::Result {
         f.write_str("Evaluator")
     }
+}
+
+/// What the token of a place comes to where nothing has to be walked: it is remembered, or its value is a literal.
+fn at_hand<'s>(
+    alloc: Global,
+    memory: &Memory<'s>,
+    i: usize,
+    token: &(Path<'s>, Entry<'s>),
+) -> Result<Option<Rc<Resolved<'s>>>, NoMemory>
+    ensures { (flat : FlatTree) → slice_get (map.entries flat) i ≡ Some token.now
+        → Remembers flat memory.now.known.items
+        → IfOk result (λ o. IfSome o (λ r. IsResolved flat token.now.0 r.value)) }
+{
+    if let Some(known) = memory.at(i) {
+        let resolved = known.resolved.clone()?;
+        return Ok(Some(resolved));
+    }
+    let mut visits = 0;
+    let Some(resolved) = resolve_literal(alloc, &token.1, &mut visits)? else {
+        return Ok(None);
+    };
+    let resolved = Rc::new(alloc, resolved)?;
+    Ok(Some(resolved))
 }
 
 /// What the token of a place comes to, which may be remembered. A chain of aliases that breaks a rule is told at once.
@@ -118,12 +142,17 @@ impl<'a, 's> Evaluator<'a, 's> {
     {
         evals.tick();
         let flat = self.flat;
+        if let Some(resolved) = at_hand(alloc, &self.memory, i, token)? {
+            return Ok(resolved);
+        }
+        // No token is looked at twice: others are prepared from where the aliases that are known from it end.
+        let from = self.aliases.end_of(i, FARTHEST);
         prepare(
             alloc,
             flat,
             &mut self.memory,
             &mut self.aliases,
-            i,
+            from,
             FARTHEST,
         )?;
         answer(alloc, flat, &self.memory, &mut self.aliases, i, token)

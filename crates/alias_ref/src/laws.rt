@@ -11,6 +11,7 @@ ghost use Rattle.alias_ref.specs.Laws.{UnbrokenHasKind, UnbrokenHasLinks, Meanin
 ghost use Rattle.alias_ref.specs.Laws.{LinksAreReal, LinksAreAll, SourceDecides, RefsOfSource};
 ghost use Rattle.alias_ref.specs.Laws.{ShownBySource};
 ghost use Rattle.alias_ref.specs.Laws.{WrittenAreListed, ListedAreWritten, UnchangedIsAlike};
+ghost use Rattle.alias_ref.specs.Laws.{RefsInOrder, OrderIsStrict};
 ghost use Rattle.alias_ref.specs.Remembered.{RememberedWalks, RememberedBreaks, RememberedPasses};
 ghost use Rattle.alias_ref.specs.Remembered.{RememberedPassBreaks, WalksAreRememberable};
 ghost use Rattle.alias_ref.specs.Remembered.{PassesAreRememberable, ClosedAvoid, NumberedAvoid};
@@ -93,6 +94,13 @@ pub fn spans_stand()
 pub fn refs_are_written()
     ensures written { WrittenAreListed }
     ensures listed { ListedAreWritten }
+{}
+
+/// A token's value has one of these for each well-spelled reference that is written in it, in written order, as often as it is
+/// written, and no other.
+pub fn refs_in_order()
+    ensures order { RefsInOrder }
+    ensures once { OrderIsStrict }
 {}
 
 /// Where no walk of references leads from a token to a path whose raw entry differs, two flat trees, whose tokens there are

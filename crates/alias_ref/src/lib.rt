@@ -27,8 +27,8 @@ pub use evaluator::Evaluator;
 pub use fault::{RefFault, RefRule};
 pub use laws::{
     breaks_are_real, differ_decides, links_are_real, meanings_fit, one_answer, one_meaning,
-    parts_mean, references_named, refs_are_written, remembered_walks, source_decides, spans_stand,
-    unbroken_tokens, unchanged_is_alike, visits_are_visited,
+    parts_mean, references_named, refs_are_written, refs_in_order, remembered_walks,
+    source_decides, spans_stand, unbroken_tokens, unchanged_is_alike, visits_are_visited,
 };
 pub use refs::refs_of;
 pub use resolved::{Resolved, evaluate, evaluate_entry};

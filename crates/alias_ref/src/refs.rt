@@ -1,8 +1,8 @@
 //! The tokens that values name.
 
-ghost use Rattle.std.specs.Prelude.{◌≡◌, ◌++◌, [], List, IfOk, OnOk, IsTrue};
+ghost use Rattle.std.specs.Prelude.{◌≡◌, ◌++◌, [], IfOk, OnOk, IfSome};
 ghost use Rattle.json_span.specs.Tree.{tree_of};
-ghost use Rattle.alias_ref.specs.Written.{Step, refers, role_behind, written_as};
+ghost use Rattle.alias_ref.specs.Written.{refers, role_behind, written_as};
 ghost use Rattle.alias_ref.specs.Refs.{named_by, refs_in, refs_of};
 ghost use Rattle.alias_ref.specs.inner.Contents.{content_view, role_of};
 ghost use Rattle.json_span.specs.View.{ref_view, field_view, items_view, fields_view};
@@ -10,7 +10,7 @@ ghost use Rattle.alias_ref.specs.inner.Steps.{items_refs, entries_refs};
 
 use crate::content::{Content, read_content};
 use json_span::{Field, Fields, Items, NodeRef};
-use name_path::Paths;
+use name_path::{Path, Paths};
 use std::alloc::Global;
 use tk_io::NoMemory;
 use token_tree::TokenDef;
@@ -24,18 +24,22 @@ pub fn refs_of<'s>(alloc: Global, def: &TokenDef<'s>) -> Result<Paths<'s>, NoMem
     Ok(paths)
 }
 
-/// Whether the whole value of a token is a reference without steps.
-pub(crate) fn is_alias<'s>(alloc: Global, def: &TokenDef<'s>) -> Result<bool, NoMemory>
-    ensures { IfOk result (λ b. IsTrue b → (named : List Step)
-        × (written_as (role_of def.now.by_ref) (tree_of def.now.value) ≡ refers named [])) }
+/// The token to which the whole value of a token refers without steps, if it does.
+pub(crate) fn alias_of<'s>(alloc: Global, def: &TokenDef<'s>) -> Result<Option<Path<'s>>, NoMemory>
+    ensures { IfOk result (λ o. IfSome o (λ named.
+        written_as (role_of def.now.by_ref) (tree_of def.now.value) ≡ refers named [])) }
 {
     let node = def.value.as_ref();
     let content = read_content(alloc, node, def.by_ref)?;
     match content {
-        Content::Refers(named) => Ok(named.trail.is_empty()),
-        Content::Leaf(_) | Content::Array(_) | Content::Object(_) | Content::Misspelled => Ok(
-            false,
-        ),
+        Content::Refers(named) => {
+            if named.trail.is_empty() {
+                Ok(Some(named.token))
+            } else {
+                Ok(None)
+            }
+        }
+        Content::Leaf(_) | Content::Array(_) | Content::Object(_) | Content::Misspelled => Ok(None),
     }
 }
 
@@ -71,6 +75,7 @@ fn add_named<'s>(content: Content<'_, 's>, paths: &mut Paths<'s>) -> Result<(), 
     }
 }
 
+/// Adds what the items of an array name.
 #[cycle(adding)]
 fn add_items<'s>(alloc: Global, items: Items<'_, 's>, paths: &mut Paths<'s>) -> Result<(), NoMemory>
     ensures { OnOk result (paths.new ≡ paths.old ++ items_refs (items_view items.entry)) }
@@ -81,6 +86,7 @@ fn add_items<'s>(alloc: Global, items: Items<'_, 's>, paths: &mut Paths<'s>) -> 
     Ok(())
 }
 
+/// Adds what the members of an object name.
 #[cycle(adding)]
 fn add_members<'s>(
     alloc: Global,

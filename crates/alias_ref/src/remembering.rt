@@ -1,6 +1,6 @@
 //! Remembering what tokens come to, in an order in which each follows those that it names.
 
-ghost use Rattle.std.specs.Prelude.{◌≡◌, [], length, Some, None, IfOk, IfSome, IsTrue};
+ghost use Rattle.std.specs.Prelude.{◌≡◌, ◌∷◌, [], length, Some, None, IfOk, IfSome, IsTrue};
 ghost use Rattle.std.specs.FinMap as map;
 ghost use Rattle.std.specs.List.{slice_get};
 ghost use Rattle.alias_ref.specs.Answer.{IsResolved};
@@ -13,7 +13,7 @@ ghost use Rattle.alias_ref.specs.inner.Chains.{AreAliases};
 use crate::aliases::Aliases;
 use crate::fault::RefFault;
 use crate::memory::{Known, Memory, place_of};
-use crate::refs::{is_alias, refs_of};
+use crate::refs::{alias_of, refs_of};
 use crate::resolved::resolve;
 use crate::sharing::shared;
 use group_inherit::{Entry, Flat};
@@ -56,32 +56,30 @@ fn all_known(memory: &Memory<'_>, i: usize, places: &[usize]) -> bool
     true
 }
 
-/// Keeps to which token the whole value of the token of a place refers, where it does so without steps. Those that it names
-/// stand at the places.
+/// The place of the token to which the whole value of the token of a place refers without steps, which is kept; none where it
+/// does not, or where no such token is there.
 fn lead<'s>(
     alloc: Global,
     flat: &Flat<'s>,
     aliases: &mut Aliases,
     i: usize,
     token: &(Path<'s>, Entry<'s>),
-    named: &[usize],
-) -> Result<(), NoMemory>
+) -> Result<Option<usize>, NoMemory>
     requires token { slice_get (map.entries flat.now) i ≡ Some token.now }
-    requires named { AreAt (map.entries flat.now) (refs_of token.now.1.def) named.now }
     requires right { AreAliases flat.now aliases.old.targets.items }
-    ensures { AreAliases flat.now aliases.new.targets.items }
+    ensures right { AreAliases flat.now aliases.new.targets.items }
+    ensures alone { IfOk result (λ o. IfSome o (λ j.
+        AreAt (map.entries flat.now) (refs_of token.now.1.def) (j ∷ []))) }
 {
-    if named.len() != 1 {
-        return Ok(());
-    }
-    let Some(target) = named.get(0) else {
-        return Ok(());
+    let Some(named) = alias_of(alloc, &token.1.def)? else {
+        return Ok(None);
     };
-    let alias = is_alias(alloc, &token.1.def)?;
-    if alias {
-        aliases.lead(i, *target);
-    }
-    Ok(())
+    let tokens = flat.as_slice();
+    let Some(target) = place_of(tokens, &named) else {
+        return Ok(None);
+    };
+    aliases.lead(i, target);
+    Ok(Some(target))
 }
 
 /// What the token of a place comes to, by what is remembered of others; none where it breaks a rule.
@@ -145,8 +143,7 @@ fn remember<'s>(
     Ok(())
 }
 
-/// The places of the tokens that the token of a place names, which is looked at; none where one of them is not there. The
-/// first token is passed over where it names none: most are never asked for again.
+/// The places of the tokens that the token of a place names, which is looked at; none where one of them is not there.
 fn look<'s>(
     alloc: Global,
     flat: &Flat<'s>,
@@ -154,7 +151,6 @@ fn look<'s>(
     aliases: &mut Aliases,
     i: usize,
     token: &(Path<'s>, Entry<'s>),
-    first: bool,
 ) -> Result<Option<Vec<usize>>, NoMemory>
     requires token { slice_get (map.entries flat.now) i ≡ Some token.now }
     requires aliases { AreAliases flat.now aliases.old.targets.items }
@@ -163,18 +159,15 @@ fn look<'s>(
     ensures named { IfOk result (λ o. IfSome o (λ named.
         AreAt (map.entries flat.now) (refs_of token.now.1.def) named.items)) }
 {
-    let paths = refs_of(alloc, &token.1.def)?;
-    if first && paths.is_empty() {
-        return Ok(None);
-    }
     memory.see(i);
+    if let Some(target) = lead(alloc, flat, aliases, i, token)? {
+        let mut named = Vec::with_capacity(alloc, 1)?;
+        named.push(target)?;
+        return Ok(Some(named));
+    }
+    let paths = refs_of(alloc, &token.1.def)?;
     let tokens = flat.as_slice();
-    let Some(named) = places_of(alloc, tokens, &paths)? else {
-        return Ok(None);
-    };
-    let places = named.as_slice();
-    lead(alloc, flat, aliases, i, token, places)?;
-    Ok(Some(named))
+    places_of(alloc, tokens, &paths)
 }
 
 /// Remembers what the token of a place comes to, after those that it names and those that these name, so far from it.
@@ -198,8 +191,7 @@ pub(crate) fn prepare<'s>(
     if left == 0 || memory.is_seen(i) {
         return Ok(());
     }
-    let first = left == FARTHEST;
-    let Some(named) = look(alloc, flat, memory, aliases, i, token, first)? else {
+    let Some(named) = look(alloc, flat, memory, aliases, i, token)? else {
         return Ok(());
     };
     let places = named.as_slice();

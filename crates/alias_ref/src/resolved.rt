@@ -1,10 +1,11 @@
 //! What tokens come to.
 
-ghost use Rattle.std.specs.Prelude.{◌≡◌, ◌+◌, [], length, true, Some, None, IfOk, OnOk, IfErr};
+ghost use Rattle.std.specs.Prelude.{◌≡◌, ◌+◌, [], length, true, Some, None, List, IfOk, OnOk, IfErr, IfSome};
 ghost use Rattle.std.specs.FinMap as map;
 ghost use Rattle.group_inherit.specs.Flattening.{Flattened};
 ghost use Rattle.alias_ref.specs.Answer.{IsResolved, IsRefBreak, HasRealRing};
-ghost use Rattle.alias_ref.specs.Written.{whole, written_in};
+ghost use Rattle.alias_ref.specs.Laws.{Flat as FlatTree};
+ghost use Rattle.alias_ref.specs.Written.{Step, whole, written_in};
 ghost use Rattle.alias_ref.specs.Visits.{walk_break, walked};
 ghost use Rattle.alias_ref.specs.inner.Remembering.{Serves};
 ghost use Rattle.alias_ref.specs.inner.Seen.{IsFault};
@@ -22,7 +23,7 @@ use name_path::{Kind, Links, Path, Place, Trail};
 use std::alloc::Global;
 use std::fmt;
 use std::sync::ledger::Ledger;
-use tk_io::Steps;
+use tk_io::{NoMemory, Steps};
 
 /// A token whose references are resolved.
 #[derive(Drop)]
@@ -89,6 +90,34 @@ pub fn evaluate_entry<'s, N: Ledger>(
     resolve(alloc, flat, &memory, path, entry, &mut visits)
 }
 
+/// What a token comes to whose value is a literal, and how many visits its walk makes; none where the value is no literal, or
+/// where nothing gives the token a kind.
+pub(crate) fn resolve_literal<'s>(
+    alloc: Global,
+    entry: &Entry<'s>,
+    visits: &mut u32,
+) -> Result<Option<Resolved<'s>>, NoMemory>
+    ensures resolved { (flat : FlatTree) (token : List Step) → map.get flat token ≡ Some entry.now
+        → IfOk result (λ o. IfSome o (IsResolved flat token)) }
+    ensures counted { (flat : FlatTree) (token : List Step) → map.get flat token ≡ Some entry.now
+        → IfOk result (λ o. IfSome o (λ _.
+        length (walked (written_in flat) [] (whole token)) ≡ visits.new)) }
+{
+    let mut values = 0;
+    let Some(plain) = literal(alloc, &entry.def, &mut values)? else {
+        return Ok(None);
+    };
+    let Some(kind) = kind_here(entry, None) else {
+        return Ok(None);
+    };
+    *visits = values;
+    Ok(Some(Resolved {
+        kind,
+        plain,
+        links: Links::new(alloc),
+    }))
+}
+
 /// What a token comes to, by what is remembered of others, and how many visits its walk makes where it breaks no rule.
 pub(crate) fn resolve<'s>(
     alloc: Global,
@@ -106,6 +135,9 @@ pub(crate) fn resolve<'s>(
     ensures counted { OnOk result
         (length (walked (written_in flat.now) [] (whole path.now)) ≡ visits.new) }
 {
+    if let Some(resolved) = resolve_literal(alloc, entry, visits)? {
+        return Ok(resolved);
+    }
     let mut links = Links::new(alloc);
     let found = find(alloc, flat, memory, path, entry, visits, &mut links)?;
     let Some(kind) = found.kind else {
@@ -123,7 +155,7 @@ pub(crate) fn resolve<'s>(
     })
 }
 
-/// What stands at the whole value of a token. A literal is what it is; any other value is walked.
+/// Walks the whole value of a token.
 fn find<'s>(
     alloc: Global,
     flat: &Flat<'s>,
@@ -143,14 +175,6 @@ fn find<'s>(
     ensures counted { OnOk result
         (length (walked (written_in flat.now) [] (whole path.now)) ≡ visits.new) }
 {
-    let mut values = 0;
-    if let Some(plain) = literal(alloc, &entry.def, &mut values)? {
-        *visits = values;
-        return Ok(Found {
-            plain,
-            kind: kind_here(entry, None),
-        });
-    }
     let spot = token_spot(alloc, path, entry)?;
     let mut trace = Trace::new(alloc);
     let found = walk(alloc, flat, memory, spot, true, &mut trace, links);

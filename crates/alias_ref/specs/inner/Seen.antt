@@ -2,9 +2,10 @@
 use Rattle.std.specs.Prelude.{◌≡◌, ℕ, ◌+◌, List, length, true, Option, Some, None, Result, Ok, Err, MatchResult, [], ◌∷◌}
 use Rattle.name_path.specs.declared.place.Place.{Place}
 use Rattle.alias_ref.specs.Written.{Step, Container, parts, WrittenPlaces, part, is_written}
-use Rattle.alias_ref.specs.Visits.{Visit, RefBreak, own_break, first_break}
+use Rattle.alias_ref.specs.Visits.{Visit, RefBreak, ref_break, own_break, first_break}
 use Rattle.alias_ref.specs.declared.fault.RefFault.{RefFault}
 use Rattle.alias_ref.specs.declared.fault.RefFault.TheVariants as faults
+use Rattle.alias_ref.specs.declared.fault.RefRule.TheVariants as rule
 
 -- no visit breaks, and m counts them after the n before
 pub record Clean (T : WrittenPlaces) (n m : ℕ) (es : List Visit) : Type 0 where
@@ -15,6 +16,11 @@ pub record Clean (T : WrittenPlaces) (n m : ℕ) (es : List Visit) : Type 0 wher
 abbrev pub IsFault : RefFault → Option RefBreak → Type 0
 IsFault (faults.Broken r p ring) b = b ≡ Some (record { rule = r; place = p; ring = ring })
 IsFault faults.NoMemory b = Unit {0}
+
+-- The fault is that the target of the reference at the place is lost, and this is why, unless memory ran out.
+abbrev pub IsLost : RefFault → Place → Type 0 → Type 0
+IsLost (faults.Broken r p ring) home why = IsFault (faults.Broken r p ring) (Some (ref_break rule.RefTarget home)) × why
+IsLost faults.NoMemory home why = Unit {0}
 
 -- the visit was begun, where it breaks no rule
 abbrev pub HasBegun : {X : Type 0} → WrittenPlaces → ℕ → Visit → Result X RefFault → Type 0

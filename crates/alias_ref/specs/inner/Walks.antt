@@ -10,9 +10,9 @@ use Rattle.json_span.specs.declared.items.Items.{Items}
 use Rattle.json_span.specs.declared.plain.Plain.{Plain}
 use Rattle.json_span.specs.declared.plain.PlainFields.{PlainFields}
 use Rattle.json_span.specs.declared.plain.PlainItems.{PlainItems}
-use Rattle.alias_ref.specs.Written.{refers, WrittenPlaces, Parts, parts_by_index, parts_by_name, steps_of, written_in}
+use Rattle.alias_ref.specs.Written.{Step, refers, WrittenPlaces, Parts, parts_by_index, parts_by_name, steps_of, written_in}
 use Rattle.alias_ref.specs.Meaning.{Means, EachMeans}
-use Rattle.alias_ref.specs.Visits.{Visit, Way, way_of, settle_by, pass_written, passed, visits_each, walk_written, walked}
+use Rattle.alias_ref.specs.Visits.{Visit, Way, steps_from, way_of, settle_by, pass_written, passed, visits_each, walk_written, walked}
 use Rattle.alias_ref.specs.Kinds.{KindOf, own_in, group_in}
 use Rattle.alias_ref.specs.Laws.{Flat}
 use Rattle.alias_ref.specs.declared.fault.RefFault.{RefFault}
@@ -30,7 +30,7 @@ Visiting = WrittenPlaces → List Place → List Visit
 abbrev pub Going : Type 0
 Going = WrittenPlaces → List Place → Way
 
--- of a place that is settled or passed, of a reference at a place, and of a place once it stands on the branch
+-- of a place that is settled or passed, of a reference at a place and of its steps from a place on, and of a place once it stands on the branch
 abbrev pub settling : Place → Going
 settling p T b = settle_by T (passed T b) p
 
@@ -39,6 +39,9 @@ passing p T b = passed T b p
 
 abbrev pub leading : Place → Place → Going
 leading home place T b = way_of T (settle_by T (passed T b)) home place.token place.trail
+
+abbrev pub stepping : Place → Place → List Step → Going
+stepping home from steps T b = steps_from T (settle_by T (passed T b)) home from steps
 
 abbrev pub passing_on : Spot → Going
 passing_on s T b = pass_written T (settle_by T (passed T b)) s.place (Some (content_view s.content))

@@ -1,116 +1,131 @@
-use Rattle.std.proofs.Common.{rules, ◌≡◌, ℕ, List, ◌+◌, ◌∷◌, ◌++◌, [], length, drop, Some, None, arith, refl, sym, ap, ap₂, ◌∙◌, subst, length-append}
+use Rattle.std.proofs.Common.{rules, ◌≡◌, ℕ, List, ◌+◌, ◌∷◌, ◌++◌, [], length, drop, Some, arith, refl, sym, ap, ap₂, ◌∙◌, subst, length-append}
 use Rattle.std.proofs.lemmas.Result.{err_from_is_err_and}
 use Rattle.std.specs.Prelude.{IfOk}
-use Rattle.std.specs.FinMap as map
 use Rattle.name_path.specs.declared.place.Place.{Place}
-use Rattle.alias_ref.specs.Written.{whole, part, is_reference, is_written, is_misspelled, refers, written_in}
-use Rattle.alias_ref.specs.Visits.{settle_by, steps_from, way_of, after_visits, pass_written, passed, first_break}
+use Rattle.alias_ref.specs.Written.{is_reference, is_written, is_misspelled, refers, written_in}
+use Rattle.alias_ref.specs.Visits.{Way, settle_by, steps_from, way_of, after_visits, pass_written, passed, first_break}
 use Rattle.alias_ref.specs.inner.Contents.{content_view}
 use Rattle.alias_ref.specs.inner.Seen.{Clean, Sees, IsFault}
-use Rattle.alias_ref.specs.inner.Spots.{IsSpot, start_in}
+use Rattle.alias_ref.specs.inner.Spots.{start_in}
 use Rattle.alias_ref.proofs.FirstBreaks.{clean_nil, clean_append, enters, passed-fault}
 use Rattle.alias_ref.proofs.SpotsStand.{spot_written, spot_start, spot_whole, spot_no_part, items_fit, settled_spot}
-use Rattle.alias_ref.proofs.TracesGrow.{spot_own, starts_more, same_then, none_case, some_case, not_there, drop_all}
-use Rattle.alias_ref.proofs.WalksInTurns.{way_lost, way_found, turn_fault, turn_lost, turn_on, turns_done, pass_fault, pass_clean, pass_ends, refers_fault, refers_then_fault, refers_clean, settle_passes, settle_stays, settled_below, next_steps, sees_by}
+use Rattle.alias_ref.proofs.TracesGrow.{spot_own, starts_more, same_then, not_there, drop_all}
+use Rattle.alias_ref.proofs.WalksInTurns.{lost_told, way_lost, way_found, turn_fault, step_fault, step_on, turns_done, next_seen, on_ok, pass_fault, pass_clean, pass_ends, refers_fault, refers_then_fault, refers_clean, settle_passes, settle_stays, next_steps, sees_by}
 use Rattle.alias_ref.proofs.passing.+passing.Goals as goal
 
-pub follow-returns-in_default-clause-seen : goal.follow-returns-in_default-clause-seen
-follow-returns-in_default-clause-seen t c =
-    let T = written_in c.args.flat.now in
-    let settle = settle_by T (passed T c.args.trace.now.places.items) in
-    let token = c.args.named.now.token in
-    let gone : map.get c.args.flat.now token ≡ None = none_case c.in_ok-spot.field-0 _ c.in_default.is c.in_ok-spot.ensures.none in
-    subst (IsFault c.broken.result) (sym (way_lost T settle c.args.home.now token c.args.named.now.trail c.args.trace.now.visits (not_there c.args.flat.now token gone))) c.broken.ensures
-
-pub follow-loop-step-init : goal.follow-loop-step-init
-follow-loop-step-init t c =
-    let T = written_in c.args.flat.now in
-    let settle = settle_by T (passed T c.args.trace.now.places.items) in
-    let token = c.args.named.now.token in
-    let place = some_case c.in_ok-spot.field-0 c.in-Some.spot (λ s. s.place ≡ whole token) c.in-Some.is c.in_ok-spot.ensures.place in
-    let at = some_case c.in_ok-spot.field-0 c.in-Some.spot (IsSpot c.args.flat.now) c.in-Some.is c.in_ok-spot.ensures.at in
-    let found = way_found T settle c.args.home.now token c.args.named.now.trail (spot_whole c.args.flat.now c.in-Some.spot token at place) in
-    ([], clean_nil T c.args.trace.now.visits, ap₂ (steps_from T settle c.args.home.now) place c.as_slice-steps.ensures ∙ sym found, at, (refl {A = List Place}, refl {A = List ℕ}))
-
-pub follow-returns-in_err-end-clause-seen : goal.follow-returns-in_err-end-clause-seen
-follow-returns-in_err-end-clause-seen t c =
+pub follow_step-returns-in-Err-clause-seen : goal.follow_step-returns-in-Err-clause-seen
+follow_step-returns-in-Err-clause-seen t c =
     let T = written_in c.args.flat.now in
     let settle = settle_by T (passed T c.args.trace.now.places.items) in
     let home = c.args.home.now in
-    let i = c.loop-step.step-index in
-    let inv = c.loop-step.invariant in
-    let ss = c.as_slice-steps.result.now in
-    let s = c.step-item.result in
-    let f = c.in_err-end.field-0.0 in
-    let so_far = next_steps T settle home c.loop-step.spot.place inv.0 ss i (omega arith) c.step-item.is inv.2 in
-    let seen = subst (λ b. IsFault f (first_break T c.loop-step.trace.visits (settle_by T (passed T b) c.loop-step.spot.place).seen)) inv.4.0 c.in_err-end.ensures.seen in
-    let p = err_from_is_err_and c.from_residual-in_err-end.result c.from_residual-in_err-end.ensures.1 in
-    rw (p.1, p.2) (turn_fault T settle home (way_of T settle home c.args.named.now.token c.args.named.now.trail) c.loop-step.spot.place s (drop (i + 1) ss) inv.0 inv.1 so_far f seen)
+    let p = c.args.spot.place in
+    let s = c.args.step.now in
+    let n = c.args.trace.now.visits in
+    turn_fault T settle home (steps_from T settle home p (s ∷ [])) p s [] [] (clean_nil T n) refl c.in-Err.fault c.in-Err.ensures.seen
 
-pub follow-part-requires : goal.follow-part-requires
-follow-part-requires t c = record { short = items_fit c.args.flat.now c.in_ok-end.end c.in_ok-end.ensures.found }
+pub follow_step-next_spot-requires : goal.follow_step-next_spot-requires
+follow_step-next_spot-requires t c = record { short = items_fit c.args.flat.now c.in-Ok.end c.in-Ok.ensures.found }
 
-pub follow-returns-in_default-2-clause-seen : goal.follow-returns-in_default-2-clause-seen
-follow-returns-in_default-2-clause-seen t c =
+pub follow_step-returns-in-Ok : goal.follow_step-returns-in-Ok
+follow_step-returns-in-Ok t c =
     let flat = c.args.flat.now in
     let T = written_in flat in
     let branch = c.args.trace.now.places.items in
-    let settle = settle_by T (passed T branch) in
-    let home = c.args.home.now in
-    let i = c.loop-step.step-index in
-    let inv = c.loop-step.invariant in
-    let ss = c.as_slice-steps.result.now in
-    let s = c.step-item.result in
-    let end = c.in_ok-end.end in
-    let k = c.in_ok-end.ensures in
-    let here = c.loop-step.spot.place in
-    let so_far = next_steps T settle home here inv.0 ss i (omega arith) c.step-item.is inv.2 in
-    let below = settled_below T here inv.4.0 k.seen k.ends in
-    let plain = settled_spot flat branch here end k.found below.1 in
-    let gone = none_case c.in_ok-next.field-0 _ c.in_default-2.is c.in_ok-next.ensures.none in
-    let lost = ap is_written (spot_no_part flat end s k.found plain gone) in
-    let turn = turn_lost T settle home (way_of T settle home c.args.named.now.token c.args.named.now.trail) here s (drop (i + 1) ss) inv.0 inv.1 so_far end.place below.0 below.1 lost in
-    subst (IsFault c.broken-in_default-2.result) (sym turn) c.broken-in_default-2.ensures
+    let k = c.in-Ok.ensures in
+    let n = c.next_spot.ensures in
+    let end = c.in-Ok.end in
+    let s = c.args.step.now in
+    let plain = settled_spot flat branch c.args.spot.place end k.found k.ends in
+    let next = n.at flat k.found plain in
+    let r = next_seen T (settle_by T (passed T branch)) c.args.home.now c.args.spot.place end.place s c.next_spot.result k.seen k.ends n.place next
+    (λ x at. ap is_written (spot_written flat x at)) n.none (λ gone. ap is_written (spot_no_part flat end s k.found plain gone)) in
+    record { seen = r.0; ends = r.1; found = next; branch = on_ok c.next_spot.result k.branch }
 
-pub follow-loop-step-preserved : goal.follow-loop-step-preserved
-follow-loop-step-preserved t c =
-    let flat = c.args.flat.now in
-    let T = written_in flat in
-    let branch = c.args.trace.now.places.items in
-    let settle = settle_by T (passed T branch) in
+pub follow_steps-loop-step-init : goal.follow_steps-loop-step-init
+follow_steps-loop-step-init t c = ([], clean_nil (written_in c.args.flat.now) c.args.trace.now.visits, refl, c.requires.at, (refl {A = List Place}, refl {A = List ℕ}))
+
+pub follow_steps-returns-in-Err-clause-seen : goal.follow_steps-returns-in-Err-clause-seen
+follow_steps-returns-in-Err-clause-seen t c =
+    let T = written_in c.args.flat.now in
+    let settle = settle_by T (passed T c.args.trace.now.places.items) in
     let home = c.args.home.now in
     let i = c.loop-step.step-index in
     let inv = c.loop-step.invariant in
-    let ss = c.as_slice-steps.result.now in
+    let ss = c.args.steps.now in
     let s = c.step-item.result in
-    let end = c.in_ok-end.end in
-    let k = c.in_ok-end.ensures in
+    let f = c.in-Err.fault in
     let here = c.loop-step.spot.place in
     let so_far = next_steps T settle home here inv.0 ss i (omega arith) c.step-item.is inv.2 in
-    let below = settled_below T here inv.4.0 k.seen k.ends in
-    let plain = settled_spot flat branch here end k.found below.1 in
-    let next = c.in-Some-2.next in
-    let place = some_case c.in_ok-next.field-0 next (λ x. x.place ≡ part end.place s) c.in-Some-2.is c.in_ok-next.ensures.place in
-    let there = some_case c.in_ok-next.field-0 next (IsSpot flat) c.in-Some-2.is (c.in_ok-next.ensures.at flat k.found plain) in
-    let written = ap is_written (subst (λ x. T x ≡ Some (content_view next.content)) place (spot_written flat next there)) in
-    let xs = inv.0 ++ (settle here).seen in
-    let turn = turn_on T settle home (way_of T settle home c.args.named.now.token c.args.named.now.trail) here s (drop (i + 1) ss) inv.0 inv.1 so_far end.place below.1 written in
-    (xs, clean_append T inv.0 (settle here).seen inv.1 below.0, ap (λ x. after_visits xs (steps_from T settle home x (drop (i + 1) ss))) place ∙ turn, there, same_then c.args.trace.now c.loop-step.trace c.settle.new.trace inv.4 k.branch)
+    let seen = subst (λ b. IsFault f (first_break T c.loop-step.trace.visits (steps_from T (settle_by T (passed T b)) home here (s ∷ [])).seen)) inv.4.0 c.in-Err.ensures.seen in
+    step_fault T settle home (steps_from T settle home c.args.from.place ss) here s (drop (i + 1) ss) inv.0 inv.1 so_far f seen
+
+pub follow_steps-loop-step-preserved : goal.follow_steps-loop-step-preserved
+follow_steps-loop-step-preserved t c =
+    let T = written_in c.args.flat.now in
+    let settle = settle_by T (passed T c.args.trace.now.places.items) in
+    let home = c.args.home.now in
+    let i = c.loop-step.step-index in
+    let inv = c.loop-step.invariant in
+    let ss = c.args.steps.now in
+    let s = c.step-item.result in
+    let next = c.in-Ok.next in
+    let k = c.in-Ok.ensures in
+    let here = c.loop-step.spot.place in
+    let way : List Place → Way = λ b. steps_from T (settle_by T (passed T b)) home here (s ∷ []) in
+    let so_far = next_steps T settle home here inv.0 ss i (omega arith) c.step-item.is inv.2 in
+    let ends : (steps_from T settle home here (s ∷ [])).ends ≡ Some next.place = subst (λ b. (way b).ends ≡ Some next.place) inv.4.0 k.ends in
+    let clean = subst (λ b. Clean T c.loop-step.trace.visits c.follow_step.new.trace.visits (way b).seen) inv.4.0 k.seen in (
+      inv.0 ++ (steps_from T settle home here (s ∷ [])).seen,
+      clean_append T inv.0 (steps_from T settle home here (s ∷ [])).seen inv.1 clean,
+      step_on T settle home (steps_from T settle home c.args.from.place ss) here s (drop (i + 1) ss) inv.0 inv.1 so_far next.place ends,
+      k.found,
+      same_then c.args.trace.now c.loop-step.trace c.follow_step.new.trace inv.4 k.branch,
+    )
+
+pub follow_steps-returns : goal.follow_steps-returns
+follow_steps-returns t c =
+    let T = written_in c.args.flat.now in
+    let settle = settle_by T (passed T c.args.trace.now.places.items) in
+    let home = c.args.home.now in
+    let inv = c.loop-step.invariant in
+    let ss = c.args.steps.now in
+    let so_far = ap (λ xs. after_visits inv.0 (steps_from T settle home c.loop-step.spot.place xs)) (sym (drop_all ss c.loop-step.step-index (λ k. omega (arith, k)))) ∙ inv.2 in
+    let done = turns_done T settle home (steps_from T settle home c.args.from.place ss) c.loop-step.spot.place inv.0 so_far in
+    record {
+      seen = subst (λ (w : Way). Clean T c.args.trace.now.visits c.loop-step.trace.visits w.seen) (sym done) inv.1;
+      ends = ap (λ w. w.ends) done;
+      found = inv.3;
+      branch = inv.4;
+    }
+
+pub follow-returns-in-Err-clause-seen : goal.follow-returns-in-Err-clause-seen
+follow-returns-in-Err-clause-seen t c =
+    let T = written_in c.args.flat.now in
+    let settle = settle_by T (passed T c.args.trace.now.places.items) in
+    let home = c.args.home.now in
+    let token = c.args.named.now.token in
+    let steps = c.args.named.now.trail in
+    lost_told T c.in-Err.fault home (first_break T c.args.trace.now.visits (way_of T settle home token steps).seen) c.in-Err.ensures.none
+    (λ gone. way_lost T settle home token steps c.args.trace.now.visits (not_there c.args.flat.now token gone))
+
+pub follow-follow_steps-requires : goal.follow-follow_steps-requires
+follow-follow_steps-requires t c = (omega arith, (c.in-Ok.ensures.at, (c.requires.room, c.requires.starts)))
 
 pub follow-returns : goal.follow-returns
 follow-returns t c =
     let T = written_in c.args.flat.now in
     let settle = settle_by T (passed T c.args.trace.now.places.items) in
     let home = c.args.home.now in
-    let inv = c.loop-step.invariant in
-    let ss = c.as_slice-steps.result.now in
-    let so_far = ap (λ xs. after_visits inv.0 (steps_from T settle home c.loop-step.spot.place xs)) (sym (drop_all ss c.loop-step.step-index (λ k. omega (arith, k)))) ∙ inv.2 in
-    let done = turns_done T settle home (way_of T settle home c.args.named.now.token c.args.named.now.trail) c.loop-step.spot.place inv.0 so_far in
+    let token = c.args.named.now.token in
+    let place = c.in-Ok.ensures.place in
+    let found = way_found T settle home token c.args.named.now.trail (spot_whole c.args.flat.now c.in-Ok.spot token c.in-Ok.ensures.at place) in
+    let same : steps_from T settle home c.in-Ok.spot.place c.as_slice.result.now ≡ way_of T settle home token c.args.named.now.trail = ap₂ (steps_from T settle home) place c.as_slice.ensures ∙ sym found in
+    let k = c.follow_steps.ensures in
     record {
-      seen = subst (λ w. Clean T c.args.trace.now.visits c.loop-step.trace.visits w.seen) (sym done) inv.1;
-      ends = ap (λ w. w.ends) done;
-      found = inv.3;
-      branch = inv.4;
+      seen = subst (λ (w : Way). Sees T w.seen c.args.trace.now.visits c.follow_steps.new.trace.visits c.follow_steps.result) same k.seen;
+      ends = subst (λ (w : Way). IfOk c.follow_steps.result (λ e. w.ends ≡ Some e.place)) same k.ends;
+      found = k.found;
+      branch = k.branch;
     }
 
 pub pass-returns-in_err-enter-clause-seen : goal.pass-returns-in_err-enter-clause-seen

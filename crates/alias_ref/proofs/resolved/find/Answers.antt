@@ -1,31 +1,12 @@
-use Rattle.std.proofs.Common.{rules, ◌≡◌, [], true, length, map, arith, sym, ap, ◌∙◌, subst, append-nil}
+use Rattle.std.proofs.Common.{◌≡◌, [], true, length, map, arith, sym, ap, ◌∙◌, subst}
 use Rattle.alias_ref.specs.Visits.{walked}
 use Rattle.alias_ref.specs.Written.{whole, written_in}
 use Rattle.std.specs.Prelude.{IfOk, OnOk}
-use Rattle.json_span.specs.PlainView.{plain_view}
-use Rattle.alias_ref.specs.inner.Literals.{IsWholeLiteral}
 use Rattle.alias_ref.specs.inner.Remembering.{Serves}
 use Rattle.alias_ref.specs.inner.Spots.{start_in}
 use Rattle.alias_ref.specs.inner.Walks.{IsMeantAt, IsKindAt, HasLinks}
 use Rattle.alias_ref.proofs.AnswersAreOne.{whole_clean, whole_fault, whole_count}
-use Rattle.alias_ref.proofs.LiteralsMean.{whole_literal, literal_unbroken, literal_counted}
 use Rattle.alias_ref.proofs.resolved.find.Goals as goal
-
-pub returns-in-Some : goal.returns-in-Some
-returns-in-Some c =
-    let flat = c.args.flat.now in
-    let token = c.args.path.now in
-    let v = plain_view c.in-Some.plain in
-    let is : IsWholeLiteral c.args.entry.now.def v 0 c.literal.new.values = search rules in
-    let k = whole_literal flat c.args.entry.now token v 0 c.literal.new.values c.requires.token is in
-    record {
-      unbroken = literal_unbroken flat c.args.entry.now token v c.literal.new.values k;
-      broken = tt;
-      means = k.means;
-      kind = k.kind _ c.kind_here.ensures;
-      links = ([], k.links, sym (append-nil c.args.links.now));
-      counted = literal_counted flat c.args.entry.now token v c.literal.new.values k;
-    }
 
 pub returns : goal.returns
 returns c =

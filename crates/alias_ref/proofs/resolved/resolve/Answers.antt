@@ -10,16 +10,16 @@ use Rattle.alias_ref.proofs.resolved.resolve.Goals as goal
 
 pub returns-in_err-found-clause-broken : goal.returns-in_err-found-clause-broken
 returns-in_err-found-clause-broken c =
-    let p = err_from_is_err_and c.from_residual.result c.from_residual.ensures.1 in
+    let p = err_from_is_err_and c.from_residual-in_err-found.result c.from_residual-in_err-found.ensures.1 in
     rw (p.1, p.2) (fault_broken c.args.flat.now c.args.path.now c.in_err-found.field-0.0 c.in_err-found.ensures.broken)
 
 pub returns-in_err-found-clause-ring : goal.returns-in_err-found-clause-ring
 returns-in_err-found-clause-ring c =
-    let p = err_from_is_err_and c.from_residual.result c.from_residual.ensures.1 in
+    let p = err_from_is_err_and c.from_residual-in_err-found.result c.from_residual-in_err-found.ensures.1 in
     rw (p.1, p.2) (fault_ring c.args.flat.now c.args.path.now c.in_err-found.field-0.0 c.in_err-found.ensures.broken)
 
-pub returns-in_default-clause-broken : goal.returns-in_default-clause-broken
-returns-in_default-clause-broken c =
+pub returns-in_default-kind-clause-broken : goal.returns-in_default-kind-clause-broken
+returns-in_default-kind-clause-broken c =
     let flat = c.args.flat.now in
     let token = c.args.path.now in
     let found = c.in_ok-found.ensures in
