@@ -16,6 +16,7 @@ mod SheetDenotes
 mod Sides
 mod SwiftDenotes
 mod TextsOfTokens
+mod ToldTexts
 mod ValuesFit
 mod Runs
 mod NamedAlike
@@ -24,3 +25,4 @@ mod UnchangedTokens
 mod Known
 mod Unreached
 mod KeptRows
+mod RowsTellFirst

@@ -10,7 +10,7 @@ use Rattle.token_cells.specs.declared.row.Row.{Row}
 use Rattle.token_cells.specs.TokenCell.{TokenCell}
 use Rattle.token_cells.specs.inner.Kept.{PageTexts, rows_view}
 
-no_pairs : (ks : List TokenAt) (vs : List TokenCell) → (ks ≡ []) ⊎ (vs ≡ []) → zip ks vs ≡ []
+pub no_pairs : (ks : List TokenAt) (vs : List TokenCell) → (ks ≡ []) ⊎ (vs ≡ []) → zip ks vs ≡ []
 no_pairs [] vs h = refl
 no_pairs (k ∷ ks) [] h = refl
 no_pairs (k ∷ ks) (v ∷ vs) (inl h) = cc

@@ -1,11 +1,9 @@
 -- A token from which no references lead to a change comes to what it came to.
 use Rattle.std.specs.FinMap as finite
-use Rattle.std.proofs.Common.{◌≡◌, ℕ, List, [], Option, Some, None, refl, sym, ap, ap₂, ◌∙◌, subst, option_map}
+use Rattle.std.proofs.Common.{◌≡◌, ℕ, List, Option, Some, None, refl, sym, ap, ap₂, ◌∙◌, subst, option_map}
 use Rattle.std.specs.Prelude.{unwrap_or}
-use Rattle.ring.specs.Lists.{In}
 use Rattle.json_span.specs.PlainView.{Value as Plain}
 use Rattle.name_path.specs.declared.kind.Kind.{Kind}
-use Rattle.token_tree.specs.Promise.{IsDefinition}
 use Rattle.token_tree.specs.declared.mark.Mark.{Mark}
 use Rattle.token_tree.specs.declared.mark.Mark.TheVariants.{No}
 use Rattle.group_inherit.specs.Flattening.{Flattened}
@@ -13,8 +11,7 @@ use Rattle.group_inherit.specs.Merging.{either}
 use Rattle.json_out.specs.Properties.{ExtrasData}
 use Rattle.alias_ref.specs.Answer.{IsFirstBreak, in_walk, kind_missing}
 use Rattle.alias_ref.specs.Laws.{Flat, AreAlike, ShownBySource, UnchangedIsAlike}
-use Rattle.alias_ref.specs.Refs.{refs_of}
-use Rattle.alias_ref.specs.Unchanged.{raw_of, raw_in, Reaches, at_start, by_reference as by_ref, Unchanged, AreDefinedAlong}
+use Rattle.alias_ref.specs.Unchanged.{raw_of, at_start, Unchanged, AreDefinedAlong}
 use Rattle.alias_ref.specs.Visits.{RefBreak}
 use Rattle.transforms.specs.Config.{Settings}
 use Rattle.token_cells.specs.Cell.{TokenPath, IsMeant, TokenBreak, token_break, IsTokenBreak, by_reference, by_value, IsJsonOf, IsCell, extras_of}

@@ -21,6 +21,7 @@
 --   configuration can have, and to one thing (`each_cell`: `one`, `all`; `one_cells`)
 -- * the text of the first break of a flat tree's tokens, and none exactly where there is none; a
 --   sheet is the fragments of its tokens in their format's frame (`verdict_text`, `sheet_of`)
+-- * the texts of all breaks of a flat tree's tokens, in their order (`break_texts`)
 -- * sheets denote what tokens mean: where cells have no break, the bytes of the style sheet are
 --   read as one sheet that declares exactly the names of the tokens, each with the value that the
 --   token's whole value means, read under its kind, after 256 rounds of `var()`; each name that
@@ -37,6 +38,8 @@
 --   told in the file of a definition that is there, at the span of the place in it; a clash that is
 --   told is one, and none is told exactly where no token has a name of an earlier one
 --   (`breaks_are_real`, `clashes_are_real`)
+-- * of an object under a kind with parts of other kinds the first broken part in the order of the
+--   kind's row is told, a missing one at the object (`value_row_laws`)
 
 pub mod TokenCell
 pub mod Cell
@@ -46,5 +49,6 @@ pub mod Sheets
 pub mod Denotes
 pub mod OtherSheets
 pub mod Laws
+pub mod ValueRows
 pub mod Existence
 pub mod inner

@@ -2,14 +2,18 @@
 
 ghost use Rattle.std.specs.Prelude.{◌≡◌, ◌+◌, ◌≤◌, List, IfOk, OnOk, length};
 ghost use Rattle.std.specs.FinMap as map;
+ghost use Rattle.std.specs.List.{AllZip, count_by};
+ghost use Rattle.std.specs.Option.{is_none};
+ghost use Rattle.tree_changes.specs.Lone.{AreLone};
+ghost use Rattle.tree_changes.specs.Standing.{KeepsAt};
 ghost use Rattle.token_cells.specs.Cell.{AreCells};
 ghost use Rattle.token_cells.specs.TokenCell.{TokenCell};
 ghost use Rattle.token_cells.specs.inner.AddedToPages.{AreSheets, AreShown, HoldAll};
 ghost use Rattle.token_cells.specs.inner.Kept.{open_texts, rows_view, texts_of};
 
-use crate::earlier::{Earlier, KeptRows};
+use crate::earlier::{Earlier, KeptRows, kept_in, rows_at};
 use crate::evaluated::Evaluated;
-use crate::gathering::grown;
+use crate::gathering::{grown, grown_since};
 use crate::pages::{OpenPages, Pages};
 use crate::row::Row;
 use group_inherit::Flat;
@@ -81,5 +85,54 @@ pub fn cells_of<'s, N: Ledger>(
 {
     let KeptRows { rows, lone } = earlier.kept(alloc, cfg, &flat)?;
     let growing = grown(alloc, &flat, cfg, rows.as_slice(), evals)?;
+    growing.end(flat, cfg, lone)
+}
+
+/// The same, with what was evaluated before under the same configuration in another tree.
+pub fn cells_beside<'s, N: Ledger>(
+    alloc: Global,
+    flat: Flat<'s>,
+    cfg: &Config,
+    other: &Evaluated<'s>,
+    evals: &mut Steps<N>,
+) -> Result<Evaluated<'s>, NoMemory>
+    requires { AreCells other.now.tokens cfg.now (map.entries other.now.tokens) other.now.cells }
+    ensures tokens { IfOk result (λ tree. tree.tokens ≡ flat.entry) }
+    ensures ok { IfOk result (λ tree.
+        AreCells flat.entry cfg.now (map.entries flat.entry) tree.cells) }
+    ensures steps { OnOk result (evals.new ≡ evals.old + length (map.entries flat.entry)) }
+    // Where memory runs out, some tokens are not evaluated.
+    ensures at_most { evals.new ≤ evals.old + length (map.entries flat.entry) }
+{
+    let KeptRows { rows, lone } = kept_in(alloc, other, &flat)?;
+    let growing = grown(alloc, &flat, cfg, rows.as_slice(), evals)?;
+    growing.end(flat, cfg, lone)
+}
+
+/// What each token of the flat tree comes to, in path order, with what was evaluated before under the same configuration,
+/// where its tokens keep these places in the tree that was. A token that keeps its place is taken from there, and each
+/// other one is one step. `lone` says of tokens of the flat tree that they are known to name no other; both are what
+/// `kept_places` tells.
+pub fn cells_since<'s, N: Ledger>(
+    alloc: Global,
+    flat: Flat<'s>,
+    cfg: &Config,
+    old: &Evaluated<'s>,
+    places: &[Option<usize>],
+    lone: Vec<bool>,
+    evals: &mut Steps<N>,
+) -> Result<Evaluated<'s>, NoMemory>
+    requires old { AreCells old.now.tokens cfg.now (map.entries old.now.tokens) old.now.cells }
+    requires places { AllZip (KeepsAt old.now.tokens flat) (map.entries flat) places.now }
+    requires lone { AreLone (map.entries flat) lone.items }
+    ensures tokens { IfOk result (λ tree. tree.tokens ≡ flat.entry) }
+    ensures ok { IfOk result (λ tree.
+        AreCells flat.entry cfg.now (map.entries flat.entry) tree.cells) }
+    ensures steps { OnOk result (evals.new ≡ evals.old + count_by is_none places.now) }
+    // Where memory runs out, some of these are not evaluated.
+    ensures at_most { evals.new ≤ evals.old + count_by is_none places.now }
+{
+    let rows = rows_at(alloc, old, &flat, places)?;
+    let growing = grown_since(alloc, &flat, cfg, rows.as_slice(), evals)?;
     growing.end(flat, cfg, lone)
 }

@@ -15,6 +15,7 @@ pub(crate) struct Drafts {
 }
 
 impl Drafts {
+    /// Buffers with nothing in them.
     pub(crate) fn new(alloc: Global) -> Drafts {
         Drafts {
             property: Bytes::new(alloc),

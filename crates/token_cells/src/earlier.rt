@@ -1,10 +1,13 @@
 //! Tokens that come to what they came to in an earlier tree.
 
-ghost use Rattle.std.specs.Prelude.{◌≡◌, Some, None, IfOk, IfSome, OnOk, OnErr};
+ghost use Rattle.std.specs.Prelude.{◌≡◌, All, Some, None, IfOk, IfSome, OnOk, OnErr, length, map as each};
 ghost use Rattle.std.specs.FinMap as map;
 ghost use Rattle.std.specs.List.{AllZip};
+ghost use Rattle.std.specs.Option.{is_none};
+ghost use Rattle.transforms.specs.Config.{Settings};
+ghost use Rattle.tree_changes.specs.Standing.{KeepsAt};
 ghost use Rattle.token_cells.specs.Cell.{AreCells};
-ghost use Rattle.token_cells.specs.inner.Earlier.{IsKept, IsKeptOf};
+ghost use Rattle.token_cells.specs.inner.Earlier.{AreKept, IsKept, IsKeptOf, IsWithin};
 ghost use Rattle.token_cells.specs.inner.Kept.{texts_of};
 
 use crate::evaluated::Evaluated;
@@ -65,15 +68,17 @@ fn kept_at<'a, 's>(
     pages: &'a Pages,
     place: Option<usize>,
 ) -> Option<Kept<'a, 's>>
-    ensures { IsKeptOf (texts_of pages.now) rows.now place result }
+    requires { IsWithin (length rows.now) place }
+    ensures kept { IsKeptOf (texts_of pages.now) rows.now place result }
+    ensures none { is_none result ≡ is_none place }
 {
     let Some(i) = place else {
         return None;
     };
-    match rows.get(i) {
-        Some(row) => Some(Kept { row, pages }),
-        None => None,
-    }
+    Some(Kept {
+        row: &rows[i],
+        pages,
+    })
 }
 
 // The rows of tokens that keep these places.
@@ -83,14 +88,38 @@ fn kept_rows<'a, 's>(
     pages: &'a Pages,
     places: &[Option<usize>],
 ) -> Result<Vec<Option<Kept<'a, 's>>>, NoMemory>
-    ensures { IfOk result (λ kepts.
+    requires { All (IsWithin (length rows.now)) places.now }
+    ensures kept { IfOk result (λ kepts.
         AllZip (IsKeptOf (texts_of pages.now) rows.now) places.now kepts.items) }
+    ensures none { IfOk result (λ kepts. each is_none kepts.items ≡ each is_none places.now) }
 {
     let mut kepts = Vec::with_capacity(alloc, places.len())?;
     for place in places {
         kepts.push(kept_at(rows, pages, *place))?;
     }
     Ok(kepts)
+}
+
+/// What those tokens of the flat tree come to which keep these places in an earlier one; nothing of those that keep none.
+pub(crate) fn rows_at<'a, 's>(
+    alloc: Global,
+    tree: &'a Evaluated<'s>,
+    flat: &Flat<'s>,
+    places: &[Option<usize>],
+) -> Result<Vec<Option<Kept<'a, 's>>>, NoMemory>
+    requires cells { (settings : Settings)
+        × AreCells tree.now.tokens settings (map.entries tree.now.tokens) tree.now.cells }
+    requires places { AllZip (KeepsAt tree.now.tokens flat.now) (map.entries flat.now) places.now }
+    ensures kept { IfOk result (λ rows. (settings : Settings)
+        → AreCells tree.now.tokens settings (map.entries tree.now.tokens) tree.now.cells
+        → AreKept flat.now settings rows.items) }
+    ensures none { IfOk result (λ rows. each is_none rows.items ≡ each is_none places.now) }
+{
+    unreached_cells();
+    definitions_stand(tree.tokens());
+    definitions_stand(flat);
+    let (rows, pages) = tree.cells().parts();
+    kept_rows(alloc, rows, pages, places)
 }
 
 /// What is kept for the tokens of a flat tree, at their places, where something is, and of each whether it is known to name
@@ -101,19 +130,29 @@ pub(crate) struct KeptRows<'a, 's> {
     pub(crate) lone: Vec<bool>,
 }
 
+/// What those tokens of the flat tree come to, at their places, which come to what they came to in an earlier one.
+pub(crate) fn kept_in<'a, 's>(
+    alloc: Global,
+    tree: &'a Evaluated<'s>,
+    flat: &Flat<'s>,
+) -> Result<KeptRows<'a, 's>, NoMemory>
+    requires { (settings : Settings)
+        × AreCells tree.now.tokens settings (map.entries tree.now.tokens) tree.now.cells }
+    ensures { IfOk result (λ kept. (settings : Settings)
+        → AreCells tree.now.tokens settings (map.entries tree.now.tokens) tree.now.cells
+        → IsKept flat.now settings kept) }
+{
+    let (places, lone) = kept_places(alloc, tree.tokens(), tree.lone(), flat)?;
+    let rows = rows_at(alloc, tree, flat, places.as_slice())?;
+    Ok(KeptRows { rows, lone })
+}
+
 impl<'s> Known<'s> {
     // What those tokens of the flat tree come to, at their places, which come to what they came to in the tree.
     fn kept(&self, alloc: Global, flat: &Flat<'s>) -> Result<KeptRows<'_, 's>, NoMemory>
         ensures { IfOk result (IsKept flat.now self.now.settings) }
     {
-        unreached_cells();
-        let tokens = self.tree.tokens();
-        definitions_stand(tokens);
-        definitions_stand(flat);
-        let (places, lone) = kept_places(alloc, tokens, self.tree.lone(), flat)?;
-        let (rows, pages) = self.tree.cells().parts();
-        let rows = kept_rows(alloc, rows, pages, places.as_slice())?;
-        Ok(KeptRows { rows, lone })
+        kept_in(alloc, &self.tree, flat)
     }
 }
 

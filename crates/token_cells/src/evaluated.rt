@@ -34,6 +34,7 @@ impl<'s> Model for Evaluated<'s> {
 }
 
 impl<'s> Evaluated<'s> {
+    /// Tokens with what each comes to, and which of them are known to name no other.
     pub(crate) fn new(tokens: Flat<'s>, cells: Cells<'s>, lone: Vec<bool>) -> Evaluated<'s>
         requires { AreLone (map.entries tokens) lone.items }
         ensures tokens { result.tokens ≡ tokens.entry }
@@ -69,7 +70,7 @@ impl<'s> Evaluated<'s> {
     }
 
     /// Of each token, as far as it is said, whether it is known to name no other.
-    pub(crate) fn lone(&self) -> &[bool]
+    pub fn lone(&self) -> &[bool]
         ensures { AreLone (map.entries self.now.tokens) result.now }
     {
         self.lone.as_slice()

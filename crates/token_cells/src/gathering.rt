@@ -1,8 +1,9 @@
 //! Tokens that are added to the files, one after another.
 
-ghost use Rattle.std.specs.Prelude.{◌≡◌, ◌+◌, ◌≤◌, ◌∷◌, ◌++◌, List, [], Some, IfOk, IfSome, OnOk, length};
+ghost use Rattle.std.specs.Prelude.{◌≡◌, ◌+◌, ◌≤◌, ◌∷◌, ◌++◌, List, [], Some, IfOk, IfSome, OnOk, cond, length};
 ghost use Rattle.std.specs.FinMap as map;
-ghost use Rattle.std.specs.List.{slice_get};
+ghost use Rattle.std.specs.List.{count_by, slice_get};
+ghost use Rattle.std.specs.Option.{is_none};
 ghost use Rattle.group_inherit.specs.Flattening.{TokenAt};
 ghost use Rattle.alias_ref.specs.Laws.{Flat as FlatTree};
 ghost use Rattle.transforms.specs.Config.{Settings};
@@ -115,6 +116,43 @@ impl<'s> Growing<'s> {
         Ok(())
     }
 
+    // Adds a token of which this is kept. It is no step.
+    fn add_kept(&mut self, kept: Kept<'_, 's>) -> Result<(), NoMemory>
+        ensures { OnOk result ((flat : FlatTree) (settings : Settings) (tokens : List TokenAt)
+            (token : TokenAt) → IsCell flat settings token.0 (kept_view kept.entry)
+            → HasAdded flat settings tokens self.old
+            → HasAdded flat settings (tokens ++ token ∷ []) self.new) }
+    {
+        let row = kept.add_to(&mut self.pages)?;
+        self.rows.push(row)?;
+        Ok(())
+    }
+
+    // Adds the i-th token, of which this is kept. It is one step where nothing is.
+    fn add_since<N: Ledger>(
+        &mut self,
+        alloc: Global,
+        evaluator: &mut Evaluator<'_, 's>,
+        kept: Option<Kept<'_, 's>>,
+        i: usize,
+        token: &(Path<'s>, Entry<'s>),
+        cfg: &Config,
+        evals: &mut Steps<N>,
+    ) -> Result<(), NoMemory>
+        requires token { slice_get (map.entries evaluator.old) i ≡ Some token.now }
+        requires kept { IfSome kept (λ k. IsCell evaluator.old cfg.now token.now.0 (kept_view k)) }
+        ensures tree { evaluator.new ≡ evaluator.old }
+        ensures added { OnOk result ((tokens : List TokenAt)
+            → HasAdded evaluator.old cfg.now tokens self.old
+            → HasAdded evaluator.old cfg.now (tokens ++ token.now ∷ []) self.new) }
+        ensures step { evals.new ≡ evals.old + cond (is_none kept.entry) 1 0 }
+    {
+        match kept {
+            Some(kept) => self.add_kept(kept),
+            None => self.add(alloc, evaluator, None, i, token, cfg, evals),
+        }
+    }
+
     /// The tree of these tokens, which were all added.
     pub(crate) fn end(
         self,
@@ -157,6 +195,30 @@ pub(crate) fn grown<'s, N: Ledger>(
     for (i, token) in tokens.iter().enumerate() {
         let kept = kept_of(kepts, i);
         growing.add(alloc, &mut evaluator, kept, i, token, cfg, evals)?;
+    }
+    Ok(growing)
+}
+
+/// The same, where this is kept of each token. Each of which nothing is kept is one step.
+pub(crate) fn grown_since<'s, N: Ledger>(
+    alloc: Global,
+    flat: &Flat<'s>,
+    cfg: &Config,
+    kepts: &[Option<Kept<'_, 's>>],
+    evals: &mut Steps<N>,
+) -> Result<Growing<'s>, NoMemory>
+    requires kept { AreKept flat.now cfg.now kepts.now }
+    requires long { length kepts.now ≡ length (map.entries flat.now) }
+    ensures added { IfOk result (HasAdded flat.now cfg.now (map.entries flat.now)) }
+    ensures steps { OnOk result (evals.new ≡ evals.old + count_by is_none kepts.now) }
+    ensures at_most { evals.new ≤ evals.old + count_by is_none kepts.now }
+{
+    let tokens = flat.as_slice();
+    let mut growing = Growing::new(alloc, tokens.len())?;
+    let mut evaluator = Evaluator::new(alloc, flat)?;
+    for (i, token) in tokens.iter().enumerate() {
+        let kept = kepts[i];
+        growing.add_since(alloc, &mut evaluator, kept, i, token, cfg, evals)?;
     }
     Ok(growing)
 }

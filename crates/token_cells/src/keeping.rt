@@ -18,6 +18,7 @@ pub(crate) struct Kept<'a, 's> {
     pub(crate) pages: &'a Pages,
 }
 
+// Adds the names of a run of others to all of them.
 fn copy_names(all: &mut Texts, others: &Texts, run: Run) -> Result<(), NoMemory>
     ensures { OnOk result (all.new ≡ all.old ++ slice_range others.now run.start run.end) }
 {
@@ -83,6 +84,7 @@ fn keep_swift_names(
     keep_names(all, names, swift)
 }
 
+// Copies what a token gives to each platform out of other pages, as a row of these.
 fn keep_fragments(
     pages: &mut OpenPages,
     others: &Pages,

@@ -4,6 +4,7 @@ ghost use Rattle.token_cells.specs.Denotes.{CellsDenote};
 ghost use Rattle.token_cells.specs.Existence.{EachCell, EachCells};
 ghost use Rattle.token_cells.specs.OtherSheets.{AndroidCellsDenote, JsonCellsDenote, SwiftCellsDenote};
 ghost use Rattle.token_cells.specs.Laws.{ApartAreUnclashed, BreaksAreReal, BreaksHavePlaces, ClashesAreReal, OneCells, TakenAreCells, UnchangedCells, UnclashedAreApart, UnreachedIsAlike};
+ghost use Rattle.token_cells.specs.ValueRows.{RowsTellFirst};
 
 use alias_ref::{
     differ_decides, meanings_fit, one_answer, one_meaning, parts_mean, source_decides,
@@ -104,3 +105,9 @@ pub fn each_cell()
     plain_laws::<usize>();
     name_laws();
 }
+
+/// Of an object under a kind with parts of other kinds, the part that is told is broken, and none before it in the order of the
+/// kind's row; and where a part is broken, the first one is told.
+pub fn value_row_laws()
+    ensures { RowsTellFirst }
+{}

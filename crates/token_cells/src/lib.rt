@@ -23,17 +23,19 @@ mod names;
 mod pages;
 mod row;
 mod sheet;
+mod telling;
 mod token_cell;
 mod verdict;
 
-pub use cells::{Cells, cells_of};
+pub use cells::{Cells, cells_beside, cells_of, cells_since};
 pub use earlier::Earlier;
 pub use evaluated::Evaluated;
 pub use format::Format;
 pub use laws::{
     breaks_are_real, clashes_are_real, each_cell, one_cells, other_sheets_denote, sheets_denote,
-    unchanged_cells, unreached_cells,
+    unchanged_cells, unreached_cells, value_row_laws,
 };
 pub use sheet::sheet_of;
+pub use telling::{BreakTexts, break_texts};
 pub use token_cell::cell;
 pub use verdict::verdict_text;

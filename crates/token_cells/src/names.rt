@@ -10,7 +10,7 @@ use crate::pages::Pages;
 use crate::row::Row;
 use std::alloc::Global;
 use tk_io::NoMemory;
-use transforms::{Platform, Rising, clash_laws};
+use transforms::{Platform, Rising, are_apart, clash_laws};
 
 /// Adds the names that the token has on the platform; none where a rule is broken. None is copied.
 pub(crate) fn push_names<'a>(
@@ -45,9 +45,9 @@ fn row_rises<'a>(
     }
 }
 
-/// Whether the names that the tokens have on the platform rise, as those of tokens in path order mostly do, so that none
-/// stands twice.
-pub(crate) fn all_rise(platform: Platform, pages: &Pages, rows: &[Row<'_>]) -> bool
+// Whether the names that the tokens have on the platform rise, as those of tokens in path order mostly do, so that none
+// stands twice.
+fn all_rise(platform: Platform, pages: &Pages, rows: &[Row<'_>]) -> bool
     ensures { result ≡ true
         → AreApart (flat_map (names_on platform) (rows_view (texts_of pages.now) rows.now)) }
 {
@@ -61,8 +61,8 @@ pub(crate) fn all_rise(platform: Platform, pages: &Pages, rows: &[Row<'_>]) -> b
     true
 }
 
-/// All names that the tokens have on the platform, in their order.
-pub(crate) fn all_names<'a>(
+// All names that the tokens have on the platform, in their order.
+fn all_names<'a>(
     alloc: Global,
     platform: Platform,
     pages: &'a Pages,
@@ -76,6 +76,23 @@ pub(crate) fn all_names<'a>(
         push_names(platform, pages, row, &mut all)?;
     }
     Ok(all)
+}
+
+/// Whether no name that the tokens have on the platform stands twice.
+pub(crate) fn has_apart_names(
+    alloc: Global,
+    platform: Platform,
+    pages: &Pages,
+    rows: &[Row<'_>],
+) -> Result<bool, NoMemory>
+    ensures { IfOk result (λ apart. apart ≡ true
+        → AreApart (flat_map (names_on platform) (rows_view (texts_of pages.now) rows.now))) }
+{
+    if all_rise(platform, pages, rows) {
+        return Ok(true);
+    }
+    let names = all_names(alloc, platform, pages, rows)?;
+    are_apart(names)
 }
 
 // Whether the names in Swift are known to be those on Android.

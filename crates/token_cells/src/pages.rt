@@ -39,12 +39,14 @@ pub(crate) struct Pages {
     pub(crate) names: Texts,
 }
 
+// An empty sheet with room for so many tokens.
 fn open(alloc: Global, format: Format, tokens: usize) -> Result<Sheet, NoMemory>
     ensures { IfOk result (λ sheet. HoldsCells format sheet []) }
 {
     Sheet::start(alloc, format.frame(), tokens.saturating_mul(ROOM))
 }
 
+// The finished bytes of a sheet.
 fn close(sheet: Sheet) -> Result<Body, NoMemory>
     ensures grows { IfOk result (Extends sheet.text) }
     ensures sheet { (format : Format) (cells : List TokenCell)
@@ -83,6 +85,7 @@ impl OpenPages {
     }
 }
 
+// Adds the names of a run of texts.
 fn push_run<'a>(names: &mut Vec<&'a [u8]>, texts: &'a Texts, run: Run) -> Result<(), NoMemory>
     ensures { OnOk result (map (λ name. name.now) names.new.items
         ≡ map (λ name. name.now) names.old.items ++ slice_range texts.now run.start run.end) }

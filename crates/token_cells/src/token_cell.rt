@@ -45,6 +45,7 @@ fn refused<'s>(alloc: Global, refusal: Refusal<'s>) -> Result<Row<'s>, NoMemory>
     Ok(Row::Broken(refusal))
 }
 
+// The row of a token whose value breaks a rule, at the place to which the trail leads.
 fn refused_value<'s>(
     alloc: Global,
     path: &Path<'s>,
@@ -77,6 +78,7 @@ fn mark_of<'s>(entry: &Entry<'s>) -> Result<Mark<'s>, NoMemory>
     }
 }
 
+// What the token says of itself, where it does.
 fn description<'a>(entry: &'a Entry<'_>) -> Option<&'a str>
     ensures { option_map (λ t. t.now) result ≡ entry.now.def.description }
 {

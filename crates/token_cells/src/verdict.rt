@@ -10,7 +10,7 @@ ghost use Rattle.token_cells.specs.inner.Kept.{row_view, rows_view, texts_of};
 ghost use Rattle.transforms.specs.Clash.{first_taken, Leaves};
 
 use crate::cells::Cells;
-use crate::names::{all_names, all_rise, are_named_alike, push_names};
+use crate::names::{are_named_alike, has_apart_names, push_names};
 use crate::pages::Pages;
 use crate::row::{Refusal, Row};
 use alias_ref::span_of;
@@ -23,7 +23,7 @@ use refusals::{
 };
 use std::alloc::Global;
 use tk_io::{Bytes, NoMemory};
-use transforms::{Clash, Platform, are_apart};
+use transforms::{Clash, Platform};
 
 // Where the place stands in the file of its token's definition.
 fn place_span<'s>(flat: &Flat<'s>, place: &Place<'s>) -> FileSpan<'s>
@@ -44,8 +44,8 @@ fn place_span<'s>(flat: &Flat<'s>, place: &Place<'s>) -> FileSpan<'s>
     }
 }
 
-// What is printed of the rule that a token breaks.
-fn token_text<'s>(
+/// What is printed of the rule that a token breaks.
+pub(crate) fn token_text<'s>(
     alloc: Global,
     files: &Files<'s>,
     flat: &Flat<'s>,
@@ -85,8 +85,8 @@ fn first_refused<'s>(
     Ok(None)
 }
 
-// Adds the names that the token has on the platform; the answer is an earlier token that has one of them.
-fn add_names<'s>(
+/// Adds the names that the token has on the platform; the answer is an earlier token that has one of them.
+pub(crate) fn add_names<'s>(
     alloc: Global,
     clash: &mut Clash<'s>,
     platform: Platform,
@@ -113,8 +113,8 @@ fn object_text<'s>(alloc: Global, files: &Files<'s>, entry: &Entry<'s>) -> Resul
     refuse(alloc, files, Rule::NameClash, def.file, def.start, def.end)
 }
 
-// What is printed of a token that has a name of an earlier one.
-fn clash_text<'s>(
+/// What is printed of a token that has a name of an earlier one.
+pub(crate) fn clash_text<'s>(
     alloc: Global,
     files: &Files<'s>,
     platform: Platform,
@@ -166,11 +166,7 @@ fn first_clash<'s>(
     ensures { IfOk result (λ text. text ≡ verdict_text files.now
         (clashes_on platform (zip tokens.now (rows_view (texts_of pages.now) rows.now)))) }
 {
-    if all_rise(platform, pages, rows) {
-        return Ok(None);
-    }
-    let names = all_names(alloc, platform, pages, rows)?;
-    if are_apart(names)? {
+    if has_apart_names(alloc, platform, pages, rows)? {
         return Ok(None);
     }
     told_clash(alloc, files, platform, tokens, pages, rows)

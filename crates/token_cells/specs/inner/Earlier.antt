@@ -1,5 +1,5 @@
 -- What is known of tokens that were evaluated earlier.
-use Rattle.std.specs.Prelude.{◌≡◌, ℕ, List, Option, Some, None}
+use Rattle.std.specs.Prelude.{◌≡◌, ℕ, ◌<◌, List, Option, Some, None}
 use Rattle.std.specs.FinMap as finite
 use Rattle.std.specs.List.{slice_get}
 use Rattle.group_inherit.specs.Flattening.{TokenAt}
@@ -12,6 +12,11 @@ use Rattle.token_cells.specs.declared.earlier.KeptRows.{KeptRows}
 use Rattle.token_cells.specs.declared.keeping.Kept.{Kept}
 use Rattle.token_cells.specs.declared.row.Row.{Row}
 use Rattle.token_cells.specs.inner.Kept.{PageTexts, kept_view, rows_view}
+
+-- a place that is kept is one of so many
+abbrev pub IsWithin : ℕ → Option ℕ → Type 0
+IsWithin many None = Unit {0}
+IsWithin many (Some i) = i < many
 
 -- what is kept for a token that keeps this place: the row there, if anything
 abbrev pub IsKeptOf : PageTexts → List Row → Option ℕ → Option Kept → Type 0

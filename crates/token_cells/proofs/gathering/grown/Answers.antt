@@ -1,4 +1,4 @@
-use Rattle.std.proofs.Common.{◌≡◌, ◌+◌, ◌++◌, ◌∷◌, [], List, Option, Some, length, take, sym, ap, subst, arith, ◌∙◌}
+use Rattle.std.proofs.Common.{◌≡◌, ◌+◌, ◌++◌, ◌∷◌, [], List, Some, length, take, sym, ap, subst, arith, ◌∙◌}
 use Rattle.std.specs.FinMap as map
 use Rattle.std.specs.List.{slice_get}
 use Rattle.std.specs.Prelude.{IfSome}
@@ -7,8 +7,6 @@ use Rattle.std.proofs.lemmas.Option.{slice_get-get_or}
 use Rattle.group_inherit.specs.Flattening.{TokenAt}
 use Rattle.alias_ref.specs.Laws.{Flat}
 use Rattle.token_cells.specs.Cell.{IsCell}
-use Rattle.token_cells.specs.declared.keeping.Kept.{Kept}
-use Rattle.token_cells.specs.inner.Earlier.{AreKept}
 use Rattle.token_cells.specs.inner.Kept.{kept_view}
 use Rattle.token_cells.specs.inner.Turns.{HasAdded}
 use Rattle.token_cells.proofs.KeptRows.{kept_if}
