@@ -27,7 +27,7 @@ use Rattle.build_plain.specs.Parts.{AreKept, AreKeptOf}
 use Rattle.build_plain.specs.declared.outcome.Outcome.{Outcome}
 use Rattle.build_plain.specs.declared.outcome.Outcome.TheVariants as outcome
 use Rattle.build_plain.specs.inner.Making.{SourceHasBreak}
-use Rattle.build_plain.specs.inner.Outcomes.{HoldsCells, IsOutcome}
+use Rattle.build_plain.specs.Outcomes.{HoldsCells, IsOutcome}
 use Rattle.build_plain.proofs.Gives.{gives_tokens, gives_flat, gives_broken, gives_source_break}
 
 -- what is kept of tokens are their cells

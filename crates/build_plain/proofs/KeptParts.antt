@@ -25,7 +25,7 @@ use Rattle.build_plain.specs.declared.outcome.Outcome.{Outcome}
 use Rattle.build_plain.specs.declared.outcome.Outcome.TheVariants.{Tokens, TreeBreak, SourceBreak}
 use Rattle.build_plain.specs.declared.parts.Parts.{Parts}
 use Rattle.build_plain.specs.inner.Keeping.{KeepsNothing, IsSameAt, Keeps, Keeping, names}
-use Rattle.build_plain.specs.inner.Outcomes.{IsOutcome, cells_in, merge_in}
+use Rattle.build_plain.specs.Outcomes.{IsOutcome, cells_in, merge_in}
 use Rattle.build_plain.proofs.Planned.{some_break}
 
 -- What is put under a name.

@@ -1,15 +1,20 @@
 mod Answered
 mod EachBuilds
 mod Gives
-mod Kept
+pub mod Kept
 mod KeptParts
-mod OneOutputs
+pub mod OneOutputs
 mod OutputsStand
-mod Perm
-mod Perms
-mod Planned
+pub mod Perm
+pub mod Perms
+pub mod Planned
 mod SettingsAllowed
-mod Shapes
-mod Stands
-mod Trees
-mod Works
+pub mod Shapes
+pub mod Stands
+pub mod Trees
+pub mod Works
+mod ExtensionsStand
+mod PrintedSpans
+mod SpansInText
+mod SpansOfDocuments
+mod SpansOfShapes

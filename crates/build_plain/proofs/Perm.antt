@@ -26,7 +26,7 @@ use Rattle.build_plain.specs.Parts.{AreCellsFor, AreKept, AreKeptOf}
 use Rattle.build_plain.specs.Work.{Work, TreeWork, PermWork, RiseBy, RiseWithin}
 use Rattle.build_plain.specs.declared.outcome.Outcome.{Outcome}
 use Rattle.build_plain.specs.declared.outcome.Outcome.TheVariants.{Tokens, TreeBreak, SourceBreak}
-use Rattle.build_plain.specs.inner.Outcomes.{IsOutcome, IsTreeOutcome}
+use Rattle.build_plain.specs.Outcomes.{IsOutcome, IsTreeOutcome}
 use Rattle.build_plain.proofs.Works.{merged_work, merged_within, unmerged_work}
 
 -- what is found of the sources that the code hands on

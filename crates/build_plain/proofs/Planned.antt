@@ -18,9 +18,10 @@ use Rattle.transforms.specs.declared.config.ConfigFault.TheVariants.{Toml, Key, 
 use Rattle.tk_io.specs.FilesData.{FilesData}
 use Rattle.refusals.specs.Planning.{break_of, plan_report}
 use Rattle.refusals.specs.Refusal.{report_text, file_text}
+use Rattle.token_cells.specs.Breaks.{verdict}
 use Rattle.build_plain.specs.Out.{one_output, GivesFrom, Builds, BuildsUnder, config_path, config_reports, refused_config, settings_of}
 use Rattle.build_plain.specs.Work.{Work, work, added, PermsWork, PlanWork, WorkUnder, IsWork, RiseBy, RiseWithin, IsAtMost}
-use Rattle.build_plain.specs.inner.Making.{IsConfigFault}
+use Rattle.build_plain.specs.Out.{IsConfigFault}
 use Rattle.build_plain.proofs.Works.{work_same, at_rest, rise_so, within_so}
 
 abbrev Config : Type 0
@@ -28,6 +29,16 @@ Config = Result Settings ConfigFault
 
 some_same : (x y : FilesData) → Some x ≡ Some y → x ≡ y
 some_same x y e = cc
+
+text_same : {x y : List ℕ} → Some x ≡ Some y → x ≡ y
+text_same e = cc
+
+-- Of a configuration that is refused: the one output is what is printed of it.
+pub config_told : (files : FilesData) (end : ℕ) (broken : ConfigFault) (b : List ℕ) (o : FilesData)
+    → option_map (report_text files) (verdict (config_reports end broken)) ≡ Some b → o ≡ one_output (codes "REFUSED") b → refused_config files (config_reports end broken) o
+config_told files end Toml b o text is = is ∙ ap (one_output (codes "REFUSED")) (sym (text_same text))
+config_told files end (Key key) b o text is = is ∙ ap (one_output (codes "REFUSED")) (sym (text_same text))
+config_told files end NoMemory b o text is = absurd (cc)
 
 -- Of a plan that is refused.
 

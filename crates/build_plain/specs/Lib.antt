@@ -25,6 +25,9 @@
 -- * the parts of files (their trees, what each permutation's sources come to, its cells) are made
 --   with the same counted work; put together they give the outputs that `build` gives, without a
 --   step (`parts_of`: `ok`, `work`, `at_most`; `assemble`)
+-- * whatever else is made of the permutations of files, one after another (`Made`), is made of what
+--   each comes to, with the same counted work (`make`); what is printed of a break of the
+--   configuration, of a source or of a tree (`config_text`, `source_text`, `tree_text`)
 -- * files have outputs, and one alone: any map of files whose texts are texts of a program (UTF-8,
 --   of at most 2^64 bytes) has outputs, and any files have an amount of work (`each_build`:
 --   `outputs`, `work`; `one_build`)
@@ -33,11 +36,18 @@
 --   tree, each by the reading of its language, name for name and no other (of JSON member for
 --   member), or the one file that tells the first of its breaks, and never both; at every path of
 --   the outputs stands such a file (`outputs_denote`: `each`, `either`, `no_other`)
+-- * each break that files are told (of their configuration, their plan, a permutation of it) has a
+--   span that lies in the text of the file that is named, which is there, and line and column are
+--   counted in that text; only where there is neither a resolver document nor a file of all tokens,
+--   the lack of the latter is told at its beginning; and what is told of a place of a token lies in
+--   that token's definition (`printed_spans`: `files`, `lines`, `tokens`)
 
 pub mod Breaks
 pub mod Out
 pub mod Work
 pub mod Parts
+pub mod Outcomes
 pub mod Denotes
+pub mod Printed
 pub mod Laws
 pub mod inner

@@ -74,6 +74,12 @@ settings_by (Some text) = config_of text
 abbrev pub settings_of : FilesData → Result Settings ConfigFault
 settings_of files = settings_by (finite.get files config_path)
 
+-- the fault that the configuration of the files has; memory may always run out
+abbrev pub IsConfigFault : FilesData → ConfigFault → Type 0
+IsConfigFault files config.Toml = settings_of files ≡ Err config.Toml
+IsConfigFault files (config.Key key) = settings_of files ≡ Err (config.Key key)
+IsConfigFault files config.NoMemory = Unit {0}
+
 -- a configuration that is refused is told at its whole text
 abbrev pub config_reports : ℕ → ConfigFault → List Report
 config_reports end config.Toml = report rule.ConfigToml config_path 0 end [] ∷ []

@@ -4,7 +4,8 @@ ghost use Rattle.std.specs.Prelude.{IfOk, OnOk};
 ghost use Rattle.file_plan.specs.View.{plan_perm_view};
 ghost use Rattle.build_plain.specs.Out.{Builds, BuildsUnder, GivesOf};
 ghost use Rattle.build_plain.specs.Work.{IsWork, RiseBy, RiseWithin, work};
-ghost use Rattle.build_plain.specs.inner.Outcomes.{Given, HoldsCells, IsOutcome};
+ghost use Rattle.build_plain.specs.Outcomes.{HoldsCells, IsOutcome};
+ghost use Rattle.build_plain.specs.inner.Outcomes.{Given};
 
 use crate::config::refused_config;
 use crate::making::{Made, make};
@@ -13,14 +14,15 @@ use crate::permutation::{put_source_break, put_tokens, put_tree_break};
 use crate::planning::refused_plan;
 use crate::sources::{first_file, home_of};
 use file_plan::{Files, PlanPerm, PlanRefusal, Trees};
+use source_trees::Shapes;
 use std::alloc::Global;
 use std::sync::ledger::Ledger;
 use tk_io::{NoMemory, Outputs, Steps};
 use token_cells::Earlier;
 use transforms::{Config, ConfigFault};
 
-// Puts the outputs of a permutation by what it comes to.
-fn put_outcome<'s>(
+/// Puts the outputs of a permutation beside others, by what it comes to: its four files, or its refusal.
+pub fn put_outcome<'s>(
     alloc: Global,
     files: &Files<'s>,
     cfg: &Config,
@@ -46,8 +48,11 @@ fn put_outcome<'s>(
     }
 }
 
-// Keeps the tokens of a permutation, which those of the next one may share.
-fn keep_tokens<'s>(
+/// Keeps the tokens of a permutation, which those of the next one may share.
+///
+/// # Errors
+/// `NoMemory`. Nothing is kept then.
+pub fn keep_tokens<'s>(
     alloc: Global,
     cfg: &Config,
     outcome: Outcome<'s>,
@@ -94,6 +99,7 @@ impl<'s> Made<'s> for Outputs {
         alloc: Global,
         files: &Files<'s>,
         cfg: &Config,
+        _shapes: &Shapes<'s>,
         perm: &PlanPerm<'s>,
         outcome: Outcome<'s>,
         earlier: &mut Earlier<'s>,

@@ -5,13 +5,13 @@ ghost use Rattle.std.specs.FinMap as map;
 ghost use Rattle.build_plain.specs.Parts.{ArePartsOf, ArePartsUnder};
 ghost use Rattle.build_plain.specs.Work.{IsWork, RiseBy, RiseWithin, work};
 ghost use Rattle.build_plain.specs.inner.Keeping.{KeepsNothing, Keeping, Keeps};
-ghost use Rattle.build_plain.specs.inner.Outcomes.{cells_in, merge_in};
+ghost use Rattle.build_plain.specs.Outcomes.{cells_in, merge_in};
 
 use crate::making::{Made, make};
 use crate::outcome::Outcome;
 use crate::parts::{CellMap, Parts};
 use file_plan::{Files, PlanPerm, PlanRefusal, Trees};
-use source_trees::{Merge, Merges};
+use source_trees::{Merge, Merges, Shapes};
 use std::alloc::Global;
 use std::sync::ledger::Ledger;
 use tk_io::{NoMemory, Steps};
@@ -85,6 +85,7 @@ impl<'s> Made<'s> for Parts<'s> {
         _alloc: Global,
         _files: &Files<'s>,
         _cfg: &Config,
+        _shapes: &Shapes<'s>,
         perm: &PlanPerm<'s>,
         outcome: Outcome<'s>,
         _earlier: &mut Earlier<'s>,

@@ -2,11 +2,14 @@
 
 ghost use Rattle.build_plain.specs.Denotes.{EachIsAnswered, NeverBoth, NoOtherStands};
 ghost use Rattle.build_plain.specs.Laws.{EachBuilds, EachWorks, OneBuild, OneWork};
+ghost use Rattle.build_plain.specs.Printed.{BreaksLieInFiles, LinesAreOfFiles, PlacesLieInTokens};
 
-use file_plan::{each_plan, file_plan_laws};
+use file_plan::{each_plan, file_plan_laws, refusal_laws};
 use group_inherit::each_tree_answers;
+use json_span::json_laws;
+use permutations::source_laws;
 use source_trees::{each_merge, merged_tokens, one_merge};
-use token_cells::{each_cell, one_cells, other_sheets_denote, sheets_denote};
+use token_cells::{breaks_are_real, each_cell, one_cells, other_sheets_denote, sheets_denote};
 use transforms::config_laws;
 
 /// Files have one answer, and one amount of work.
@@ -49,4 +52,19 @@ pub fn outputs_denote()
     config_laws();
     sheets_denote();
     other_sheets_denote();
+}
+
+/// Each break that files are told lies in the text of the file that is named, but for a file of all tokens that is not
+/// there; line and column are counted in that text; and a place of a token lies in its definition.
+pub fn printed_spans()
+    ensures files { BreaksLieInFiles }
+    ensures lines { LinesAreOfFiles }
+    ensures tokens { PlacesLieInTokens }
+{
+    json_laws();
+    refusal_laws();
+    source_laws();
+    file_plan_laws();
+    merged_tokens();
+    breaks_are_real();
 }

@@ -15,8 +15,14 @@ mod planning;
 mod sources;
 
 pub use assembling::assemble;
-pub use building::build;
+pub use building::{build, keep_tokens, put_outcome};
+pub use config::{config_of, config_text, refused_config};
 pub use keeping::parts_of;
-pub use laws::{each_build, one_build, outputs_denote};
+pub use laws::{each_build, one_build, outputs_denote, printed_spans};
+pub use making::{Made, make};
+pub use outcome::Outcome;
 pub use parts::{CellMap, Parts};
+pub use permutation::{source_text, tree_text};
+pub use planning::refused_plan;
+pub use sources::{first_file, home_of};
 pub use token_cells::Earlier;

@@ -8,7 +8,8 @@ ghost use Rattle.permutations.specs.Permutation.{Permutation};
 ghost use Rattle.file_plan.specs.InUse.{resolver_path, resolver_in, files_in_use};
 ghost use Rattle.file_plan.specs.Plan.{Plans, planned, text_count};
 ghost use Rattle.file_plan.specs.Trees.{AreTreesIn};
-ghost use Rattle.file_plan.specs.View.{IsPlanRefusal, plan_perm_view, plan_view};
+ghost use Rattle.file_plan.specs.View.{IsPlanRefusal, plan_perm_view, plan_sources_view, plan_view};
+ghost use Rattle.source_trees.specs.Merging.{AllInlineStand, AreKnown};
 ghost use Rattle.transforms.specs.Config.{Settings};
 ghost use Rattle.transforms.specs.declared.config.ConfigFault.{ConfigFault};
 ghost use Rattle.transforms.specs.declared.config.ConfigFault.TheVariants.{NoMemory as OutOfMemory};
@@ -16,7 +17,8 @@ ghost use Rattle.refusals.specs.Planning.{break_of};
 ghost use Rattle.build_plain.specs.Out.{settings_of};
 ghost use Rattle.build_plain.specs.Work.{IsWork, PermsWork, RiseBy, RiseWithin, WorkUnder, work};
 ghost use Rattle.build_plain.specs.inner.Making.{AllKnown, AllStand};
-ghost use Rattle.build_plain.specs.inner.Outcomes.{IsOutcome};
+ghost use Rattle.build_plain.specs.Outcomes.{IsOutcome};
+ghost use Rattle.build_plain.specs.Breaks.{home_of};
 
 use crate::config::config_of;
 use crate::outcome::{Outcome, perm_outcome};
@@ -33,7 +35,7 @@ use transforms::{Config, ConfigFault};
 
 /// What is made of files: `is_made` says of which, by what their configuration says, and `is_making` of which permutations
 /// of a plan that is under way, and which of them are still to come.
-pub(crate) trait Made<'s>: Drop {
+pub trait Made<'s>: Drop {
     ghost is_made: { FilesData → Result Settings ConfigFault → Self → Type 0 };
 
     ghost is_making: { Settings → FilesData → List Permutation → List Permutation → Self → Type 0 };
@@ -66,17 +68,21 @@ pub(crate) trait Made<'s>: Drop {
             → (made : Self) → Plans (map.get files resolver_path) (planned perms)
             → is_making settings files perms [] made → is_made files (Ok settings) made };
 
-    /// Adds what a permutation comes to. Its tree may be kept for the next one.
+    /// Adds what a permutation comes to, by the shapes of the files that its sources name. Its tree may be kept for the next
+    /// one.
     fn add(
         &mut self,
         alloc: Global,
         files: &Files<'s>,
         cfg: &Config,
+        shapes: &Shapes<'s>,
         perm: &PlanPerm<'s>,
         outcome: Outcome<'s>,
         earlier: &mut Earlier<'s>,
     ) -> Result<(), NoMemory>
-        requires { IsOutcome cfg.now files.now (plan_perm_view perm.now) outcome }
+        requires outcome { IsOutcome cfg.now files.now (plan_perm_view perm.now) outcome }
+        requires stand { AllInlineStand (home_of files.now).text (plan_sources_view perm.now.sources) }
+        requires known { AreKnown files.now shapes.now (plan_sources_view perm.now.sources) }
         ensures { (all others : List Permutation)
             → is_making cfg.now files.now all (plan_perm_view perm.now ∷ others) self.old
             → OnOk result (is_making cfg.now files.now all others self.new) };
@@ -108,7 +114,7 @@ fn make_perms<'s, T: Made<'s>, M: Ledger, N: Ledger>(
     let mut made = T::start(alloc, trees);
     for perm in plan {
         let outcome = perm_outcome(alloc, files, cfg, shapes, perm, earlier, merges, evals)?;
-        made.add(alloc, files, cfg, perm, outcome, earlier)?;
+        made.add(alloc, files, cfg, shapes, perm, outcome, earlier)?;
     }
     Ok(made)
 }
@@ -220,7 +226,7 @@ fn make_under<'s, T: Made<'s>, L: Ledger, M: Ledger, N: Ledger>(
 
 /// Made of files. Each file in use is read once, which is one step of `parses`; a merged tree that is made flat is one of
 /// `merges`, and each token of a flat tree one of `evals`.
-pub(crate) fn make<'s, T: Made<'s>, L: Ledger, M: Ledger, N: Ledger>(
+pub fn make<'s, T: Made<'s>, L: Ledger, M: Ledger, N: Ledger>(
     alloc: Global,
     files: &Files<'s>,
     earlier: &mut Earlier<'s>,

@@ -6,7 +6,7 @@ ghost use Rattle.file_plan.specs.View.{plan_perm_view, plan_sources_view};
 ghost use Rattle.source_trees.specs.Merging.{AllInlineStand, AreKnown};
 ghost use Rattle.build_plain.specs.Breaks.{home_of};
 ghost use Rattle.build_plain.specs.Work.{PermWork, RiseBy, RiseWithin, TreeWork, work};
-ghost use Rattle.build_plain.specs.inner.Outcomes.{IsOutcome, IsTreeOutcome};
+ghost use Rattle.build_plain.specs.Outcomes.{IsOutcome, IsTreeOutcome};
 
 use crate::sources::home_of;
 use file_plan::{Files, PlanPerm};
@@ -21,7 +21,7 @@ use transforms::Config;
 
 /// What a permutation comes to.
 #[derive(Drop)]
-pub(crate) enum Outcome<'s> {
+pub enum Outcome<'s> {
     /// The flat tree, and what its tokens come to.
     Tokens(Evaluated<'s>),
     /// The rule that the merged tree breaks.

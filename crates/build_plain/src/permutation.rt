@@ -19,6 +19,19 @@ use std::alloc::Global;
 use tk_io::{Bytes, NoMemory, Outputs};
 use token_cells::{Cells, Format, sheet_of, verdict_text};
 
+/// What is printed of a source that breaks a rule.
+pub fn source_text(
+    alloc: Global,
+    files: &Files<'_>,
+    found: &SourceBreak<'_>,
+) -> Result<Bytes, NoMemory>
+    ensures { IfOk result (λ b. b
+        ≡ report_text files.now (source_report (break_view found.now))) }
+{
+    let rule = source_rule(found.fault);
+    refuse(alloc, files, rule, found.file, found.start, found.end)
+}
+
 /// Puts the refusal of a source that breaks a rule.
 pub(crate) fn put_source_break(
     alloc: Global,
@@ -31,8 +44,7 @@ pub(crate) fn put_source_break(
         ≡ put_beside outputs.old (perm_outputs files.now name.now []
         (Some (source_report (break_view found.now))))) }
 {
-    let rule = source_rule(found.fault);
-    let body = refuse(alloc, files, rule, found.file, found.start, found.end)?;
+    let body = source_text(alloc, files, found)?;
     put_output(alloc, name, "/REFUSED", body, outputs)
 }
 
@@ -52,8 +64,8 @@ fn count_text(
     Ok(out)
 }
 
-// What is printed of a tree that breaks a rule of extension.
-fn tree_text(
+/// What is printed of a merged tree that breaks a rule of extension. `first` is the file of the permutation's first source.
+pub fn tree_text(
     alloc: Global,
     files: &Files<'_>,
     first: &str,

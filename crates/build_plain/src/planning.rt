@@ -12,7 +12,7 @@ use std::alloc::Global;
 use tk_io::{NoMemory, Outputs};
 
 /// The one output of files whose plan is refused.
-pub(crate) fn refused_plan(
+pub fn refused_plan(
     alloc: Global,
     files: &Files<'_>,
     refusal: &PlanRefusal<'_>,

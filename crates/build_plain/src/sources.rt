@@ -15,7 +15,7 @@ const TOKENS: &str = "tokens.json";
 pub(crate) const RESOLVER: &str = "resolver.json";
 
 /// The file that names the sources: the resolver document, or without one the token file itself.
-pub(crate) fn home_of<'s>(files: &Files<'s>) -> Home<'s>
+pub fn home_of<'s>(files: &Files<'s>) -> Home<'s>
     ensures { home_view result ≡ home_of files.now }
 {
     match files.get(RESOLVER) {
@@ -31,7 +31,7 @@ pub(crate) fn home_of<'s>(files: &Files<'s>) -> Home<'s>
 }
 
 /// The file of the first source.
-pub(crate) fn first_file<'a, 's>(home: &'a Home<'s>, sources: &'a [PlanSource<'s>]) -> &'a str
+pub fn first_file<'a, 's>(home: &'a Home<'s>, sources: &'a [PlanSource<'s>]) -> &'a str
     ensures { result.now ≡ first_file (home_view home.now) (plan_sources_view sources.now) }
 {
     match sources.first() {

@@ -1,9 +1,7 @@
--- What the configuration of files answers, and what is known of the sources of permutations.
-use Rattle.std.specs.Prelude.{◌≡◌, List, ◌∷◌, Err}
+-- What is known of the sources of permutations.
+use Rattle.std.specs.Prelude.{List, ◌∷◌}
 use Rattle.std.specs.FinMap as finite
 use Rattle.std.specs.List.{AllByRecursion}
-use Rattle.transforms.specs.declared.config.ConfigFault.{ConfigFault}
-use Rattle.transforms.specs.declared.config.ConfigFault.TheVariants.{Toml, Key, NoMemory}
 use Rattle.tk_io.specs.FilesData.{FilesData}
 use Rattle.tk_io.specs.Order.{text_cmp}
 use Rattle.token_tree.specs.Tree.{Group}
@@ -12,13 +10,6 @@ use Rattle.source_trees.specs.Merging.{AllInlineStand, AreKnown}
 use Rattle.source_trees.specs.Sources.{BreakAt, SourcesFound}
 use Rattle.source_trees.specs.declared.shape.FileShape.{FileShape}
 use Rattle.build_plain.specs.Breaks.{home_of}
-use Rattle.build_plain.specs.Out.{settings_of}
-
--- the fault that the configuration of the files has; memory may always run out
-abbrev pub IsConfigFault : FilesData → ConfigFault → Type 0
-IsConfigFault files Toml = settings_of files ≡ Err Toml
-IsConfigFault files (Key key) = settings_of files ≡ Err (Key key)
-IsConfigFault files NoMemory = Unit {0}
 
 -- objects among the sources of each permutation stand in the file that names them
 abbrev pub AllStand : FilesData → List Permutation → Type 0

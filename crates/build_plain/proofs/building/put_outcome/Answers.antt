@@ -9,7 +9,7 @@ use Rattle.source_trees.specs.declared.merge.Merge.TheVariants as merge
 use Rattle.token_cells.specs.Breaks.{token_reports, verdict}
 use Rattle.build_plain.specs.Breaks.{first_file, tree_reports}
 use Rattle.build_plain.specs.Out.{perm_outputs, put_beside}
-use Rattle.build_plain.specs.inner.Outcomes.{IsOutcome}
+use Rattle.build_plain.specs.Outcomes.{IsOutcome}
 use Rattle.build_plain.proofs.Kept.{gives_kept_break, gives_kept_flat, gives_source}
 use Rattle.build_plain.proofs.building.put_outcome.Goals as goal
 

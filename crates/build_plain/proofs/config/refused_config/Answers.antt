@@ -1,18 +1,13 @@
-use Rattle.std.proofs.Common.{◌∙◌, ◌∷◌, [], ap, codes, length}
+use Rattle.std.proofs.Common.{length}
 use Rattle.std.proofs.lemmas.Result.{IfOk-weaker}
-use Rattle.transforms.specs.declared.config.ConfigFault.TheVariants.{Key}
-use Rattle.refusals.specs.Refusal.{file_text, of_key, detail_line, report, report_text}
-use Rattle.build_plain.specs.Out.{config_path, config_reports, refused_config, one_output}
-use Rattle.refusals.specs.declared.rule.Rule.TheVariants as rule
-use Rattle.refusals.proofs.Reports.{told, one_more}
+use Rattle.refusals.specs.Refusal.{file_text}
+use Rattle.build_plain.specs.Out.{config_path, config_reports, refused_config}
+use Rattle.build_plain.proofs.Planned.{config_told}
 use Rattle.build_plain.proofs.config.refused_config.Goals as goal
 
-pub returns-in_ok-append_key-in-Key : goal.returns-in_ok-append_key-in-Key
-returns-in_ok-append_key-in-Key c =
+pub returns : goal.returns
+returns c =
     let files = c.args.files.now in
     let end = length (file_text files config_path) in
-    let b = c.in_ok-body-in-Key.body in
-    let key = c.as_slice.result.now in
-    let text = told files rule.ConfigKey config_path 0 end b c.append_key.new.out (of_key key ∷ []) c.in_ok-body-in-Key.ensures (one_more b c.append_key.new.out (detail_line (of_key key)) c.in_ok-append_key-in-Key.ensures.ok)
-    ∙ ap (λ k. report_text files (report rule.ConfigKey config_path 0 end (of_key k ∷ []))) c.as_slice.ensures in
-    rw c.in-Key.is (IfOk-weaker c.one_output-in-Key.result _ (refused_config files (config_reports end (Key c.in-Key.key))) (λ o is. is ∙ ap (one_output (codes "REFUSED")) text) c.one_output-in-Key.ensures)
+    IfOk-weaker c.one_output.result _ (refused_config files (config_reports end c.args.fault.now))
+    (λ o is. config_told files end c.args.fault.now c.in_ok-body.body o c.in_ok-body.ensures is) c.one_output.ensures

@@ -4,7 +4,7 @@ use Rattle.source_trees.specs.declared.merge.Merge.TheVariants as merge
 use Rattle.build_plain.specs.declared.outcome.Outcome.{Outcome}
 use Rattle.build_plain.specs.declared.parts.Parts.{Parts}
 use Rattle.build_plain.specs.inner.Keeping.{Keeps}
-use Rattle.build_plain.specs.inner.Outcomes.{cells_in, merge_in}
+use Rattle.build_plain.specs.Outcomes.{cells_in, merge_in}
 use Rattle.build_plain.proofs.KeptParts.{both_kept, merge_kept, nothing_kept}
 use Rattle.build_plain.proofs.keeping.keep_outcome.Goals as goal
 

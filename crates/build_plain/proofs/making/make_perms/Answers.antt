@@ -17,7 +17,12 @@ perm_outcome-requires g c =
     }
 
 pub add-requires : goal.add-requires
-add-requires g c = λ k. ((refl, tt), c.in_ok-outcome.ensures.ok)
+add-requires g c =
+    let files = c.args.files.now in
+    let next = next_perms c.args.plan.now c.loop-perm.perm-index c.perm-item.result c.loop-perm-test.true c.perm-item.is in
+    let stand = (subst (AllStand files) next c.loop-perm.invariant.stand).0 in
+    let known = (subst (AllKnown files c.args.shapes.now) next c.loop-perm.invariant.known).0 in
+    λ k. ((refl, tt), (c.in_ok-outcome.ensures.ok, (stand, known)))
 
 pub loop-perm-init : goal.loop-perm-init
 loop-perm-init g c = record {

@@ -7,7 +7,7 @@ use Rattle.source_trees.specs.Sources.{HomeAt}
 use Rattle.source_trees.specs.View.{home_view}
 use Rattle.build_plain.specs.Breaks.{home_of}
 use Rattle.build_plain.specs.Work.{work}
-use Rattle.build_plain.specs.inner.Outcomes.{IsOutcome}
+use Rattle.build_plain.specs.Outcomes.{IsOutcome}
 use Rattle.build_plain.proofs.Perm.{perm_tree, perm_break, perm_tree_work, perm_tree_within, perm_break_work}
 use Rattle.build_plain.proofs.outcome.perm_outcome.Goals as goal
 

@@ -5,7 +5,7 @@ use Rattle.build_plain.proofs.Works.{any_ok}
 use Rattle.build_plain.proofs.building.OutputsMade.add.Goals as goal
 
 pub keep_tokens-requires : goal.keep_tokens-requires
-keep_tokens-requires c = holds_cells c.args.cfg.now c.args.files.now (plan_perm_view c.args.perm.now) c.args.outcome c.requires
+keep_tokens-requires c = holds_cells c.args.cfg.now c.args.files.now (plan_perm_view c.args.perm.now) c.args.outcome c.requires.outcome
 
 pub returns : goal.returns
 returns c = λ all others given.
