@@ -8,7 +8,7 @@ import subprocess
 import time
 import unittest
 
-from helpers import FIRST, TOKC, TOP, Room, make_program, program, read, run, tree, write
+from helpers import FIRST, TOKC, TOP, Room, make_program, outputs_in, program, read, run, tree, write
 
 setUpModule = make_program
 
@@ -24,7 +24,7 @@ class Words(Room):
                 ran = run([self.at("tokc"), *words], b"never read", at=self.room)
                 self.assertLess(time.monotonic() - start, 5)
                 self.assertEqual((ran.status, ran.out), (run([program(), *words]).status, ""))
-                self.assertRegex(ran.err, r"\Ausage: tokc [^\n]+\n {7}tokc prove \| install PREFIX\n[^\n]*docs/MANUAL.md[^\n]*\n\Z")
+                self.assertRegex(ran.err, r"\Ausage: tokc [^\n]+\n {7}tokc store ROOT \| prove \| install PREFIX\n[^\n]*docs/MANUAL.md[^\n]*\n\Z")
         self.assertEqual(sorted(os.listdir(self.room)), ["tokc", "tokens"])
 
     def test_the_program_without_what_stands_before_it(self):
@@ -106,6 +106,22 @@ class Numbers(Room):
         os.truncate(self.at("long"), self.LIMIT)
         self.assertEqual(self.ended(["build"], source=self.at("long")), (3, "tokc: bad script at byte 0\n"))
 
+    def test_an_event_that_does_not_fit(self):
+        """What stands before it is written, by `build` the first line alone; all events are counted."""
+        given = b"tokc-script 2\nput tokens.json 2\n{}\ncommit\nmove a.json b.json\ncommit\n"
+        said = "tokc: event 3 does not fit\n"
+        for word, front in (("replay", b"tokc-stream 1\ncommit 1\n"), ("stats", b"tokc-stats 1\ncommit 1 "), ("build", b"tokc-stream 1\n")):
+            with self.subTest(word=word):
+                self.assertEqual(self.ended([word], given, out=self.at("told")), (9, said))
+                told = read(self.at("told"))
+                self.assertTrue(told.startswith(front), told[:80])
+                self.assertNotIn(b"done", told)
+        self.assertEqual(self.ended(["build"], given, out=self.at("told")), (9, said))
+        self.assertEqual(read(self.at("told")), b"tokc-stream 1\n")
+
+    def test_events_of_the_second_version_under_the_first(self):
+        self.assertEqual(self.ended(["replay"], b"tokc-script 1\nmove a.json b.json\n"), (3, "tokc: bad script at byte 14\n"))
+
     def test_an_error_stream_that_fails_changes_no_number(self):
         for number, words, given, out in ((0, ["replay"], self.SCRIPT, None), (2, ["replays"], self.SCRIPT, None), (3, ["replay"], b"", None), (5, ["replay"], self.SCRIPT, "/dev/full")):
             with self.subTest(number=number):
@@ -128,9 +144,7 @@ class Examples(Room):
                 tokens, out = os.path.join(TOP, "examples", name, "tokens"), f"out-{name}"
                 ran = self.tool("build", tokens, out)
                 self.assertEqual((ran.status, ran.err), (0, ""))
-                found = tree(self.at(out))
-                found.pop(".tokc-outputs")
-                self.assertEqual(found, tree(os.path.join(TOP, "examples", name, "expected")))
+                self.assertEqual(outputs_in(self.at(out)), tree(os.path.join(TOP, "examples", name, "expected")))
                 self.assertRegex(self.tool("build", tokens, out).out, rf"\A{4 * permutations} outputs; 0 changed(; omitted: [a-z0-9 ,]+)?; [0-9.]+ s\n\Z")
 
     def test_acme_broken(self):

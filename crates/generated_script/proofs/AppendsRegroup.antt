@@ -4,6 +4,7 @@ use Rattle.std.proofs.lemmas.List.{flat_map_more}
 use Rattle.std.proofs.lemmas.List.Concat.{flat_map-append}
 use Rattle.std.specs.List.{flat_map, range_with_len}
 use Rattle.edit_script.specs.Script.{event_text, header}
+use Rattle.edit_script.specs.declared.version.Version.TheVariants.{First}
 use Rattle.generated_script.specs.Script.{edit_events, events_of, first_events, script_of}
 
 -- two pieces, and three
@@ -34,10 +35,10 @@ seven f a b c d e g h o p q r s t u v ap bq cr ds et gu hv =
     (more f [] a o o p (append_none o) ap) bq) cr) ds) et) gu) hv
 
 -- the header, the first events and the edits are the script
-pub whole : (seed size : ℕ) (x y z : List ℕ) → x ≡ header → y ≡ x ++ flat_map event_text (first_events seed size) → z ≡ y ++ flat_map event_text (flat_map (edit_events seed size) (range_with_len 1 20)) → z ≡ script_of seed size
+pub whole : (seed size : ℕ) (x y z : List ℕ) → x ≡ header First → y ≡ x ++ flat_map event_text (first_events seed size) → z ≡ y ++ flat_map event_text (flat_map (edit_events seed size) (range_with_len 1 20)) → z ≡ script_of seed size
 unfolding script_of events_of
 whole seed size x y z p q r =
     let first = first_events seed size in
     let edits = flat_map (edit_events seed size) (range_with_len 1 20) in
-    two header (flat_map event_text first) (flat_map event_text edits) y z (q ∙ ap (λ t. t ++ flat_map event_text first) p) r
-    ∙ ap (λ t. header ++ t) (sym (flat_map-append event_text first edits))
+    two (header First) (flat_map event_text first) (flat_map event_text edits) y z (q ∙ ap (λ t. t ++ flat_map event_text first) p) r
+    ∙ ap (λ t. header First ++ t) (sym (flat_map-append event_text first edits))

@@ -8,7 +8,10 @@ use Rattle.std.specs.List.{AllByRecursion, flat_map, list_all, range_with_len}
 use Rattle.std.specs.Prelude.{nat_lt}
 use Rattle.std.specs.Str.{IsAscii}
 use Rattle.edit_script.specs.Files.{commit_count}
-use Rattle.edit_script.specs.Script.{EventFits, IsScript, event_text, header, is_path, put}
+use Rattle.edit_script.specs.Files.{EveryFits}
+use Rattle.edit_script.specs.Script.{HasSpelling, IsScript, event_text, header, is_path, put}
+use Rattle.edit_script.specs.declared.version.Version.TheVariants.{First}
+use Rattle.edit_script.proofs.UnfitEvents.{first_fits}
 use Rattle.generated_script.specs.declared.script.TheConstants.{MOST_TOKENS}
 use Rattle.generated_script.specs.Tokens.{core_text, edited, generated_token, generated_value, literal}
 use Rattle.generated_script.specs.Script.{edit_events, events_of, first_events, put_core, resolver_text, script_of}
@@ -101,11 +104,11 @@ resolver_short : IsShort 400 resolver_text
 unfolding resolver_text
 resolver_short = fixed 400 _ refl refl
 
-fits : (most : ℕ) (path text : List ℕ) → is_path path ≡ true → IsShort most text → most < 10 ^ 8 → EventFits (put path text)
+fits : (most : ℕ) (path text : List ℕ) → is_path path ≡ true → IsShort most text → most < 10 ^ 8 → HasSpelling First (put path text)
 fits most path text p short h =
-    (p, IsUtf8-from_ascii text short.ascii, omega (arith, short.bound))
+    (refl, (p, IsUtf8-from_ascii text short.ascii, omega (arith, short.bound)))
 
-core_fits : (seed size edits : ℕ) → edits ≤ 20 → size ≤ MOST_TOKENS → EventFits (put_core seed size edits)
+core_fits : (seed size edits : ℕ) → edits ≤ 20 → size ≤ MOST_TOKENS → HasSpelling First (put_core seed size edits)
 core_fits seed size edits h small =
     fits 200000 (codes "core.json") (core_text seed size edits) refl (core_short seed size edits h small) (omega arith)
 
@@ -119,7 +122,7 @@ each P f a (suc n) h =
     both P (f a) (flat_map f (range_with_len (a + 1) n)) (h a (omega arith) (omega arith))
     (each P f (a + 1) n (λ i l u. h i (omega arith) (omega arith)))
 
-first_fit : (seed size : ℕ) → size ≤ MOST_TOKENS → AllByRecursion EventFits (first_events seed size)
+first_fit : (seed size : ℕ) → size ≤ MOST_TOKENS → AllByRecursion (HasSpelling First) (first_events seed size)
 first_fit seed size small = (
   fits 400 (codes "resolver.json") resolver_text refl resolver_short (omega arith),
   (
@@ -132,7 +135,7 @@ first_fit seed size small = (
           fits 40 (codes "cozy.json") _ refl (fixed 40 (codes "{\"dens\":{\"$type\":\"number\",\"$value\":1}}") refl refl) (omega arith),
           (
             fits 40 (codes "compact.json") _ refl (fixed 40 (codes "{\"dens\":{\"$type\":\"number\",\"$value\":2}}") refl refl) (omega arith),
-            (tt, tt),
+            ((refl, tt), tt),
           ),
         ),
       ),
@@ -140,19 +143,23 @@ first_fit seed size small = (
   ),
 )
 
-events_fit : (seed size : ℕ) → size ≤ MOST_TOKENS → AllByRecursion EventFits (events_of seed size)
+events_fit : (seed size : ℕ) → size ≤ MOST_TOKENS → AllByRecursion (HasSpelling First) (events_of seed size)
 unfolding events_of
 events_fit seed size small =
-    both EventFits (first_events seed size) (flat_map (edit_events seed size) (range_with_len 1 20)) (first_fit seed size small)
-    (each EventFits (edit_events seed size) 1 20 (λ edit l u. (core_fits seed size edit (omega arith) small, (tt, tt))))
+    both (HasSpelling First) (first_events seed size) (flat_map (edit_events seed size) (range_with_len 1 20)) (first_fit seed size small)
+    (each (HasSpelling First) (edit_events seed size) 1 20 (λ edit l u. (core_fits seed size edit (omega arith) small, ((refl, tt), tt))))
 
-text_is : (seed size : ℕ) → script_of seed size ≡ header ++ flat_map event_text (events_of seed size)
+text_is : (seed size : ℕ) → script_of seed size ≡ header First ++ flat_map event_text (events_of seed size)
 unfolding script_of
 text_is seed size = refl
 
 -- the text is a script of the events
 pub script : (seed size : ℕ) → size ≤ MOST_TOKENS → IsScript (script_of seed size) (events_of seed size)
-script seed size small = (text_is seed size, events_fit seed size small)
+script seed size small = (First, (text_is seed size, events_fit seed size small))
+
+-- each of the events fits what stands before it
+pub every_fits : (seed size : ℕ) → size ≤ MOST_TOKENS → EveryFits (events_of seed size)
+every_fits seed size small = first_fits (events_of seed size) (events_fit seed size small)
 
 -- the first commit, and one for each edit
 pub commits : (seed size : ℕ) → commit_count (events_of seed size) ≡ 21

@@ -2,6 +2,7 @@
 use Rattle.std.specs.Prelude.{ℕ, List, [], ◌∷◌, ◌++◌, codes}
 use Rattle.std.specs.List.{flat_map, range_with_len}
 use Rattle.edit_script.specs.Script.{EventData, put, commit, event_text, header}
+use Rattle.edit_script.specs.declared.version.Version.TheVariants.{First}
 use Rattle.generated_script.specs.Tokens.{core_text}
 
 -- the file `resolver.json`: one set and two modifiers of two contexts each
@@ -43,4 +44,4 @@ events_of seed size = first_events seed size ++ flat_map (edit_events seed size)
 
 -- the script of a seed and a number of tokens
 unfoldable pub script_of : ℕ → ℕ → List ℕ
-script_of seed size = header ++ flat_map event_text (events_of seed size)
+script_of seed size = header First ++ flat_map event_text (events_of seed size)

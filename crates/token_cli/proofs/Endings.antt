@@ -1,5 +1,5 @@
 -- How a replay ends, by what stood before.
-use Rattle.std.proofs.Common.{◌≡◌, ◌∙◌, ◌⊎◌, inl, inr, ◌<◌, ◌≤◌, ◌+◌, ℕ, zero, suc, Bool, List, [], ◌∷◌, ◌++◌, length, Option, Some, Err, ap, sym, subst, refl, arith, append_assoc, append-nil, length-append}
+use Rattle.std.proofs.Common.{◌≡◌, ◌∙◌, ◌⊎◌, inl, inr, ◌<◌, ◌≤◌, ◌+◌, ℕ, zero, suc, Bool, List, [], ◌∷◌, ◌++◌, length, take, Option, Some, Err, ap, sym, subst, refl, arith, append_assoc, append-nil, length-append}
 use Rattle.std.proofs.KnownBytes.{Appends-nil, Appends-trans}
 use Rattle.std.proofs.lemmas.List.{take_all}
 use Rattle.std.specs.FinMap as map
@@ -7,20 +7,27 @@ use Rattle.std.specs.List.{slice_get}
 use Rattle.std.specs.Io.KnownBytes.{Appends}
 use Rattle.tk_io.specs.Writing.{AppendsFront, AppendsPart}
 use Rattle.edit_script.specs.Script.{EventData, commit}
-use Rattle.edit_script.specs.Files.{commit_count}
+use Rattle.edit_script.specs.Files.{EveryFits, IsUnfit, as_one_commit, commit_count, present_of}
 use Rattle.tk_io.specs.FilesData.{FilesData}
 use Rattle.edit_script.specs.Delta.{Delta}
 use Rattle.edit_script.specs.Stream.{line_text}
 use Rattle.edit_script.specs.declared.line.Line.TheVariants.{Done}
+use Rattle.edit_script.proofs.Standing.{count_parts}
+use Rattle.edit_script.proofs.UnfitEvents.{fits_or_not}
 use Rattle.edit_script.proofs.Written.{front_of_part, part_after}
-use Rattle.token_cli.specs.inner.Ending.{Writes}
-use Rattle.token_cli.specs.Headline.{AreCommits, WroteWhole, WrotePart, is_refused}
-use Rattle.token_cli.specs.inner.Step.{State, IsCommitted, Fails}
+use Rattle.file_plan.specs.Loading.{FitsFiles}
+use Rattle.token_cli.specs.inner.Edits.{AreEdited, EditsFail}
+use Rattle.token_cli.specs.inner.Ending.{Way, Writes, WroteSomeBy, each_commit, one_commit}
+use Rattle.token_cli.specs.Headline.{AreCommits, WroteUpTo, WroteWhole, WrotePart, is_refused}
+use Rattle.token_cli.specs.inner.Step.{State, IsCommitted, IsEdited, CommitFails, EditFails, Fails}
 use Rattle.token_cli.specs.Told.{commit_text, commits_so_far, head_line, whole_text}
 use Rattle.token_cli.specs.declared.telling.Telling.{Telling}
+use Rattle.token_cli.specs.declared.telling.Telling.TheVariants.{Records}
 use Rattle.token_cli.specs.declared.stop.Stop.{Stop}
 use Rattle.token_cli.specs.declared.stop.Stop.TheVariants as stop
-use Rattle.token_cli.proofs.Standing.{Stands, as_many, no_commit, nothing_yet, one_more_text, commits_more}
+use Rattle.token_cli.proofs.Edited.{Edited, edited_more, first_unfit_here, fit_commits, unfit_kind}
+use Rattle.file_plan.proofs.EventsTaken.{take_more}
+use Rattle.token_cli.proofs.Standing.{Stands, as_many, commit_kept, commits_more, no_commit, nothing_yet, one_committed, one_more_text, one_text, stands_as}
 use Rattle.token_cli.proofs.Told.{some_last, text_is}
 
 next : {m n : ℕ} → (m < n) ⊎ (m ≡ n) → (suc m < suc n) ⊎ (suc m ≡ suc n)
@@ -47,40 +54,153 @@ part_is told es held deltas old new commits front =
       | inr h ↦ (held, deltas, commits, inr (h, less_than_all old new (whole_text told deltas) (commits_so_far told deltas) (line_text (Done (length deltas))) front (text_is told deltas) (some_last (length deltas))))
     ]
 
--- a part of the header is a part of the stream
-pub part_first : (told : Telling) (es : List EventData) (old new : Option (List ℕ)) → AppendsPart old new (line_text (head_line told)) → WrotePart told es old new
-part_first told es old new part =
-    let P : List ℕ → Type 0 = λ l. AppendsFront old new l in
-    part_is told es [] [] old new (no_commit es) (subst P (sym (nothing_yet told)) (front_of_part old new (line_text (head_line told)) part))
+-- .. and of what is told of events in a way, where so many commits come before the first event that does not fit
+pub some_is : (way : Way) (es : List EventData) (held : List FilesData) (deltas : List Delta) (old new : Option (List ℕ)) → AreCommits way.told held deltas
+    → ((number : ℕ) → IsUnfit es number → length held ≤ way.before number) → AppendsFront old new (commits_so_far way.telling deltas) → WroteSomeBy way es old new
+some_is way es held deltas old new commits bound front =
+    elim (fits_or_not es) [
+      | inl fits ↦ inl (fits, part_is way.telling way.told held deltas old new commits front)
+      | inr (number, unfit) ↦ inr (number, unfit, (held, deltas, commits, bound number unfit, front))
+    ]
 
--- what was written so far is a part of the stream
-pub part_standing : (told : Telling) (es : List EventData) (i : ℕ) (s : State) (old now : Option (List ℕ)) → Stands told es i s old now → WrotePart told es old now
-part_standing told es i s old now stands =
+-- a prefix of the header is a part
+pub some_first : (way : Way) (es : List EventData) (old new : Option (List ℕ)) → AppendsFront old new (line_text (head_line way.telling)) → WroteSomeBy way es old new
+some_first way es old new front =
+    some_is way es [] [] old new (no_commit way.told) (λ number unfit. omega arith)
+    (subst (λ (l : List ℕ). AppendsFront old new l) (sym (nothing_yet way.telling)) front)
+
+-- nothing is a part
+pub some_nothing : (way : Way) (es : List EventData) (old : Option (List ℕ)) → WroteSomeBy way es old old
+some_nothing way es old = some_first way es old old ([], line_text (head_line way.telling), refl, Appends-nil old)
+
+-- .. and a part of the header
+pub some_part : (way : Way) (es : List EventData) (old new : Option (List ℕ)) → AppendsPart old new (line_text (head_line way.telling)) → WroteSomeBy way es old new
+some_part way es old new part = some_first way es old new (front_of_part old new (line_text (head_line way.telling)) part)
+
+-- .. and all of it
+pub some_header : (way : Way) (es : List EventData) (old new : Option (List ℕ)) → Appends old new (line_text (head_line way.telling)) → WroteSomeBy way es old new
+some_header way es old new whole =
+    let header = line_text (head_line way.telling) in
+    some_first way es old new (header, [], sym (append-nil header), whole)
+
+-- the commits that are told come before an event that does not fit
+commits_below : (told : Telling) (es : List EventData) (i : ℕ) (s : State) (old now : Option (List ℕ)) → (stands : Stands told es i s old now) → EveryFits (take i es) → (number : ℕ) → IsUnfit es number → length stands.held ≤ commit_count (take number es)
+commits_below told es i s old now stands fits number unfit =
+    omega (arith, stands.length, stands.count, fit_commits es i number fits unfit)
+
+-- what was written so far is a part
+pub some_standing : (told : Telling) (es : List EventData) (i : ℕ) (s : State) (old now : Option (List ℕ)) → Stands told es i s old now → EveryFits (take i es) → WroteSomeBy (each_commit told es) es old now
+some_standing told es i s old now stands fits =
     let so_far = commits_so_far told stands.deltas in
-    part_is told es stands.held stands.deltas old now stands.commits (so_far, [], sym (append-nil so_far), stands.text)
+    some_is (each_commit told es) es stands.held stands.deltas old now stands.commits (commits_below told es i s old now stands fits) (so_far, [], sym (append-nil so_far), stands.text)
 
 -- and so is what was written of the next commit
-pub part_commit : (told : Telling) (es : List EventData) (i : ℕ) (s : State) (old now new : Option (List ℕ)) (next : FilesData) (d : Delta) → (stands : Stands told es i s old now) → slice_get es i ≡ Some commit → IsCommitted s next d → AppendsPart now new (commit_text told (s.commits + 1) d) → WrotePart told es old new
-part_commit told es i s old now new next d stands here leads part =
+pub some_commit : (told : Telling) (es : List EventData) (i : ℕ) (s : State) (old now new : Option (List ℕ)) (next : FilesData) (d : Delta) → (stands : Stands told es i s old now) → EveryFits (take (i + 1) es) → slice_get es i ≡ Some commit → IsCommitted s next d → AppendsPart now new (commit_text told (s.commits + 1) d) → WroteSomeBy (each_commit told es) es old new
+some_commit told es i s old now new next d stands fits here leads part =
     let ds = stands.deltas in
-    let text = one_more_text told ds d s.commits (sym (as_many map.empty stands.held ds stands.commits.changes ∙ stands.length)) in
+    let held = stands.held in
+    let text = one_more_text told ds d s.commits (sym (as_many map.empty held ds stands.commits.changes ∙ stands.length)) in
     let all = text ∙ ap (λ l. commits_so_far told ds ++ l) (sym (append-nil (commit_text told (s.commits + 1) d))) in
-    part_is told es (stands.held ++ (next ∷ [])) (ds ++ (d ∷ [])) old new (commits_more told es i s old now next d stands here leads)
+    some_is (each_commit told es) es (held ++ (next ∷ [])) (ds ++ (d ∷ [])) old new (commits_more told es i s old now next d stands here leads)
+    (λ number unfit. omega (arith, length-append held (next ∷ []), stands.length, stands.count, ap commit_count (take_more es i commit here), count_parts (take i es) (commit ∷ []), fit_commits es (i + 1) number fits unfit))
     (front_of_part old new (commits_so_far told (ds ++ (d ∷ []))) (part_after old now new (commits_so_far told (ds ++ (d ∷ []))) (commits_so_far told ds) (commit_text told (s.commits + 1) d) [] stands.text part all))
 
--- an event that isn't taken ends the replay by its cause
-pub ends_at : (told : Telling) (why : Stop) (es : List EventData) (i : ℕ) (e : EventData) (s : State) (old now new : Option (List ℕ)) (first before after : ℕ) → slice_get es i ≡ Some e → Stands told es i s old now → first ≤ before → Fails told why e s now new before after → Writes (Err why) told es old new first after
-ends_at told stop.NoMemory es i e s old now new first before after at stands later fails =
-    let P : Option (List ℕ) → Type 0 = λ x. WrotePart told es old x in
-    subst P (sym fails) (part_standing told es i s old now stands)
-ends_at told stop.WriteFault es i e s old now new first before after at stands later fails =
-    let (is, rose, (next, d, leads, part)) = fails in
-    let here : slice_get es i ≡ Some commit = at ∙ ap (λ x. Some x) is in
-    (omega (arith, later, rose), part_commit told es i s old now new next d stands here leads part)
-ends_at told stop.Usage es i e s old now new first before after at stands later fails = absurd fails
-ends_at told (stop.BadScript n) es i e s old now new first before after at stands later fails = absurd fails
-ends_at told stop.ReadFault es i e s old now new first before after at stands later fails = absurd fails
-ends_at told stop.TooLong es i e s old now new first before after at stands later fails = absurd fails
+-- an event that does not fit ends the replay once all before it is written
+unfit_at : (told : Telling) (es : List EventData) (i : ℕ) (e : EventData) (s : State) (old now : Option (List ℕ)) (number : ℕ) → slice_get es i ≡ Some e → Edited es i s → (stands : Stands told es i s old now) → ¬ (FitsFiles e s.files s.made) → number ≡ s.taken + 1
+    → WroteUpTo told es (commit_count (take number es)) old now
+unfit_at told es i e s old now number at edited stands not is =
+    let here : i + 1 ≡ number = omega (arith, edited.count, is) in
+    let none = unfit_kind e (present_of e (map.get s.files)) s.made not in
+    let count : commit_count (take i es) ≡ commit_count (take number es) =
+    omega (arith, none, ap commit_count (take_more es i e at), count_parts (take i es) (e ∷ []), ap (λ n. commit_count (take n es)) here) in
+    (stands.held, stands.deltas, stands.commits, stands.length ∙ (stands.count ∙ count), stands.text)
+
+-- an event that isn't taken into the files ends the replay by its cause
+edit_ends : (told : Telling) (why : Stop) (es : List EventData) (i : ℕ) (e : EventData) (s : State) (old now new : Option (List ℕ)) (first after : ℕ) → slice_get es i ≡ Some e → Edited es i s → Stands told es i s old now → EditFails why e s → new ≡ now → Writes (Err why) (each_commit told es) es old new first after
+edit_ends told stop.NoMemory es i e s old now new first after at edited stands fails same =
+    subst (λ (x : Option (List ℕ)). WroteSomeBy (each_commit told es) es old x) (sym same) (some_standing told es i s old now stands edited.events.fits)
+edit_ends told (stop.BadEvent number) es i e s old now new first after at edited stands (not, is) same = (
+  first_unfit_here es i e s number at edited not is,
+  subst (λ (x : Option (List ℕ)). WroteUpTo told es (commit_count (take number es)) old x) (sym same) (unfit_at told es i e s old now number at edited stands not is),
+)
+edit_ends told stop.WriteFault es i e s old now new first after at edited stands fails same = absurd fails
+edit_ends told stop.Usage es i e s old now new first after at edited stands fails same = absurd fails
+edit_ends told (stop.BadScript n) es i e s old now new first after at edited stands fails same = absurd fails
+edit_ends told stop.ReadFault es i e s old now new first after at edited stands fails same = absurd fails
+edit_ends told stop.TooLong es i e s old now new first after at edited stands fails same = absurd fails
+
+-- .. and so does a commit that isn't told
+commit_ends : (told : Telling) (why : Stop) (es : List EventData) (i : ℕ) (s : State) (old now new : Option (List ℕ)) (first before after : ℕ) → slice_get es i ≡ Some commit → EveryFits (take i es) → EveryFits (take (i + 1) es) → Stands told es i s old now → first ≤ before → CommitFails told why s now new before after
+    → Writes (Err why) (each_commit told es) es old new first after
+commit_ends told stop.NoMemory es i s old now new first before after at fits more stands later fails =
+    subst (λ (x : Option (List ℕ)). WroteSomeBy (each_commit told es) es old x) (sym fails) (some_standing told es i s old now stands fits)
+commit_ends told stop.WriteFault es i s old now new first before after at fits more stands later (rose, (next, d, leads, part)) =
+    (omega (arith, later, rose), some_commit told es i s old now new next d stands more at leads part)
+commit_ends told stop.Usage es i s old now new first before after at fits more stands later fails = absurd fails
+commit_ends told (stop.BadScript n) es i s old now new first before after at fits more stands later fails = absurd fails
+commit_ends told (stop.BadEvent n) es i s old now new first before after at fits more stands later fails = absurd fails
+commit_ends told stop.ReadFault es i s old now new first before after at fits more stands later fails = absurd fails
+commit_ends told stop.TooLong es i s old now new first before after at fits more stands later fails = absurd fails
+
+-- a commit that was taken into the files and isn't told
+taken_ends : (told : Telling) (why : Stop) (es : List EventData) (i : ℕ) (s m : State) (old now new : Option (List ℕ)) (first before after : ℕ) → slice_get es i ≡ Some commit → Edited es i s → Stands told es i s old now → first ≤ before → IsEdited commit s m → CommitFails told why m now new before after
+    → Writes (Err why) (each_commit told es) es old new first after
+taken_ends told why es i s m old now new first before after at edited stands later edit fails =
+    commit_ends told why es i m old now new first before after at edited.events.fits (edited_more es i commit s m at edited edit).events.fits
+    (stands_as told es i s m old now stands (commit_kept s m edit) edit.held edit.commits) later fails
+
+-- an event that isn't taken and told ends the replay by its cause
+pub ends_at : (told : Telling) (why : Stop) (es : List EventData) (i : ℕ) (e : EventData) (s : State) (old now new : Option (List ℕ)) (first before after : ℕ) → slice_get es i ≡ Some e → Edited es i s → Stands told es i s old now → first ≤ before → Fails told why e s now new before after
+    → Writes (Err why) (each_commit told es) es old new first after
+ends_at told why es i e s old now new first before after at edited stands later (inl (fails, same)) =
+    edit_ends told why es i e s old now new first after at edited stands fails same
+ends_at told why es i e s old now new first before after at edited stands later (inr (is, (m, edit, fails))) =
+    taken_ends told why es i s m old now new first before after (at ∙ ap (λ x. Some x) is) edited stands later (subst (λ (x : EventData). IsEdited x s m) is edit) fails
+
+-- Taking all events into the files, and one commit at their end.
+
+-- .. ends by its cause
+pub all_end : (why : Stop) (es : List EventData) (old new : Option (List ℕ)) (first after : ℕ) → Appends old new (line_text (head_line Records)) → EditsFail why es → Writes (Err why) (one_commit es) es old new first after
+all_end stop.NoMemory es old new first after header fails = some_header (one_commit es) es old new header
+all_end (stop.BadEvent number) es old new first after header unfit =
+    (unfit, ([], [], no_commit (as_one_commit es), refl, subst (λ (l : List ℕ). Appends old new l) (sym (nothing_yet Records)) header))
+all_end stop.WriteFault es old new first after header fails = absurd fails
+all_end stop.Usage es old new first after header fails = absurd fails
+all_end (stop.BadScript n) es old new first after header fails = absurd fails
+all_end stop.ReadFault es old new first after header fails = absurd fails
+all_end stop.TooLong es old new first after header fails = absurd fails
+
+-- an event that isn't taken ends it by its cause
+pub edits_end : (why : Stop) (es : List EventData) (i : ℕ) (e : EventData) (s : State) → slice_get es i ≡ Some e → Edited es i s → EditFails why e s → EditsFail why es
+edits_end stop.NoMemory es i e s at edited fails = tt
+edits_end (stop.BadEvent number) es i e s at edited (not, is) = first_unfit_here es i e s number at edited not is
+edits_end stop.WriteFault es i e s at edited fails = absurd fails
+edits_end stop.Usage es i e s at edited fails = absurd fails
+edits_end (stop.BadScript n) es i e s at edited fails = absurd fails
+edits_end stop.ReadFault es i e s at edited fails = absurd fails
+edits_end stop.TooLong es i e s at edited fails = absurd fails
+
+-- the one commit isn't told whole
+pub end_cut : (why : Stop) (es : List EventData) (s : State) (old now new : Option (List ℕ)) (first before after : ℕ) → AreEdited es s → Appends old now (line_text (head_line Records)) → first ≤ before → CommitFails Records why s now new before after
+    → Writes (Err why) (one_commit es) es old new first after
+end_cut stop.NoMemory es s old now new first before after edited header later fails =
+    subst (λ (x : Option (List ℕ)). WroteSomeBy (one_commit es) es old x) (sym fails) (some_header (one_commit es) es old now header)
+end_cut stop.WriteFault es s old now new first before after edited header later (rose, (next, d, leads, part)) =
+    let text = commit_text Records 1 d in
+    let first_part : AppendsPart now new text = subst (λ (n : ℕ). AppendsPart now new (commit_text Records (n + 1) d)) edited.commits part in
+    let all = one_text d ∙ ap (λ l. line_text (head_line Records) ++ l) (sym (append-nil text)) in (
+      omega (arith, later, rose),
+      inl (
+        edited.fits,
+        part_is Records (as_one_commit es) (next ∷ []) (d ∷ []) old new (one_committed es s next d edited leads)
+            (front_of_part old new (commits_so_far Records (d ∷ [])) (part_after old now new (commits_so_far Records (d ∷ [])) (line_text (head_line Records)) text [] header first_part all)),
+      ),
+    )
+end_cut stop.Usage es s old now new first before after edited header later fails = absurd fails
+end_cut (stop.BadScript n) es s old now new first before after edited header later fails = absurd fails
+end_cut (stop.BadEvent n) es s old now new first before after edited header later fails = absurd fails
+end_cut stop.ReadFault es s old now new first before after edited header later fails = absurd fails
+end_cut stop.TooLong es s old now new first before after edited header later fails = absurd fails
 
 -- when all events were taken, all commits were
 all_taken : (told : Telling) (es : List EventData) (i : ℕ) (s : State) (old now : Option (List ℕ)) → length es ≤ i → (stands : Stands told es i s old now) → length stands.held ≡ commit_count es
@@ -108,7 +228,3 @@ ends_cut told es i s old now new h stands last =
     let whole : whole_text told ds ≡ commits_so_far told ds ++ (line_text (Done s.commits) ++ []) =
     text_ends told es i s old now stands ∙ ap (λ l. commits_so_far told ds ++ l) (sym (append-nil (line_text (Done s.commits)))) in
     (stands.held, ds, stands.commits, inr (all_taken told es i s old now h stands, part_after old now new (whole_text told ds) (commits_so_far told ds) (line_text (Done s.commits)) [] stands.text last whole))
-
--- nothing is a part of the stream
-pub part_nothing : (told : Telling) (es : List EventData) (old : Option (List ℕ)) → WrotePart told es old old
-part_nothing told es old = part_is told es [] [] old old (no_commit es) ([], commits_so_far told [], refl, Appends-nil old)

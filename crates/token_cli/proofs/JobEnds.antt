@@ -12,7 +12,7 @@ use Rattle.command_words.specs.declared.command.WordStop.{WordStop}
 use Rattle.command_words.specs.declared.command.WordStop.TheVariants as words
 use Rattle.generated_script.specs.Script.{script_of}
 use Rattle.edit_script.specs.Script.{IsScriptStop}
-use Rattle.token_cli.specs.Headline.{IsLeftBy, OfBytes, OfSource, WroteWhole, WrotePart, most_bytes, reads_source, telling_of}
+use Rattle.token_cli.specs.Headline.{IsLeftBy, OfBytes, OfSource, StopsAt, WroteEvents, WroteSome, most_bytes, reads_source}
 use Rattle.token_cli.specs.inner.Causes.{of_read, of_words}
 use Rattle.token_cli.specs.Course.{Course, course}
 use Rattle.token_cli.specs.inner.Ending.{Ends, OfScript, Scripted}
@@ -77,14 +77,15 @@ module _ (c : Command) (reads_it : reads_source c ≡ true) (left rest : Option 
   of_bytes (Gen seed size) is claim holds = absurd (cc)
 
   module _ (reads reads_now : ℕ) (old new : Option (List ℕ)) (writes writes_now : ℕ) where
-    part_of : OfScript c script (λ es. WrotePart (telling_of c) es old new) → OfBytes c left (λ s. OfScript c s (λ es. WrotePart (telling_of c) es old new))
-    part_of part = of_bytes c reads_it (λ s. OfScript c s (λ es. WrotePart (telling_of c) es old new)) part
+    part_of : OfScript script (λ es. WroteSome c es old new) → OfBytes c left (λ s. OfScript s (λ es. WroteSome c es old new))
+    part_of part = of_bytes c reads_it (λ s. OfScript s (λ es. WroteSome c es old new)) part
 
     pub source_ends : (r : Ended) → Scripted r c script old new writes writes_now → Ends r (Some c) (course left rest reads reads_now old new writes writes_now)
-    source_ends (Ok refused) made = (left_by c reads_it, of_bytes c reads_it (λ s. OfScript c s (λ es. WroteWhole (telling_of c) es refused old new)) made)
+    source_ends (Ok refused) made = (left_by c reads_it, of_bytes c reads_it (λ s. OfScript s (λ es. WroteEvents c es refused old new)) made)
     source_ends (Err stop.NoMemory) (inl same) = inl same
     source_ends (Err stop.NoMemory) (inr part) = inr (left_by c reads_it, part_of part)
     source_ends (Err stop.WriteFault) (rose, part) = (rose, (left_by c reads_it, part_of part))
+    source_ends (Err (stop.BadEvent number)) made = (left_by c reads_it, of_bytes c reads_it (λ s. OfScript s (λ es. StopsAt c es number old new)) made)
     source_ends (Err (stop.BadScript at)) (same, bad) = (same, (end, of_source left rest script (λ s. IsScriptStop s at) all end short bad))
     source_ends (Err stop.Usage) made = absurd made
     source_ends (Err stop.ReadFault) made = absurd made
@@ -98,6 +99,7 @@ generated_ends seed size left reads old new writes writes_now (Ok refused) made 
 generated_ends seed size left reads old new writes writes_now (Err stop.NoMemory) (inl same) never = inl same
 generated_ends seed size left reads old new writes writes_now (Err stop.NoMemory) (inr part) never = inr (refl, part)
 generated_ends seed size left reads old new writes writes_now (Err stop.WriteFault) (rose, part) never = (rose, (refl, part))
+generated_ends seed size left reads old new writes writes_now (Err (stop.BadEvent number)) made never = (refl, made)
 generated_ends seed size left reads old new writes writes_now (Err (stop.BadScript at)) made never = absurd (never at refl)
 generated_ends seed size left reads old new writes writes_now (Err stop.Usage) made never = absurd made
 generated_ends seed size left reads old new writes writes_now (Err stop.ReadFault) made never = absurd made

@@ -1,5 +1,5 @@
 mod Decided
-mod Edits
+mod Edited
 mod Endings
 mod JobEnds
 mod Lists

@@ -1,21 +1,7 @@
 -- Lists that grow at their end.
-use Rattle.std.proofs.Common.{◌≡◌, ◌∙◌, ◌⊎◌, ◌+◌, ℕ, zero, suc, List, [], ◌∷◌, ◌++◌, length, take, drop, get_or, Some, ap, sym, refl, inl, inr}
+use Rattle.std.proofs.Common.{◌≡◌, ◌⊎◌, ◌+◌, ℕ, zero, suc, List, [], ◌∷◌, ◌++◌, length, get_or, Some, ap, refl, inl, inr}
 use Rattle.std.proofs.lemmas.Option.{none-some, same_Some}
 use Rattle.std.specs.List.{slice_get}
-use Rattle.token_cli.proofs.Places.{plus_one}
-
-pub split_here : {A : Type 0} (xs : List A) (i : ℕ) (x : A) → slice_get xs i ≡ Some x → xs ≡ take i xs ++ (x ∷ drop (suc i) xs)
-split_here [] i x e = absurd (none-some x e)
-split_here (y ∷ xs) zero x e = ap (λ z. z ∷ xs) (same_Some y x e)
-split_here (y ∷ xs) (suc i) x e = ap (λ l. y ∷ l) (split_here xs i x e)
-
-take_after : {A : Type 0} (xs : List A) (i : ℕ) (x : A) → slice_get xs i ≡ Some x → take (suc i) xs ≡ take i xs ++ (x ∷ [])
-take_after [] i x e = absurd (none-some x e)
-take_after (y ∷ xs) zero x e = ap (λ z. z ∷ []) (same_Some y x e)
-take_after (y ∷ xs) (suc i) x e = ap (λ l. y ∷ l) (take_after xs i x e)
-
-pub take_more : {A : Type 0} (xs : List A) (i : ℕ) (x : A) → slice_get xs i ≡ Some x → take (i + 1) xs ≡ take i xs ++ (x ∷ [])
-take_more xs i x e = ap (λ n. take n xs) (sym (plus_one i)) ∙ take_after xs i x e
 
 one_further : {A : Type 0} (xs : List A) (z x y : A) (k : ℕ) → (slice_get xs k ≡ Some y) ⊎ ((k ≡ length xs) × (x ≡ y)) → (slice_get (z ∷ xs) (suc k) ≡ Some y) ⊎ ((suc k ≡ length (z ∷ xs)) × (x ≡ y))
 one_further xs z x y k (inl e) = inl e

@@ -4,17 +4,18 @@ use Rattle.std.specs.Prelude.{IfSome}
 use Rattle.std.proofs.lemmas.Option.{none-some, same_Some}
 use Rattle.tk_io.specs.Reading.{TakesExactly}
 use Rattle.edit_script.specs.Script.{EventData, IsScript}
+use Rattle.edit_script.specs.Files.{EveryFits, IsUnfit}
 use Rattle.edit_script.proofs.Readings.{one_reading}
+use Rattle.edit_script.proofs.UnfitEvents.{not_both}
 use Rattle.command_words.specs.declared.command.Command.{Command}
 use Rattle.command_words.specs.declared.command.Command.TheVariants.{Build, Replay, Stats, Gen}
 use Rattle.token_cli.specs.inner.Ending.{Scripted, place_of, status_of}
-use Rattle.token_cli.specs.Headline.{IsLeftBy, IsScriptOf, OfBytes, OfEvents, events_for, most_bytes, reads_source, telling_of}
+use Rattle.token_cli.specs.Headline.{IsLeftBy, IsScriptOf, OfBytes, OfEvents, most_bytes, reads_source}
 use Rattle.token_cli.specs.Report.{whole_status}
 use Rattle.token_cli.specs.declared.stop.Stop.{Stop}
 use Rattle.token_cli.specs.declared.stop.Stop.TheVariants as stop
 use Rattle.token_cli.specs.declared.status.Status.{Status}
 use Rattle.token_cli.specs.declared.status.Status.TheVariants as status
-use Rattle.token_cli.specs.declared.telling.Telling.{Telling}
 
 abbrev Ended : Type 0
 Ended = Result Bool Stop
@@ -29,6 +30,7 @@ ended_of status.ReadFault at = Err stop.ReadFault
 ended_of status.WriteFault at = Err stop.WriteFault
 ended_of status.NoMemory at = Err stop.NoMemory
 ended_of status.TooLong at = Err stop.TooLong
+ended_of status.BadEvent at = Err (stop.BadEvent at)
 
 ended_back : (r : Ended) → r ≡ ended_of (status_of r) (place_of r)
 ended_back (Ok false) = refl
@@ -39,6 +41,7 @@ ended_back (Err stop.ReadFault) = refl
 ended_back (Err stop.WriteFault) = refl
 ended_back (Err stop.NoMemory) = refl
 ended_back (Err stop.TooLong) = refl
+ended_back (Err (stop.BadEvent number)) = refl
 
 pub said_by : (r : Ended) (s : Status) → status_of r ≡ s → r ≡ ended_of s (place_of r)
 said_by r s e = ended_back r ∙ ap (λ x. ended_of x (place_of r)) e
@@ -48,33 +51,46 @@ stopped_as r s e (inl usage) = inl (e ∙ ap status_of usage)
 stopped_as r s e (inr memory) = inr (e ∙ ap status_of memory)
 
 -- the answers but for those that are ruled out
-pub all_written : (r : Ended) → (r ≡ Err stop.ReadFault → ⊥) → (r ≡ Err stop.WriteFault → ⊥) → (r ≡ Err stop.TooLong → ⊥) → (r ≡ Err stop.Usage → ⊥) → ((at : ℕ) → r ≡ Err (stop.BadScript at) → ⊥) → (status_of r ≡ status.Done) ⊎ ((status_of r ≡ status.Refused) ⊎ (status_of r ≡ status.NoMemory))
-all_written (Ok false) read write long usage bad = inl refl
-all_written (Ok true) read write long usage bad = inr (inl refl)
-all_written (Err stop.NoMemory) read write long usage bad = inr (inr refl)
-all_written (Err stop.Usage) read write long usage bad = absurd (usage refl)
-all_written (Err stop.WriteFault) read write long usage bad = absurd (write refl)
-all_written (Err (stop.BadScript at)) read write long usage bad = absurd (bad at refl)
-all_written (Err stop.ReadFault) read write long usage bad = absurd (read refl)
-all_written (Err stop.TooLong) read write long usage bad = absurd (long refl)
+pub all_written : (r : Ended) → (r ≡ Err stop.ReadFault → ⊥) → (r ≡ Err stop.WriteFault → ⊥) → (r ≡ Err stop.TooLong → ⊥) → (r ≡ Err stop.Usage → ⊥) → ((at : ℕ) → r ≡ Err (stop.BadScript at) → ⊥) → ((number : ℕ) → r ≡ Err (stop.BadEvent number) → ⊥) → (status_of r ≡ status.Done) ⊎ ((status_of r ≡ status.Refused) ⊎ (status_of r ≡ status.NoMemory))
+all_written (Ok false) read write long usage bad unfit = inl refl
+all_written (Ok true) read write long usage bad unfit = inr (inl refl)
+all_written (Err stop.NoMemory) read write long usage bad unfit = inr (inr refl)
+all_written (Err stop.Usage) read write long usage bad unfit = absurd (usage refl)
+all_written (Err stop.WriteFault) read write long usage bad unfit = absurd (write refl)
+all_written (Err (stop.BadScript at)) read write long usage bad unfit = absurd (bad at refl)
+all_written (Err stop.ReadFault) read write long usage bad unfit = absurd (read refl)
+all_written (Err stop.TooLong) read write long usage bad unfit = absurd (long refl)
+all_written (Err (stop.BadEvent number)) read write long usage bad unfit = absurd (unfit number refl)
 
-pub not_read : (r : Ended) → ((refused : Bool) → r ≡ Ok refused → ⊥) → (r ≡ Err stop.ReadFault → ⊥) → (r ≡ Err stop.WriteFault → ⊥) → (r ≡ Err stop.TooLong → ⊥) → (r ≡ Err stop.Usage → ⊥) → (status_of r ≡ status.BadScript) ⊎ (status_of r ≡ status.NoMemory)
-not_read (Ok refused) wrote read write long usage = absurd (wrote refused refl)
-not_read (Err stop.NoMemory) wrote read write long usage = inr refl
-not_read (Err stop.Usage) wrote read write long usage = absurd (usage refl)
-not_read (Err stop.WriteFault) wrote read write long usage = absurd (write refl)
-not_read (Err (stop.BadScript at)) wrote read write long usage = inl refl
-not_read (Err stop.ReadFault) wrote read write long usage = absurd (read refl)
-not_read (Err stop.TooLong) wrote read write long usage = absurd (long refl)
+pub not_read : (r : Ended) → ((refused : Bool) → r ≡ Ok refused → ⊥) → (r ≡ Err stop.ReadFault → ⊥) → (r ≡ Err stop.WriteFault → ⊥) → (r ≡ Err stop.TooLong → ⊥) → (r ≡ Err stop.Usage → ⊥) → ((number : ℕ) → r ≡ Err (stop.BadEvent number) → ⊥) → (status_of r ≡ status.BadScript) ⊎ (status_of r ≡ status.NoMemory)
+not_read (Ok refused) wrote read write long usage unfit = absurd (wrote refused refl)
+not_read (Err stop.NoMemory) wrote read write long usage unfit = inr refl
+not_read (Err stop.Usage) wrote read write long usage unfit = absurd (usage refl)
+not_read (Err stop.WriteFault) wrote read write long usage unfit = absurd (write refl)
+not_read (Err (stop.BadScript at)) wrote read write long usage unfit = inl refl
+not_read (Err stop.ReadFault) wrote read write long usage unfit = absurd (read refl)
+not_read (Err stop.TooLong) wrote read write long usage unfit = absurd (long refl)
+not_read (Err (stop.BadEvent number)) wrote read write long usage unfit = absurd (unfit number refl)
 
-pub too_many : (r : Ended) → ((refused : Bool) → r ≡ Ok refused → ⊥) → (r ≡ Err stop.ReadFault → ⊥) → (r ≡ Err stop.WriteFault → ⊥) → (r ≡ Err stop.Usage → ⊥) → ((at : ℕ) → r ≡ Err (stop.BadScript at) → ⊥) → (status_of r ≡ status.TooLong) ⊎ (status_of r ≡ status.NoMemory)
-too_many (Ok refused) wrote read write usage bad = absurd (wrote refused refl)
-too_many (Err stop.NoMemory) wrote read write usage bad = inr refl
-too_many (Err stop.Usage) wrote read write usage bad = absurd (usage refl)
-too_many (Err stop.WriteFault) wrote read write usage bad = absurd (write refl)
-too_many (Err (stop.BadScript at)) wrote read write usage bad = absurd (bad at refl)
-too_many (Err stop.ReadFault) wrote read write usage bad = absurd (read refl)
-too_many (Err stop.TooLong) wrote read write usage bad = inl refl
+pub too_many : (r : Ended) → ((refused : Bool) → r ≡ Ok refused → ⊥) → (r ≡ Err stop.ReadFault → ⊥) → (r ≡ Err stop.WriteFault → ⊥) → (r ≡ Err stop.Usage → ⊥) → ((at : ℕ) → r ≡ Err (stop.BadScript at) → ⊥) → ((number : ℕ) → r ≡ Err (stop.BadEvent number) → ⊥) → (status_of r ≡ status.TooLong) ⊎ (status_of r ≡ status.NoMemory)
+too_many (Ok refused) wrote read write usage bad unfit = absurd (wrote refused refl)
+too_many (Err stop.NoMemory) wrote read write usage bad unfit = inr refl
+too_many (Err stop.Usage) wrote read write usage bad unfit = absurd (usage refl)
+too_many (Err stop.WriteFault) wrote read write usage bad unfit = absurd (write refl)
+too_many (Err (stop.BadScript at)) wrote read write usage bad unfit = absurd (bad at refl)
+too_many (Err stop.ReadFault) wrote read write usage bad unfit = absurd (read refl)
+too_many (Err stop.TooLong) wrote read write usage bad unfit = inl refl
+too_many (Err (stop.BadEvent number)) wrote read write usage bad unfit = absurd (unfit number refl)
+
+pub not_fit : (r : Ended) → ((refused : Bool) → r ≡ Ok refused → ⊥) → (r ≡ Err stop.ReadFault → ⊥) → (r ≡ Err stop.WriteFault → ⊥) → (r ≡ Err stop.TooLong → ⊥) → (r ≡ Err stop.Usage → ⊥) → ((at : ℕ) → r ≡ Err (stop.BadScript at) → ⊥) → (status_of r ≡ status.BadEvent) ⊎ (status_of r ≡ status.NoMemory)
+not_fit (Ok refused) wrote read write long usage bad = absurd (wrote refused refl)
+not_fit (Err stop.NoMemory) wrote read write long usage bad = inr refl
+not_fit (Err stop.Usage) wrote read write long usage bad = absurd (usage refl)
+not_fit (Err stop.WriteFault) wrote read write long usage bad = absurd (write refl)
+not_fit (Err (stop.BadScript at)) wrote read write long usage bad = absurd (bad at refl)
+not_fit (Err stop.ReadFault) wrote read write long usage bad = absurd (read refl)
+not_fit (Err stop.TooLong) wrote read write long usage bad = absurd (long refl)
+not_fit (Err (stop.BadEvent number)) wrote read write long usage bad = inl refl
 
 -- what a source took that told what it had left
 pub taken : (n : ℕ) (script : List ℕ) (old new : Option (List ℕ)) → old ≡ Some script → TakesExactly n old new → n ≤ length script
@@ -105,23 +121,22 @@ of_given Stats left claim script reads told h = at_some script left (Short claim
 of_given (Gen seed size) left claim script reads told h = absurd (cc)
 
 -- what was made of a script, by a claim about its events
-abbrev pub Made : Option Command → Option (List ℕ) → Option (List ℕ) → (Telling → List EventData → Type 0) → Type 0
-Made command left rest claim = IfSome command (λ c. IsLeftBy c left rest × OfEvents c left (claim (telling_of c)))
+abbrev pub Made : Option Command → Option (List ℕ) → Option (List ℕ) → (Command → List EventData → Type 0) → Type 0
+Made command left rest claim = IfSome command (λ c. IsLeftBy c left rest × OfEvents c left (claim c))
 
 -- .. says of these events, where they are the script's
-pub of_events : (command : Option Command) (left rest : Option (List ℕ)) (claim : Telling → List EventData → Type 0) (c : Command) (script : List ℕ) (es : List EventData) → command ≡ Some c → IsScriptOf c left script → IsScript script es → Made command left rest claim → claim (telling_of c) (events_for c es)
+pub of_events : (command : Option Command) (left rest : Option (List ℕ)) (claim : Command → List EventData → Type 0) (c : Command) (script : List ℕ) (es : List EventData) → command ≡ Some c → IsScriptOf c left script → IsScript script es → Made command left rest claim → claim c es
 of_events command left rest claim c script es which told is h =
-    let M : Command → Type 0 = λ x. IsLeftBy x left rest × OfEvents x left (claim (telling_of x)) in
-    let S : List ℕ → Type 0 = λ s. (fs : List EventData) × IsScript s fs × claim (telling_of c) (events_for c fs) in
+    let M : Command → Type 0 = λ x. IsLeftBy x left rest × OfEvents x left (claim x) in
+    let S : List ℕ → Type 0 = λ s. (fs : List EventData) × IsScript s fs × claim c fs in
     let (fs, is_too, holds) = of_bytes c left S script told (at_some c command M which h).1 in
-    let P : List EventData → Type 0 = λ x. claim (telling_of c) (events_for c x) in
-    subst P (one_reading script fs es is_too is) holds
+    subst (claim c) (one_reading script fs es is_too is) holds
 
 -- .. and of the script of the source
-pub of_script : (command : Option Command) (left rest : Option (List ℕ)) (claim : Telling → List EventData → Type 0) (c : Command) (script : List ℕ) → command ≡ Some c → reads_source c ≡ true → left ≡ Some script → Made command left rest claim → (length script ≤ most_bytes) × ((es : List EventData) × IsScript script es × claim (telling_of c) (events_for c es))
+pub of_script : (command : Option Command) (left rest : Option (List ℕ)) (claim : Command → List EventData → Type 0) (c : Command) (script : List ℕ) → command ≡ Some c → reads_source c ≡ true → left ≡ Some script → Made command left rest claim → (length script ≤ most_bytes) × ((es : List EventData) × IsScript script es × claim c es)
 of_script command left rest claim c script which reads told h =
-    let M : Command → Type 0 = λ x. IsLeftBy x left rest × OfEvents x left (claim (telling_of x)) in
-    let S : List ℕ → Type 0 = λ s. (fs : List EventData) × IsScript s fs × claim (telling_of c) (events_for c fs) in
+    let M : Command → Type 0 = λ x. IsLeftBy x left rest × OfEvents x left (claim x) in
+    let S : List ℕ → Type 0 = λ s. (fs : List EventData) × IsScript s fs × claim c fs in
     of_given c left S script reads told (at_some c command M which h).1
 
 -- arguments are a command or none
@@ -134,13 +149,14 @@ whole_said (Ok x) refused same none = ap (λ b. status_of (Ok b)) (same x refl)
 whole_said (Err why) refused same none = absurd (none why refl)
 
 -- a run that stopped for none of the causes did not stop
-pub no_stop : (r : Ended) → (r ≡ Err stop.Usage → ⊥) → ((at : ℕ) → r ≡ Err (stop.BadScript at) → ⊥) → (r ≡ Err stop.ReadFault → ⊥) → (r ≡ Err stop.WriteFault → ⊥) → (r ≡ Err stop.NoMemory → ⊥) → (r ≡ Err stop.TooLong → ⊥) → (why : Stop) → r ≡ Err why → ⊥
-no_stop r usage bad read write memory long stop.Usage e = usage e
-no_stop r usage bad read write memory long (stop.BadScript at) e = bad at e
-no_stop r usage bad read write memory long stop.ReadFault e = read e
-no_stop r usage bad read write memory long stop.WriteFault e = write e
-no_stop r usage bad read write memory long stop.NoMemory e = memory e
-no_stop r usage bad read write memory long stop.TooLong e = long e
+pub no_stop : (r : Ended) → (r ≡ Err stop.Usage → ⊥) → ((at : ℕ) → r ≡ Err (stop.BadScript at) → ⊥) → (r ≡ Err stop.ReadFault → ⊥) → (r ≡ Err stop.WriteFault → ⊥) → (r ≡ Err stop.NoMemory → ⊥) → (r ≡ Err stop.TooLong → ⊥) → ((number : ℕ) → r ≡ Err (stop.BadEvent number) → ⊥) → (why : Stop) → r ≡ Err why → ⊥
+no_stop r usage bad read write memory long unfit stop.Usage e = usage e
+no_stop r usage bad read write memory long unfit (stop.BadScript at) e = bad at e
+no_stop r usage bad read write memory long unfit stop.ReadFault e = read e
+no_stop r usage bad read write memory long unfit stop.WriteFault e = write e
+no_stop r usage bad read write memory long unfit stop.NoMemory e = memory e
+no_stop r usage bad read write memory long unfit stop.TooLong e = long e
+no_stop r usage bad read write memory long unfit (stop.BadEvent number) e = unfit number e
 
 pub said : (refused : Bool) → status_of (Ok refused) ≡ whole_status refused
 said true = refl
@@ -151,3 +167,10 @@ pub never_bad : (r : Ended) (c : Command) (script : List ℕ) (es : List EventDa
 never_bad r c script es old new before now h reads at e =
     let P : Ended → Type 0 = λ x. Scripted x c script old new before now in
     (subst P e h).1.none es reads
+
+-- where every event fits, none is refused
+pub never_unfit : (r : Ended) (c : Command) (script : List ℕ) (es : List EventData) (old new : Option (List ℕ)) (before now : ℕ) → Scripted r c script old new before now → IsScript script es → EveryFits es → (number : ℕ) → r ≡ Err (stop.BadEvent number) → ⊥
+never_unfit r c script es old new before now h reads fits number e =
+    let P : Ended → Type 0 = λ x. Scripted x c script old new before now in
+    let (fs, is, (unfit, wrote)) = subst P e h in
+    not_both es number fits (subst (λ (l : List EventData). IsUnfit l number) (one_reading script fs es is reads) unfit)

@@ -1,22 +1,29 @@
 -- What stands when the first events of a script were taken, and what was written by then.
 use Rattle.std.proofs.Common.{◌≡◌, ◌∙◌, ◌⊎◌, ◌≤◌, ◌<◌, ◌+◌, ℕ, zero, suc, List, [], ◌∷◌, ◌++◌, length, length-append, append-nil, take, drop, Option, Some, ap, sym, subst, refl, inl, inr, arith, append_assoc}
 use Rattle.std.proofs.KnownBytes.{Appends-trans}
-use Rattle.std.proofs.lemmas.Option.{none-some}
+use Rattle.std.proofs.lemmas.List.{take_all}
+use Rattle.std.proofs.lemmas.Option.{none-some, same_Some}
 use Rattle.std.specs.FinMap as map
 use Rattle.std.specs.List.{slice_get}
 use Rattle.std.specs.Io.KnownBytes.{Appends}
-use Rattle.edit_script.specs.Script.{EventData, put, del, commit}
+use Rattle.edit_script.specs.Script.{EventData, put, del, move, patch, commit}
 use Rattle.tk_io.specs.FilesData.{FilesData}
-use Rattle.edit_script.specs.Files.{AreFilesAfter, AreFilesAt, commit_count, up_to}
+use Rattle.edit_script.specs.Files.{AreFilesAfter, AreFilesAt, as_one_commit, commit_count, up_to}
 use Rattle.edit_script.specs.Delta.{Delta, IsDelta, AreDeltas}
+use Rattle.build_plain.specs.Out.{Builds}
 use Rattle.edit_script.specs.Stream.{line_text}
 use Rattle.edit_script.proofs.Deltas.{one_more_delta}
-use Rattle.edit_script.proofs.Standing.{empty_files, put_files, del_files, commit_files, up_to_here, count_parts}
+use Rattle.edit_script.proofs.Standing.{empty_files, commit_files, up_to_here, count_parts}
+use Rattle.edit_script.proofs.UnfitEvents.{one_commit, whole_count, whole_files}
 use Rattle.token_cli.specs.Headline.{AreCommits, BuildsAt, last_held}
-use Rattle.token_cli.specs.inner.Step.{State, IsEventTold, IsCommitted}
+use Rattle.token_cli.specs.inner.Edits.{AreEdited}
+use Rattle.token_cli.specs.inner.Step.{State, IsEdited, IsEventTold, IsCommitTold, IsCommitted, first_state}
 use Rattle.token_cli.specs.Told.{all_commits, commit_text, commits_so_far, head_line}
 use Rattle.token_cli.specs.declared.telling.Telling.{Telling}
-use Rattle.token_cli.proofs.Lists.{split_here, take_more, at_pushed, last_pushed}
+use Rattle.token_cli.specs.declared.telling.Telling.TheVariants.{Records}
+use Rattle.file_plan.proofs.EventsTaken.{split_here, take_more}
+use Rattle.token_cli.proofs.Lists.{at_pushed, last_pushed}
+use Rattle.token_cli.proofs.Edited.{Edited, edited_more}
 use Rattle.token_cli.proofs.Told.{no_text, more_text}
 
 pub record Stands (told : Telling) (es : List EventData) (i : ℕ) (s : State) (old now : Option (List ℕ)) : Type 0 where
@@ -45,7 +52,7 @@ pub nothing_yet : (told : Telling) → commits_so_far told [] ≡ line_text (hea
 nothing_yet told = ap (λ l. line_text (head_line told) ++ l) (no_text told 1) ∙ append-nil (line_text (head_line told))
 
 -- after the header
-pub stands_first : (told : Telling) (es : List EventData) (s : State) (old now : Option (List ℕ)) → s ≡ record { files = map.empty; held = map.empty; commits = 0 } → Appends old now (line_text (head_line told)) → Stands told es 0 s old now
+pub stands_first : (told : Telling) (es : List EventData) (s : State) (old now : Option (List ℕ)) → s ≡ first_state → Appends old now (line_text (head_line told)) → Stands told es 0 s old now
 stands_first told es s old now is written =
     let P : List ℕ → Type 0 = λ l. Appends old now l in
     let Q : State → Type 0 = λ t. Stands told es 0 t old now in
@@ -93,40 +100,36 @@ commits_more told es i s old now next d stands e leads =
       changes = one_more_delta map.empty held stands.deltas next d stands.commits.changes (subst P stands.last leads.1);
     }
 
--- one event more
-pub stands_more : (told : Telling) (es : List EventData) (i : ℕ) (e : EventData) (s t : State) (old now new : Option (List ℕ)) → slice_get es i ≡ Some e → Stands told es i s old now → IsEventTold told e s t now new → Stands told es (i + 1) t old new
-stands_more told es i (put p text) s t old now new e stands follows =
-    let (files, held, commits, written) = follows in
-    let more = take_more es i (put p text) e in
-    let P : List EventData → Type 0 = λ l. AreFilesAfter l t.files in
-    let F : FilesData → Type 0 = λ f. AreFilesAfter (take i es ++ (put p text ∷ [])) f in
-    record {
-      held = stands.held;
-      deltas = stands.deltas;
-      files = subst P (sym more) (subst F (sym files) (put_files (take i es) s.files p text stands.files));
-      commits = stands.commits;
-      count = omega (arith, commits, stands.count, ap commit_count more, count_parts (take i es) (put p text ∷ []));
-      length = stands.length ∙ sym commits;
-      last = held ∙ stands.last;
-      text = rw written stands.text;
-    }
-stands_more told es i (del p) s t old now new e stands follows =
-    let (files, held, commits, written) = follows in
-    let more = take_more es i (del p) e in
-    let P : List EventData → Type 0 = λ l. AreFilesAfter l t.files in
-    let F : FilesData → Type 0 = λ f. AreFilesAfter (take i es ++ (del p ∷ [])) f in
-    record {
-      held = stands.held;
-      deltas = stands.deltas;
-      files = subst P (sym more) (subst F (sym files) (del_files (take i es) s.files p stands.files));
-      commits = stands.commits;
-      count = omega (arith, commits, stands.count, ap commit_count more, count_parts (take i es) (del p ∷ []));
-      length = stands.length ∙ sym commits;
-      last = held ∙ stands.last;
-      text = rw written stands.text;
-    }
-stands_more told es i commit s t old now new e stands follows =
-    let (files, commits, (d, leads, written)) = follows in
+-- what is told stands where the files, what is held and the commits do
+pub stands_as : (told : Telling) (es : List EventData) (i : ℕ) (s t : State) (old now : Option (List ℕ)) → Stands told es i s old now → t.files ≡ s.files → t.held ≡ s.held → t.commits ≡ s.commits → Stands told es i t old now
+stands_as told es i s t old now stands files held commits = record {
+  held = stands.held;
+  deltas = stands.deltas;
+  files = subst (λ (f : FilesData). AreFilesAfter (take i es) f) (sym files) stands.files;
+  commits = stands.commits;
+  count = commits ∙ stands.count;
+  length = stands.length ∙ sym commits;
+  last = held ∙ stands.last;
+  text = stands.text;
+}
+
+-- one event more that is no commit
+stands_edit : (told : Telling) (es : List EventData) (i : ℕ) (e : EventData) (s m : State) (old now : Option (List ℕ)) → slice_get es i ≡ Some e → commit_count (e ∷ []) ≡ 0 → Edited es i s → Stands told es i s old now → IsEdited e s m → Stands told es (i + 1) m old now
+stands_edit told es i e s m old now at none edited stands edit = record {
+  held = stands.held;
+  deltas = stands.deltas;
+  files = (edited_more es i e s m at edited edit).events.files;
+  commits = stands.commits;
+  count = omega (arith, edit.commits, stands.count, ap commit_count (take_more es i e at), count_parts (take i es) (e ∷ []), none);
+  length = stands.length ∙ sym edit.commits;
+  last = edit.held ∙ stands.last;
+  text = stands.text;
+}
+
+-- one commit more
+pub stands_commit : (told : Telling) (es : List EventData) (i : ℕ) (s t : State) (old now new : Option (List ℕ)) → slice_get es i ≡ Some commit → Stands told es i s old now → IsCommitTold told s t now new → Stands told es (i + 1) t old new
+stands_commit told es i s t old now new e stands follows =
+    let d = follows.delta in
     let more = take_more es i commit e in
     let P : List EventData → Type 0 = λ l. AreFilesAfter l t.files in
     let F : FilesData → Type 0 = λ f. AreFilesAfter (take i es ++ (commit ∷ [])) f in
@@ -135,12 +138,71 @@ stands_more told es i commit s t old now new e stands follows =
     record {
       held = held ++ (t.held ∷ []);
       deltas = stands.deltas ++ (d ∷ []);
-      files = subst P (sym more) (subst F (sym files) (commit_files (take i es) s.files stands.files));
-      commits = commits_more told es i s old now t.held d stands e leads;
-      count = omega (arith, commits, stands.count, ap commit_count more, count_parts (take i es) (commit ∷ []));
-      length = omega (arith, length-append held (t.held ∷ []), stands.length, commits);
+      files = subst P (sym more) (subst F (sym follows.files) (commit_files (take i es) s.files stands.files));
+      commits = commits_more told es i s old now t.held d stands e follows.leads;
+      count = omega (arith, follows.commits, stands.count, ap commit_count more, count_parts (take i es) (commit ∷ []));
+      length = omega (arith, length-append held (t.held ∷ []), stands.length, follows.commits);
       last = sym (last_pushed held map.empty t.held map.empty);
-      text = subst T (sym (one_more_text told stands.deltas d s.commits (sym (as_many map.empty held stands.deltas stands.commits.changes ∙ stands.length)))) (Appends-trans old now new (commits_so_far told stands.deltas) (commit_text told (s.commits + 1) d) stands.text written);
+      text = subst T (sym (one_more_text told stands.deltas d s.commits (sym (as_many map.empty held stands.deltas stands.commits.changes ∙ stands.length)))) (Appends-trans old now new (commits_so_far told stands.deltas) (commit_text told (s.commits + 1) d) stands.text follows.text);
+    }
+
+-- where nothing is told of an event, it stands as it was edited
+stands_same : (told : Telling) (es : List EventData) (i : ℕ) (m t : State) (old now new : Option (List ℕ)) → Stands told es i m old now → t ≡ m → new ≡ now → Stands told es i t old new
+stands_same told es i m t old now new stands same written =
+    subst (λ (o : Option (List ℕ)). Stands told es i t old o) (sym written) (subst (λ (s : State). Stands told es i s old now) (sym same) stands)
+
+-- the files that a commit finds are those that it was taken into
+pub commit_kept : (s m : State) → IsEdited commit s m → m.files ≡ s.files
+commit_kept s m edit = edit.taken.files
+
+-- one event more
+pub stands_more : (told : Telling) (es : List EventData) (i : ℕ) (e : EventData) (s t : State) (old now new : Option (List ℕ)) → slice_get es i ≡ Some e → Edited es i s → Stands told es i s old now → IsEventTold told e s t now new → Stands told es (i + 1) t old new
+stands_more told es i (put p text) s t old now new at edited stands (m, edit, (same, written)) =
+    stands_same told es (i + 1) m t old now new (stands_edit told es i (put p text) s m old now at refl edited stands edit) same written
+stands_more told es i (del p) s t old now new at edited stands (m, edit, (same, written)) =
+    stands_same told es (i + 1) m t old now new (stands_edit told es i (del p) s m old now at refl edited stands edit) same written
+stands_more told es i (move p q) s t old now new at edited stands (m, edit, (same, written)) =
+    stands_same told es (i + 1) m t old now new (stands_edit told es i (move p q) s m old now at refl edited stands edit) same written
+stands_more told es i (patch p from to bytes) s t old now new at edited stands (m, edit, (same, written)) =
+    stands_same told es (i + 1) m t old now new (stands_edit told es i (patch p from to bytes) s m old now at refl edited stands edit) same written
+stands_more told es i commit s t old now new at edited stands (m, edit, follows) =
+    stands_commit told es i m t old now new at (stands_as told es i s m old now stands (commit_kept s m edit) edit.held edit.commits) follows
+
+-- One commit at the end of events that were all taken.
+
+one_held : (es : List EventData) (files next out : FilesData) (k : ℕ) → AreFilesAfter es files → Builds files next → slice_get (next ∷ []) k ≡ Some out → BuildsAt (as_one_commit es) (suc k) out
+one_held es files next out zero stand built e =
+    subst (λ (o : FilesData). BuildsAt (as_one_commit es) 1 o) (same_Some next out e) (files, whole_files es files stand, built)
+one_held es files next out (suc k) stand built e = absurd (none-some out e)
+
+pub one_committed : (es : List EventData) (s : State) (next : FilesData) (d : Delta) → AreEdited es s → IsCommitted s next d → AreCommits (as_one_commit es) (next ∷ []) (d ∷ [])
+one_committed es s next d edited leads = record {
+  count = omega (arith, whole_count es);
+  built = λ k out at. one_held es s.files next out k edited.files leads.0 at;
+  changes = (subst (λ (o : FilesData). IsDelta o next d) edited.held leads.1, tt);
+}
+
+-- .. what is told of it
+pub one_text : (d : Delta) → commits_so_far Records (d ∷ []) ≡ line_text (head_line Records) ++ commit_text Records 1 d
+one_text d = one_more_text Records [] d 0 refl ∙ ap (λ l. l ++ commit_text Records 1 d) (nothing_yet Records)
+
+pub stands_end : (es : List EventData) (s t : State) (old now new : Option (List ℕ)) → AreEdited es s → Appends old now (line_text (head_line Records)) → IsCommitTold Records s t now new
+    → Stands Records (as_one_commit es) (length (as_one_commit es)) t old new
+stands_end es s t old now new edited header follows =
+    let fs = as_one_commit es in
+    let d = follows.delta in
+    let all : take (length fs) fs ≡ fs = take_all (length fs) fs (omega arith) in
+    let files : AreFilesAfter fs s.files = subst (λ (l : List EventData). AreFilesAfter l s.files) (one_commit es) (whole_files es s.files edited.files) in
+    let first : Appends now new (commit_text Records 1 d) = subst (λ (n : ℕ). Appends now new (commit_text Records (n + 1) d)) edited.commits follows.text in
+    record {
+      held = t.held ∷ [];
+      deltas = d ∷ [];
+      files = subst (λ (l : List EventData). AreFilesAfter l t.files) (sym all) (subst (λ (f : FilesData). AreFilesAfter fs f) (sym follows.files) files);
+      commits = one_committed es s t.held d edited follows.leads;
+      count = omega (arith, follows.commits, edited.commits, ap commit_count all, whole_count es);
+      length = omega (arith, follows.commits, edited.commits);
+      last = refl;
+      text = subst (λ (l : List ℕ). Appends old new l) (sym (one_text d)) (Appends-trans old now new (line_text (head_line Records)) (commit_text Records 1 d) header first);
     }
 
 -- no more commits than events
@@ -149,4 +211,6 @@ count_taken es zero = omega arith
 count_taken [] (suc i) = omega arith
 count_taken (put p text ∷ es) (suc i) = let ih = count_taken es i in omega (arith, ih)
 count_taken (del p ∷ es) (suc i) = let ih = count_taken es i in omega (arith, ih)
+count_taken (move p q ∷ es) (suc i) = let ih = count_taken es i in omega (arith, ih)
+count_taken (patch p from to bytes ∷ es) (suc i) = let ih = count_taken es i in omega (arith, ih)
 count_taken (commit ∷ es) (suc i) = let ih = count_taken es i in omega (arith, ih)

@@ -1,6 +1,6 @@
 -- What is written for a script: commit after commit, the output files that a build from nothing of the files then present
 -- would change, or how many they are.
-use Rattle.std.specs.Prelude.{◌≡◌, ◌<◌, ◌≤◌, ◌+◌, ◌⊎◌, ℕ, suc, Bool, true, false, ◌||◌, List, length, codes, map as map_list, Option, Some, IfSome}
+use Rattle.std.specs.Prelude.{◌≡◌, ◌<◌, ◌≤◌, ◌+◌, ◌⊎◌, ℕ, suc, Bool, true, false, ◌||◌, List, length, take, codes, map as map_list, Option, Some, IfSome}
 use Rattle.std.specs.FinMap as map
 use Rattle.std.specs.List.{ends_with, list_any, slice_get}
 use Rattle.std.specs.Bool.{nat_eq}
@@ -13,7 +13,7 @@ use Rattle.tk_io.specs.Reading.{TakesExactly}
 use Rattle.tk_io.specs.Writing.{AppendsFront, AppendsPart}
 use Rattle.tk_io.specs.FilesData.{FilesData}
 use Rattle.edit_script.specs.Script.{EventData, IsScript, IsScriptStop}
-use Rattle.edit_script.specs.Files.{AreFilesAt, commit_count, as_one_commit}
+use Rattle.edit_script.specs.Files.{AreFilesAt, EveryFits, IsUnfit, commit_count, as_one_commit}
 use Rattle.edit_script.specs.Delta.{Delta, AreDeltas, held_at}
 use Rattle.build_plain.specs.Out.{Builds}
 use Rattle.command_words.specs.Words.{command_of}
@@ -82,6 +82,35 @@ WrotePart told es old new =
     × (((length held < commit_count es) × AppendsFront old new (commits_so_far told deltas))
     ⊎ ((length held ≡ commit_count es) × AppendsPart old new (whole_text told deltas)))
 
+-- What is written of a script in which an event does not fit.
+
+-- how many commits a command tells before the event with this number, which is none: `build` tells none before its end
+abbrev pub commits_before : Command → List EventData → ℕ → ℕ
+commits_before Build es number = 0
+commits_before Replay es number = commit_count (take number es)
+commits_before Stats es number = commit_count (take number es)
+commits_before (Gen seed size) es number = commit_count (take number es)
+
+-- the first line and so many commits of these events were written
+abbrev pub WroteUpTo : Telling → List EventData → ℕ → Option (List ℕ) → Option (List ℕ) → Type 0
+WroteUpTo told es count old new =
+    (held : List FilesData) × (deltas : List Delta) × AreCommits es held deltas
+    × (length held ≡ count) × Appends old new (commits_so_far told deltas)
+
+-- .. or a prefix of that
+abbrev pub WroteFrontUpTo : Telling → List EventData → ℕ → Option (List ℕ) → Option (List ℕ) → Type 0
+WroteFrontUpTo told es count old new =
+    (held : List FilesData) × (deltas : List Delta) × AreCommits es held deltas
+    × (length held ≤ count) × AppendsFront old new (commits_so_far told deltas)
+
+-- a part was written of what a command tells of these events: not all, and where an event does not fit nothing that comes
+-- after it
+abbrev pub WroteSome : Command → List EventData → Option (List ℕ) → Option (List ℕ) → Type 0
+WroteSome c es old new =
+    (EveryFits es × WrotePart (telling_of c) (events_for c es) old new)
+    ⊎ ((number : ℕ) × IsUnfit es number
+    × WroteFrontUpTo (telling_of c) (events_for c es) (commits_before c es number) old new)
+
 -- Where a script comes from.
 
 -- whether a command takes its script from the source
@@ -110,9 +139,9 @@ OfBytes Replay left claim = OfSource left claim
 OfBytes Stats left claim = OfSource left claim
 OfBytes (Gen seed size) left claim = claim (script_of seed size)
 
--- .. of the events that a command acts on
+-- .. of the events of that script
 abbrev pub OfEvents : Command → Option (List ℕ) → (List EventData → Type 0) → Type 0
-OfEvents c left claim = OfBytes c left (λ script. (es : List EventData) × IsScript script es × claim (events_for c es))
+OfEvents c left claim = OfBytes c left (λ script. (es : List EventData) × IsScript script es × claim es)
 
 -- what a command leaves in the source: nothing, and for `gen` all that was there
 abbrev pub IsLeftBy : Command → Option (List ℕ) → Option (List ℕ) → Type 0
@@ -123,19 +152,38 @@ IsLeftBy (Gen seed size) left rest = rest ≡ left
 
 -- What was made of a script.
 
+-- every event fits, and all is written that a command tells of these events
+abbrev pub WroteEvents : Command → List EventData → Bool → Option (List ℕ) → Option (List ℕ) → Type 0
+WroteEvents c es refused old new = EveryFits es × WroteWhole (telling_of c) (events_for c es) refused old new
+
 -- all was written of the script
 abbrev pub WroteAll : Option Command → Option (List ℕ) → Option (List ℕ) → Bool → Option (List ℕ) → Option (List ℕ) → Type 0
 WroteAll command left rest refused old new =
-    IfSome command (λ c. IsLeftBy c left rest × OfEvents c left (λ es. WroteWhole (telling_of c) es refused old new))
+    IfSome command (λ c. IsLeftBy c left rest × OfEvents c left (λ es. WroteEvents c es refused old new))
 
 -- .. and a part was
 abbrev pub WroteLess : Option Command → Option (List ℕ) → Option (List ℕ) → Option (List ℕ) → Option (List ℕ) → Type 0
 WroteLess command left rest old new =
-    IfSome command (λ c. IsLeftBy c left rest × OfEvents c left (λ es. WrotePart (telling_of c) es old new))
+    IfSome command (λ c. IsLeftBy c left rest × OfEvents c left (λ es. WroteSome c es old new))
+
+-- the event with this number is the first that does not fit, and all that comes before it is written
+abbrev pub StopsAt : Command → List EventData → ℕ → Option (List ℕ) → Option (List ℕ) → Type 0
+StopsAt c es number old new =
+    IsUnfit es number × WroteUpTo (telling_of c) (events_for c es) (commits_before c es number) old new
+
+-- an event of the script does not fit
+abbrev pub RefusesEvent : Option Command → Option (List ℕ) → Option (List ℕ) → Option (List ℕ) → Option (List ℕ) → ℕ → Type 0
+RefusesEvent command left rest old new number =
+    IfSome command (λ c. IsLeftBy c left rest × OfEvents c left (λ es. StopsAt c es number old new))
 
 -- what was read to its end is no script, and is refused at this byte
 abbrev pub IsNoScript : Option (List ℕ) → Option (List ℕ) → ℕ → Type 0
 IsNoScript left rest at = IsAtEnd rest × OfSource left (λ script. IsScriptStop script at)
+
+-- what was read to its end is a script in which the event with this number is the first that does not fit
+abbrev pub HasUnfitEvent : Option (List ℕ) → Option (List ℕ) → ℕ → Type 0
+HasUnfitEvent left rest number =
+    IsAtEnd rest × OfSource left (λ script. (es : List EventData) × IsScript script es × IsUnfit es number)
 
 -- How a run ends before all is written.
 

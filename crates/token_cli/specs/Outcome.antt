@@ -2,7 +2,7 @@
 -- that the source has left decide it. No error sink stands here.
 use Rattle.std.specs.Prelude.{◌≡◌, ◌<◌, ◌≤◌, ◌⊎◌, ℕ, Bool, true, false, List, length, Option, None, Some, IfSome}
 use Rattle.edit_script.specs.Script.{EventData, IsScript}
-use Rattle.edit_script.specs.Files.{commit_count}
+use Rattle.edit_script.specs.Files.{EveryFits, IsUnfit, commit_count}
 use Rattle.edit_script.specs.Delta.{Delta}
 use Rattle.tk_io.specs.FilesData.{FilesData}
 use Rattle.command_words.specs.declared.command.Command.{Command}
@@ -18,16 +18,18 @@ EndsIn es refused =
     (held : List FilesData) × (deltas : List Delta) × AreCommits es held deltas × (length held ≡ commit_count es)
     × (is_refused (last_held held) ≡ refused)
 
--- the status of a command over these bytes: all is written, with a refusal held at the end or none, or they are no script
+-- the status of a command over these bytes: all is written, with a refusal held at the end or none, or they are no script,
+-- or an event of it does not fit
 abbrev pub IsStatusOf : Command → List ℕ → Status → Type 0
-IsStatusOf c script status.Done = (es : List EventData) × IsScript script es × EndsIn (events_for c es) false
-IsStatusOf c script status.Refused = (es : List EventData) × IsScript script es × EndsIn (events_for c es) true
+IsStatusOf c script status.Done = (es : List EventData) × IsScript script es × EveryFits es × EndsIn (events_for c es) false
+IsStatusOf c script status.Refused = (es : List EventData) × IsScript script es × EveryFits es × EndsIn (events_for c es) true
 IsStatusOf c script status.BadScript = (es : List EventData) → IsScript script es → ⊥
 IsStatusOf c script status.Usage = ⊥
 IsStatusOf c script status.ReadFault = ⊥
 IsStatusOf c script status.WriteFault = ⊥
 IsStatusOf c script status.NoMemory = ⊥
 IsStatusOf c script status.TooLong = ⊥
+IsStatusOf c script status.BadEvent = (es : List EventData) × IsScript script es × ((number : ℕ) × IsUnfit es number)
 
 -- .. where they are those of a source, which may have too many
 abbrev pub IsStatusOfSource : Command → List ℕ → Status → Type 0

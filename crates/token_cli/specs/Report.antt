@@ -12,7 +12,7 @@ abbrev pub whole_status : Bool → Status
 whole_status Bool.true = status.Refused
 whole_status Bool.false = status.Done
 
--- the text of each status; a script that is refused is said with the byte at which it is
+-- the text of each status; a script that is refused is said with the byte at which it is, and an event with its number
 abbrev pub error_text : Status → ℕ → List ℕ
 error_text status.Done at = []
 error_text status.Refused at = []
@@ -22,6 +22,7 @@ error_text status.ReadFault at = codes "tokc: read failed\n"
 error_text status.WriteFault at = codes "tokc: write failed\n"
 error_text status.NoMemory at = codes "tokc: out of memory\n"
 error_text status.TooLong at = codes "tokc: script too long\n"
+error_text status.BadEvent at = codes "tokc: event " ++ decimal at ++ codes " does not fit\n"
 
 -- the number that the program ends with
 abbrev pub status_number : Status → ℕ
@@ -33,6 +34,7 @@ status_number status.ReadFault = 4
 status_number status.WriteFault = 5
 status_number status.NoMemory = 6
 status_number status.TooLong = 7
+status_number status.BadEvent = 9
 
 -- the text was appended whole, or a part of it, and not all, was and the count rose
 abbrev pub Reports : Option (List ℕ) → Option (List ℕ) → ℕ → ℕ → List ℕ → Type 0

@@ -1,4 +1,5 @@
 pub mod Causes
+pub mod Edits
 pub mod Ending
 pub mod Step
 pub mod View

@@ -26,6 +26,20 @@ fn report_script<E: Sink>(err: &mut E, at: usize) -> Result<(), Failed>
     write_all(err, b"\n")
 }
 
+// Says which event does not fit.
+fn report_event<E: Sink>(err: &mut E, number: usize) -> Result<(), Failed>
+    ensures whole { OnOk result (Appends (E.written err.old) (E.written err.new)
+        (codes "tokc: event " ++ decimal number ++ codes " does not fit\n")) }
+    ensures part { OnErr result (AppendsPart (E.written err.old) (E.written err.new)
+        (codes "tokc: event " ++ decimal number ++ codes " does not fit\n")) }
+    ensures cause { HasCause (E.faults err.old) (E.faults err.new) result }
+{
+    let mut buffer = Buffer::new();
+    write_all(err, b"tokc: event ")?;
+    write_all(err, buffer.format(number).as_bytes())?;
+    write_all(err, b" does not fit\n")
+}
+
 // Writes the text of a stop.
 fn write_text<E: Sink>(err: &mut E, stop: Stop) -> Result<(), Failed>
     ensures whole { OnOk result (Appends (E.written err.old) (E.written err.new) (stop_text stop)) }
@@ -40,6 +54,7 @@ fn write_text<E: Sink>(err: &mut E, stop: Stop) -> Result<(), Failed>
         Stop::WriteFault => write_all(err, b"tokc: write failed\n"),
         Stop::NoMemory => write_all(err, b"tokc: out of memory\n"),
         Stop::TooLong => write_all(err, b"tokc: script too long\n"),
+        Stop::BadEvent(number) => report_event(err, number),
     }
 }
 

@@ -15,6 +15,7 @@ use crate::reporting::report;
 use crate::status::{Status, status_of};
 use crate::stop::Stop;
 use build_plain::one_build;
+use bumpalo::Bump;
 use command_words::{Command, read_words, words_of_commands};
 use generated_script::{gen_script, generated_events};
 use std::alloc::Global;
@@ -23,7 +24,22 @@ use tk_io::{Sink, Source, read_all};
 /// How many bytes a script may have.
 const LIMIT: u64 = 67_108_864;
 
-// Reads the events of the script, and writes what the command tells of them.
+// Reads the events of the script, and writes what the command tells of them. Patched texts are made in the arena.
+fn write_told<'s, K: Sink>(
+    alloc: Global,
+    command: Command,
+    script: &'s [u8],
+    arena: &'s Bump,
+    out: &mut K,
+) -> Result<bool, Stop>
+    ensures { Scripted result command script.entry.now (K.written out.old) (K.written out.new)
+        (K.faults out.old) (K.faults out.new) }
+{
+    let events = read_events(alloc, script)?;
+    write_events(alloc, command, &events, arena, out)
+}
+
+// Writes what the command tells of the script. The arena is made first, so that it outlives the files.
 fn write_script<K: Sink>(
     alloc: Global,
     command: Command,
@@ -33,8 +49,8 @@ fn write_script<K: Sink>(
     ensures { Scripted result command script.now (K.written out.old) (K.written out.new)
         (K.faults out.old) (K.faults out.new) }
 {
-    let events = read_events(alloc, script)?;
-    write_events(alloc, command, &events, out)
+    let arena = Bump::new(alloc);
+    write_told(alloc, command, script, &arena, out)
 }
 
 // Reads the script of the source, and writes what the command tells of it.
@@ -61,6 +77,7 @@ fn tell_generated<K: Sink>(alloc: Global, seed: u32, size: u32, out: &mut K) -> 
     ensures scripted { Scripted result (Command.Gen seed size) (script_of seed size)
         (K.written out.old) (K.written out.new) (K.faults out.old) (K.faults out.new) }
     ensures reads { (at : ℕ) → result ≡ Err (Stop.BadScript at) → ⊥ }
+    ensures fits { (number : ℕ) → result ≡ Err (Stop.BadEvent number) → ⊥ }
 {
     generated_events();
     let script = gen_script(alloc, seed, size)?;
@@ -82,7 +99,8 @@ fn main_job<S: Source, K: Sink>(
         × (src.new ≡ src.old) × (K.written out.new ≡ K.written out.old) }
     ensures generated { (seed size : ℕ) → asked_by words.now ≡ Some (Command.Gen seed size)
         → (src.new ≡ src.old) × ((at : ℕ) → result ≡ Err (Stop.BadScript at) → ⊥)
-        × (result ≢ Err Stop.ReadFault) × (result ≢ Err Stop.TooLong) }
+        × (result ≢ Err Stop.ReadFault) × (result ≢ Err Stop.TooLong)
+        × ((number : ℕ) → result ≡ Err (Stop.BadEvent number) → ⊥) }
     ensures taken { (result ≡ Err Stop.TooLong → ⊥)
         → TakesAtMost most_bytes (S.left src.old) (S.left src.new) }
 {

@@ -25,6 +25,8 @@ pub enum Status {
     NoMemory,
     /// The script is longer than 67,108,864 bytes.
     TooLong,
+    /// An event of the script does not fit what stands before it.
+    BadEvent,
 }
 
 impl Status {
@@ -41,6 +43,7 @@ impl Status {
             Status::WriteFault => 5,
             Status::NoMemory => 6,
             Status::TooLong => 7,
+            Status::BadEvent => 9,
         }
     }
 }
@@ -58,5 +61,6 @@ pub fn status_of(ended: Result<bool, Stop>) -> Status
         Err(Stop::WriteFault) => Status::WriteFault,
         Err(Stop::NoMemory) => Status::NoMemory,
         Err(Stop::TooLong) => Status::TooLong,
+        Err(Stop::BadEvent(_)) => Status::BadEvent,
     }
 }

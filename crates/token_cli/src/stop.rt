@@ -24,6 +24,8 @@ pub enum Stop {
     NoMemory,
     /// The script is longer than 67,108,864 bytes.
     TooLong,
+    /// The event with this number, counted from 1, does not fit what stands before it.
+    BadEvent(usize),
 }
 
 impl From<NoMemory> for Stop {

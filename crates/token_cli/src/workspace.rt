@@ -6,10 +6,11 @@ ghost use Rattle.std.specs.Io.KnownBytes.{Appends};
 ghost use Rattle.tk_io.specs.Causes.{HasCause};
 ghost use Rattle.tk_io.specs.Writing.{AppendsPart};
 ghost use Rattle.edit_script.specs.Delta.{Delta, IsDelta};
-ghost use Rattle.edit_script.specs.Script.{commit as commit_event};
+ghost use Rattle.edit_script.specs.Files.{most_patched};
 ghost use Rattle.edit_script.specs.View.{Lined, event_view, with_line};
-ghost use Rattle.token_cli.specs.inner.Step.{IsEventTold, Fails, Cuts, changes_text, records_of};
-ghost use Rattle.token_cli.specs.inner.Step.{first_state};
+ghost use Rattle.token_cli.specs.inner.Step.{CommitFails, Cuts, EditFails, Fails};
+ghost use Rattle.token_cli.specs.inner.Step.{IsCommitTold, IsEdited, IsEventTold};
+ghost use Rattle.token_cli.specs.inner.Step.{changes_text, first_state, records_of};
 ghost use Rattle.token_cli.specs.Told.{commit_text};
 ghost use Rattle.token_cli.specs.inner.View.{workspace_view};
 
@@ -17,6 +18,7 @@ use crate::building::build_files;
 use crate::stop::Stop;
 use crate::telling::Telling;
 use build_plain::Earlier;
+use bumpalo::Bump;
 use edit_script::{Changes, Event, Line, delta, short_line, write_change, write_line};
 use file_plan::Files;
 use std::alloc::Global;
@@ -27,6 +29,10 @@ use tk_io::{Failed, Outputs, Sink};
 pub struct Workspace<'s> {
     /// The files that its events have left.
     pub files: Files<'s>,
+    /// How many bytes the texts have that its patches made.
+    pub made: u64,
+    /// How many events were taken.
+    pub taken: usize,
     /// The outputs of the last commit; none before the first.
     pub held: Outputs,
     /// How many commits there were.
@@ -107,24 +113,49 @@ fn write_commit<K: Sink>(
 }
 
 impl<'s> Workspace<'s> {
-    /// No file, no output and no commit.
+    /// No file, no event, no output and no commit.
     pub fn new(alloc: Global) -> Workspace<'s>
         ensures { workspace_view result ≡ first_state }
     {
         Workspace {
             files: Files::new(alloc),
+            made: 0,
+            taken: 0,
             held: Outputs::new(alloc),
             commits: 0,
             earlier: Earlier::new(),
         }
     }
 
-    // Builds the files, and tells the commit.
-    fn commit<K: Sink>(&mut self, alloc: Global, telling: Telling, out: &mut K) -> Result<(), Stop>
+    /// Takes the next event into the files. A patched text is made in the arena.
+    pub fn edit(&mut self, event: &Event<'s>, arena: &'s Bump) -> Result<(), Stop>
+        requires room { self.now.taken < 2 ^ 64 - 1 }
+        requires made { self.now.made ≤ most_patched }
+        ensures ok { OnOk result (IsEdited (event_view event.now)
+            (workspace_view self.old) (workspace_view self.new)) }
+        ensures err { IfErr result (λ stop. EditFails stop (event_view event.now)
+            (workspace_view self.old)) }
+    {
+        let number = self.taken + 1;
+        let Some(made) = self.files.take(event, self.made, arena)? else {
+            return Err(Stop::BadEvent(number));
+        };
+        self.made = made;
+        self.taken = number;
+        Ok(())
+    }
+
+    /// Builds the files, and tells the commit.
+    pub fn commit<K: Sink>(
+        &mut self,
+        alloc: Global,
+        telling: Telling,
+        out: &mut K,
+    ) -> Result<(), Stop>
         requires { self.now.commits < 2 ^ 64 - 1 }
-        ensures ok { OnOk result (IsEventTold telling commit_event (workspace_view self.old)
+        ensures ok { OnOk result (IsCommitTold telling (workspace_view self.old)
             (workspace_view self.new) (K.written out.old) (K.written out.new)) }
-        ensures err { IfErr result (λ stop. Fails telling stop commit_event
+        ensures err { IfErr result (λ stop. CommitFails telling stop
             (workspace_view self.old) (K.written out.old) (K.written out.new)
             (K.faults out.old) (K.faults out.new)) }
         ensures later { K.faults out.old ≤ K.faults out.new }
@@ -136,15 +167,18 @@ impl<'s> Workspace<'s> {
         Ok(())
     }
 
-    /// Takes the next event. At a commit the files are built, and the commit is told.
+    /// Takes the next event into the files; where it is a commit, they are built, and the commit is told.
     pub fn take<K: Sink>(
         &mut self,
         alloc: Global,
         telling: Telling,
         event: &Event<'s>,
+        arena: &'s Bump,
         out: &mut K,
     ) -> Result<(), Stop>
-        requires { self.now.commits < 2 ^ 64 - 1 }
+        requires room { self.now.taken < 2 ^ 64 - 1 }
+        requires commits { self.now.commits < 2 ^ 64 - 1 }
+        requires made { self.now.made ≤ most_patched }
         ensures ok { OnOk result (IsEventTold telling (event_view event.now)
             (workspace_view self.old) (workspace_view self.new)
             (K.written out.old) (K.written out.new)) }
@@ -153,11 +187,10 @@ impl<'s> Workspace<'s> {
             (K.faults out.old) (K.faults out.new)) }
         ensures later { K.faults out.old ≤ K.faults out.new }
     {
+        self.edit(event, arena)?;
         match event {
-            Event::Put(path, text) => self.files.put(path, text)?,
-            Event::Del(path) => self.files.del(path),
-            Event::Commit => self.commit(alloc, telling, out)?,
+            Event::Commit => self.commit(alloc, telling, out),
+            Event::Put(..) | Event::Del(_) | Event::Move(..) | Event::Patch(..) => Ok(()),
         }
-        Ok(())
     }
 }

@@ -19,7 +19,7 @@ returns-clause-runs g c =
     subst (λ (s : Status). Runs command t told told_now reports reports_now s) (sym c.status_of.ensures)
     (promises_of c.one_build.ensures.outputs command t told told_now reports reports_now job.result job.ensures.ends
     (λ none. let (stopped, unread, unwritten) = job.ensures.words none in (stopped, unwritten))
-    (λ seed size which. let (same, bad, read, long) = job.ensures.generated seed size which in (bad, read, long))
+    (λ seed size which. let (same, bad, read, long, unfit) = job.ensures.generated seed size which in (bad, read, long, unfit))
     job.ensures.taken c.report.ensures)
 
 pub returns-clause-unread : goal.returns-clause-unread

@@ -1,5 +1,4 @@
-use Rattle.edit_script.specs.Script.{commit}
-use Rattle.token_cli.specs.inner.Step.{Fails}
+use Rattle.token_cli.specs.inner.Step.{CommitFails}
 use Rattle.token_cli.specs.inner.View.{workspace_view}
 use Rattle.token_cli.specs.declared.stop.Stop.{Stop}
 use Rattle.token_cli.proofs.Stops.{if_err_is, cut_fails}
@@ -12,5 +11,5 @@ returns-in_err-write_commit-clause-err g c =
     let new = g.K.Sink.written c.write_commit.new.out in
     let before = g.K.Sink.faults c.args.out.now in
     let now = g.K.Sink.faults c.write_commit.new.out in
-    let P : Stop → Type 0 = λ why. Fails c.args.telling why commit s old new before now in
+    let P : Stop → Type 0 = λ why. CommitFails c.args.telling why s old new before now in
     if_err_is c.from_residual-in_err-write_commit.result c.in_err-write_commit.field-0.0 P c.from_residual-in_err-write_commit.ensures.1 (cut_fails c.args.telling c.in_err-write_commit.field-0.0 s c.in_ok-outputs.outputs old new before now c.in_ok-outputs.ensures c.in_err-write_commit.ensures.err)
