@@ -18,6 +18,10 @@ use tk_io::{Bytes, NoMemory};
 /// folder were synced; so is a removal. Below the folder nothing but folders and files is touched: a path that leads
 /// through a symbolic link, or to one, or to anything else that is no file, is a fault. A file is read no further than
 /// the length that it has when it is opened.
+///
+/// Where a folder `.tokc` stands in the folder, the outputs stand right in the folder, and `.tokc` has the slots and
+/// gates; a file is then written under a new name there and renamed, so that who reads it sees the old bytes or the new
+/// ones, whole.
 #[derive(Drop)]
 pub struct DirStore<'r> {
     rt: &'r HostRuntime,
@@ -93,6 +97,20 @@ impl<'r> Store for DirStore<'r> {
     }
 }
 
+/// The folder in a folder of outputs that has their slots and gates, and the name of a file that is being written there.
+const LISTS: &str = ".tokc";
+
+const NEW: &str = "new";
+
+// Where a folder has what is held.
+#[derive(Clone, Copy, PartialEq, Eq)]
+enum Layout {
+    // Under its path, `out/..` or `meta/..`.
+    Apart,
+    // Outputs right in the folder, slots and gates in `.tokc`.
+    Within,
+}
+
 // What stands at a place.
 #[derive(Clone, Copy, PartialEq, Eq)]
 enum Standing {
@@ -129,6 +147,29 @@ fn enter(place: &mut String, name: &str) -> Result<(), NoMemory> {
     }
     place.push_str(name)?;
     Ok(())
+}
+
+// Where the folder has what is held.
+fn layout_of(rt: &HostRuntime, root: &str) -> Result<Layout, StoreStop> {
+    let mut place = String::from_str(rt.alloc(), root)?;
+    enter(&mut place, LISTS)?;
+    match what_stands(rt, place.as_str())? {
+        Standing::Folder => Ok(Layout::Within),
+        Standing::Nothing | Standing::File => Ok(Layout::Apart),
+    }
+}
+
+// The path below the folder of what is held under this one.
+fn path_below(rt: &HostRuntime, layout: Layout, path: &str) -> Result<String, NoMemory> {
+    if layout == Layout::Apart {
+        return Ok(String::from_str(rt.alloc(), path)?);
+    }
+    if let Some(output) = path.strip_prefix("out/") {
+        return Ok(String::from_str(rt.alloc(), output)?);
+    }
+    let mut below = String::from_str(rt.alloc(), LISTS)?;
+    enter(&mut below, path.strip_prefix("meta/").unwrap_or(path))?;
+    Ok(below)
 }
 
 // An error of the system is a failed call.
@@ -172,14 +213,16 @@ fn has_folder(rt: &HostRuntime, place: &str, makes: bool) -> Result<bool, StoreS
 fn lead(
     rt: &HostRuntime,
     root: &str,
+    layout: Layout,
     path: &str,
     makes: bool,
 ) -> Result<Option<String>, StoreStop> {
-    if !stays_below(path) {
+    let below = path_below(rt, layout, path)?;
+    if !stays_below(below.as_str()) {
         return Err(StoreStop::Failed);
     }
     let mut place = String::from_str(rt.alloc(), root)?;
-    for name in path.split('/') {
+    for name in below.as_str().split('/') {
         if place.len() > root.len() && !has_folder(rt, place.as_str(), makes)? {
             return Ok(None);
         }
@@ -210,7 +253,8 @@ fn read_whole(rt: &HostRuntime, place: &str) -> Result<Bytes, StoreStop> {
 }
 
 fn read_file(rt: &HostRuntime, root: &str, path: &str) -> Result<Option<Bytes>, StoreStop> {
-    let Some(place) = lead(rt, root, path, false)? else {
+    let layout = layout_of(rt, root)?;
+    let Some(place) = lead(rt, root, layout, path, false)? else {
         return Ok(None);
     };
     match what_stands(rt, place.as_str())? {
@@ -224,25 +268,42 @@ fn read_file(rt: &HostRuntime, root: &str, path: &str) -> Result<Option<Bytes>, 
 fn write_whole(rt: &HostRuntime, place: &str, bytes: &[u8]) -> Result<(), StoreStop> {
     let mut file = or_failed(File::create(rt, place))?;
     or_failed(file.write_all(bytes))?;
-    or_failed(file.sync_all())?;
-    sync_around(rt, place)
+    or_failed(file.sync_all())
+}
+
+// The same by a file in `.tokc`, which is renamed when it is whole.
+fn write_renamed(rt: &HostRuntime, root: &str, place: &str, bytes: &[u8]) -> Result<(), StoreStop> {
+    let mut new = String::from_str(rt.alloc(), root)?;
+    enter(&mut new, LISTS)?;
+    enter(&mut new, NEW)?;
+    if what_stands(rt, new.as_str())? == Standing::Folder {
+        return Err(StoreStop::Failed);
+    }
+    write_whole(rt, new.as_str(), bytes)?;
+    or_failed(fs::rename(rt, new.as_str(), place))
 }
 
 fn write_file(rt: &HostRuntime, root: &str, path: &str, bytes: &[u8]) -> Result<(), StoreStop> {
     if !root.is_empty() {
         or_failed(fs::create_dir_all(rt, root))?;
     }
-    let Some(place) = lead(rt, root, path, true)? else {
+    let layout = layout_of(rt, root)?;
+    let Some(place) = lead(rt, root, layout, path, true)? else {
         return Err(StoreStop::Failed);
     };
     if what_stands(rt, place.as_str())? == Standing::Folder {
         return Err(StoreStop::Failed);
     }
-    write_whole(rt, place.as_str(), bytes)
+    match layout {
+        Layout::Apart => write_whole(rt, place.as_str(), bytes)?,
+        Layout::Within => write_renamed(rt, root, place.as_str(), bytes)?,
+    }
+    sync_around(rt, place.as_str())
 }
 
 fn remove_file(rt: &HostRuntime, root: &str, path: &str) -> Result<(), StoreStop> {
-    let Some(place) = lead(rt, root, path, false)? else {
+    let layout = layout_of(rt, root)?;
+    let Some(place) = lead(rt, root, layout, path, false)? else {
         return Ok(());
     };
     match what_stands(rt, place.as_str())? {

@@ -9,6 +9,9 @@ use Rattle.tk_io.specs.Reading.{TakesExactly}
 use Rattle.tk_io.specs.declared.source.ReadStop.{ReadStop}
 use Rattle.tk_io.specs.declared.source.ReadStop.TheVariants as reading
 use Rattle.edit_script.specs.Script.{EventData, IsScript, IsScriptStop}
+use Rattle.edit_script.specs.Files.{EveryFits, IsUnfit}
+use Rattle.edit_script.proofs.Readings.{one_reading}
+use Rattle.edit_script.proofs.UnfitEvents.{not_both}
 use Rattle.token_cli.specs.Headline.{OfSource, most_bytes}
 use Rattle.store_cli.specs.Stored.{IsStored, StoredOf}
 use Rattle.store_cli.specs.inner.Ending.{Course, Ends, ReadScript, Scripted, course, of_read, place_of, status_of}
@@ -53,12 +56,13 @@ of_source (Some xs) (Some ys) script claim all end short holds =
     (subst (λ (l : List ℕ). length l ≤ most_bytes) (sym same) short, subst claim (sym same) holds)
 
 module _ (left rest : Option (List ℕ)) (script : List ℕ) (all : Consumes left rest script) (end : IsAtEnd rest) (short : length script ≤ most_bytes) (words : ℕ) (one : words ≡ 1) (reads reads_now : ℕ) (old new : Option FilesData) (faults faults_now : ℕ) where
-  read_script : (es : List EventData) × IsScript script es → ReadScript left rest
-  read_script made = (end, of_source left rest script (λ text. (es : List EventData) × IsScript text es) all end short made)
+  read_script : (es : List EventData) × IsScript script es × EveryFits es → ReadScript left rest
+  read_script made = (end, of_source left rest script (λ text. (es : List EventData) × IsScript text es × EveryFits es) all end short made)
 
   pub source_ends : (r : Ended) → Scripted r script old new faults faults_now → Ends r words (course left rest reads reads_now old new faults faults_now)
   source_ends (Ok refused) made = (one, (end, of_source left rest script (λ text. (es : List EventData) × IsScript text es × StoredOf es refused old new) all end short made))
   source_ends (Err (stop.BadScript at)) (same, bad) = ((end, of_source left rest script (λ text. IsScriptStop text at) all end short bad), same)
+  source_ends (Err (stop.BadEvent number)) (same, made) = ((end, of_source left rest script (λ text. (es : List EventData) × IsScript text es × IsUnfit es number) all end short made), same)
   source_ends (Err stop.NoMemory) made = tt
   source_ends (Err stop.StoreFault) (rose, made) = (rose, read_script made)
   source_ends (Err stop.BadManifest) (bad, made) = (bad, read_script made)
@@ -78,6 +82,7 @@ ended_of status.NoMemory at = Err stop.NoMemory
 ended_of status.TooLong at = Err stop.TooLong
 ended_of status.StoreFault at = Err stop.StoreFault
 ended_of status.BadManifest at = Err stop.BadManifest
+ended_of status.BadEvent at = Err (stop.BadEvent at)
 
 ended_back : (r : Ended) → r ≡ ended_of (status_of r) (place_of r)
 ended_back (Ok false) = refl
@@ -89,6 +94,7 @@ ended_back (Err stop.NoMemory) = refl
 ended_back (Err stop.TooLong) = refl
 ended_back (Err stop.StoreFault) = refl
 ended_back (Err stop.BadManifest) = refl
+ended_back (Err (stop.BadEvent number)) = refl
 
 pub said_by : (r : Ended) (s : StoreStatus) → status_of r ≡ s → r ≡ ended_of s (place_of r)
 said_by r s e = ended_back r ∙ ap (λ x. ended_of x (place_of r)) e
@@ -116,26 +122,50 @@ module _ (words : ℕ) (one : words ≡ 1) (left rest : Option (List ℕ)) (scri
   too_long : TakesExactly (most_bytes + 1) left rest → length script ≤ most_bytes → ⊥
   too_long t short = let more = taken (most_bytes + 1) script left rest told t in absurd (omega (arith, more, short))
 
-  pub completed : (r : Ended) → length script ≤ most_bytes → (es : List EventData) → IsScript script es → (Rose faults faults_now → ⊥) → Ends r words there → IsStored (status_of r) ⊎ (status_of r ≡ status.BadManifest)
-  completed (Ok false) short es is good h = inl (inl refl)
-  completed (Ok true) short es is good h = inl (inr (inl refl))
-  completed (Err stop.NoMemory) short es is good h = inl (inr (inr refl))
-  completed (Err stop.BadManifest) short es is good h = inr refl
-  completed (Err stop.Usage) short es is good h = absurd (h one)
-  completed (Err (stop.BadScript at)) short es is good h = absurd ((of_it (λ text. IsScriptStop text at) h.0.1).1.none es is)
-  completed (Err stop.ReadFault) short es is good h = absurd (unread h.0)
-  completed (Err stop.TooLong) short es is good h = absurd (too_long h.0 short)
-  completed (Err stop.StoreFault) short es is good h = absurd (good h.0)
+  -- the event that is told is the first of the script's events that does not fit
+  unfit_of : (es : List EventData) (number : ℕ) → IsScript script es → OfSource left (λ text. (fs : List EventData) × IsScript text fs × IsUnfit fs number) → IsUnfit es number
+  unfit_of es number is h =
+      let (fs, is_too, unfit) = (of_it (λ text. (fs : List EventData) × IsScript text fs × IsUnfit fs number) h).1 in
+      subst (λ (l : List EventData). IsUnfit l number) (one_reading script fs es is_too is) unfit
+
+  no_unfit : (es : List EventData) (number : ℕ) → IsScript script es → IsUnfit es number → (fs : List EventData) × IsScript script fs × EveryFits fs → ⊥
+  no_unfit es number is unfit (fs, is_too, fits) = not_both es number (subst EveryFits (one_reading script fs es is_too is) fits) unfit
+
+  pub completed : (r : Ended) → length script ≤ most_bytes → (es : List EventData) → IsScript script es → EveryFits es → (Rose faults faults_now → ⊥) → Ends r words there → IsStored (status_of r) ⊎ (status_of r ≡ status.BadManifest)
+  completed (Ok false) short es is fits good h = inl (inl refl)
+  completed (Ok true) short es is fits good h = inl (inr (inl refl))
+  completed (Err stop.NoMemory) short es is fits good h = inl (inr (inr refl))
+  completed (Err stop.BadManifest) short es is fits good h = inr refl
+  completed (Err stop.Usage) short es is fits good h = absurd (h one)
+  completed (Err (stop.BadScript at)) short es is fits good h = absurd ((of_it (λ text. IsScriptStop text at) h.0.1).1.none es is)
+  completed (Err stop.ReadFault) short es is fits good h = absurd (unread h.0)
+  completed (Err stop.TooLong) short es is fits good h = absurd (too_long h.0 short)
+  completed (Err stop.StoreFault) short es is fits good h = absurd (good h.0)
+  completed (Err (stop.BadEvent number)) short es is fits good h = absurd (not_both es number fits (unfit_of es number is h.0.1))
+
+  pub refused_event : (r : Ended) → length script ≤ most_bytes → (es : List EventData) (number : ℕ) → IsScript script es → IsUnfit es number → Ends r words there → (status_of r ≡ status.BadEvent) ⊎ (status_of r ≡ status.NoMemory)
+  refused_event (Ok refused) short es number is unfit h =
+      let made = (of_it (λ text. (fs : List EventData) × IsScript text fs × StoredOf fs refused old new) h.1.1).1 in
+      absurd (no_unfit es number is unfit (made.0, made.1, made.2.0))
+  refused_event (Err stop.NoMemory) short es number is unfit h = inr refl
+  refused_event (Err stop.BadManifest) short es number is unfit h = absurd (no_unfit es number is unfit (of_it (λ text. (fs : List EventData) × IsScript text fs × EveryFits fs) h.1.1).1)
+  refused_event (Err stop.Usage) short es number is unfit h = absurd (h one)
+  refused_event (Err (stop.BadScript at)) short es number is unfit h = absurd ((of_it (λ text. IsScriptStop text at) h.0.1).1.none es is)
+  refused_event (Err stop.ReadFault) short es number is unfit h = absurd (unread h.0)
+  refused_event (Err stop.TooLong) short es number is unfit h = absurd (too_long h.0 short)
+  refused_event (Err stop.StoreFault) short es number is unfit h = absurd (no_unfit es number is unfit (of_it (λ text. (fs : List EventData) × IsScript text fs × EveryFits fs) h.1.1).1)
+  refused_event (Err (stop.BadEvent n)) short es number is unfit h = inl refl
 
   pub unreadable : (r : Ended) → length script ≤ most_bytes → ((es : List EventData) → IsScript script es → ⊥) → Ends r words there → (status_of r ≡ status.BadScript) ⊎ (status_of r ≡ status.NoMemory)
   unreadable (Ok refused) short none h = let made = (of_it (λ text. (es : List EventData) × IsScript text es × StoredOf es refused old new) h.1.1).1 in absurd (none made.0 made.1)
   unreadable (Err stop.NoMemory) short none h = inr refl
-  unreadable (Err stop.BadManifest) short none h = let made = (of_it (λ text. (es : List EventData) × IsScript text es) h.1.1).1 in absurd (none made.0 made.1)
+  unreadable (Err stop.BadManifest) short none h = let made = (of_it (λ text. (es : List EventData) × IsScript text es × EveryFits es) h.1.1).1 in absurd (none made.0 made.1)
   unreadable (Err stop.Usage) short none h = absurd (h one)
   unreadable (Err (stop.BadScript at)) short none h = inl refl
   unreadable (Err stop.ReadFault) short none h = absurd (unread h.0)
   unreadable (Err stop.TooLong) short none h = absurd (too_long h.0 short)
-  unreadable (Err stop.StoreFault) short none h = let made = (of_it (λ text. (es : List EventData) × IsScript text es) h.1.1).1 in absurd (none made.0 made.1)
+  unreadable (Err stop.StoreFault) short none h = let made = (of_it (λ text. (es : List EventData) × IsScript text es × EveryFits es) h.1.1).1 in absurd (none made.0 made.1)
+  unreadable (Err (stop.BadEvent number)) short none h = let made = (of_it (λ text. (es : List EventData) × IsScript text es × IsUnfit es number) h.0.1).1 in absurd (none made.0 made.1)
 
   longer : {P : Type 0} → most_bytes < length script → (claim : List ℕ → Type 0) → OfSource left claim → P
   longer more claim h = absurd (omega (arith, more, (of_it claim h).0))
@@ -143,9 +173,10 @@ module _ (words : ℕ) (one : words ≡ 1) (left rest : Option (List ℕ)) (scri
   pub endless : (r : Ended) → most_bytes < length script → Ends r words there → (status_of r ≡ status.TooLong) ⊎ (status_of r ≡ status.NoMemory)
   endless (Ok refused) more h = longer more (λ text. (es : List EventData) × IsScript text es × StoredOf es refused old new) h.1.1
   endless (Err stop.NoMemory) more h = inr refl
-  endless (Err stop.BadManifest) more h = longer more (λ text. (es : List EventData) × IsScript text es) h.1.1
+  endless (Err stop.BadManifest) more h = longer more (λ text. (es : List EventData) × IsScript text es × EveryFits es) h.1.1
   endless (Err stop.Usage) more h = absurd (h one)
   endless (Err (stop.BadScript at)) more h = longer more (λ text. IsScriptStop text at) h.0.1
   endless (Err stop.ReadFault) more h = absurd (unread h.0)
   endless (Err stop.TooLong) more h = inl refl
-  endless (Err stop.StoreFault) more h = longer more (λ text. (es : List EventData) × IsScript text es) h.1.1
+  endless (Err stop.StoreFault) more h = longer more (λ text. (es : List EventData) × IsScript text es × EveryFits es) h.1.1
+  endless (Err (stop.BadEvent number)) more h = longer more (λ text. (es : List EventData) × IsScript text es × IsUnfit es number) h.0.1

@@ -1,4 +1,6 @@
 mod Endings
+mod OutputPaths
+mod PermutationNames
 mod Pieces
+mod ResolverNames
 mod Stopping
-mod Taking

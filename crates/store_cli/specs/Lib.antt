@@ -19,11 +19,14 @@
 --   stand (`run_store`: `store_fault`, `bad_manifest`, `blocked`)
 -- * the error sink takes the text of the status, or a part of it where it fails, and changes nothing
 --   else (`run_store`: `error`, `bad_script`)
+-- * the outputs of files whose resolver document is UTF-8 stand at paths that a store can hold
+--   (`outputs_fit`)
 --
 -- `program` ends with the number of a status. That it is the one of `run_store` over the folder of
 -- the first word is no clause, since no clause says what a process is given: runs of the program
 -- over real folders (`tools/tests`) hold it.
 
+pub mod Fitting
 pub mod Report
 pub mod Stored
 pub mod inner

@@ -4,7 +4,7 @@ use Rattle.std.specs.Fmt.{decimal}
 use Rattle.store_cli.specs.declared.status.StoreStatus.{StoreStatus}
 use Rattle.store_cli.specs.declared.status.StoreStatus.TheVariants as status
 
--- the text of each status; a script that is refused is said with the byte at which it is
+-- the text of each status; a script that is refused is said with the byte at which it is, and an event with its number
 abbrev pub error_text : StoreStatus → ℕ → List ℕ
 error_text status.Done at = []
 error_text status.Refused at = []
@@ -15,6 +15,7 @@ error_text status.NoMemory at = codes "tokc_store: out of memory\n"
 error_text status.TooLong at = codes "tokc_store: script too long\n"
 error_text status.StoreFault at = codes "tokc_store: store failed\n"
 error_text status.BadManifest at = codes "tokc_store: bad manifest\n"
+error_text status.BadEvent at = codes "tokc_store: event " ++ decimal at ++ codes " does not fit\n"
 
 -- the number that the program ends with
 abbrev pub status_number : StoreStatus → ℕ
@@ -27,3 +28,4 @@ status_number status.NoMemory = 6
 status_number status.TooLong = 7
 status_number status.StoreFault = 10
 status_number status.BadManifest = 11
+status_number status.BadEvent = 9

@@ -2,7 +2,7 @@
 use Rattle.std.specs.Prelude.{◌≡◌, ◌⊎◌, ℕ, Bool, List, Option, IfSome}
 use Rattle.std.specs.Io.KnownBytes.{IsAtEnd}
 use Rattle.tk_io.specs.FilesData.{FilesData}
-use Rattle.edit_script.specs.Files.{AreFilesAfter}
+use Rattle.edit_script.specs.Files.{AreFilesAfter, EveryFits}
 use Rattle.edit_script.specs.Script.{EventData, IsScript}
 use Rattle.build_plain.specs.Out.{Builds}
 use Rattle.out_store.specs.Effects.{Told}
@@ -16,11 +16,11 @@ use Rattle.store_cli.specs.declared.status.StoreStatus.TheVariants as status
 abbrev pub BuildsAfter : List EventData → FilesData → Type 0
 BuildsAfter es out = (files : FilesData) × AreFilesAfter es files × Builds files out
 
--- under `out/` of the store stand exactly the outputs of the events' files, where the store was kept; `refused` says
--- whether one of them is a refusal
+-- every event fits, and under `out/` of the store stand exactly the outputs of their files, where the store was kept;
+-- `refused` says whether one of them is a refusal
 abbrev pub StoredOf : List EventData → Bool → Option FilesData → Option FilesData → Type 0
 StoredOf es refused old new =
-    (out : FilesData) × BuildsAfter es out × (is_refused out ≡ refused) × Told old new (λ m n. Kept m → IsUnder n out)
+    EveryFits es × ((out : FilesData) × BuildsAfter es out × (is_refused out ≡ refused) × Told old new (λ m n. Kept m → IsUnder n out))
 
 -- .. of the script that the source had left, which was read to its end
 abbrev pub StoredAll : Option (List ℕ) → Option (List ℕ) → Bool → Option FilesData → Option FilesData → Type 0

@@ -1,44 +1,22 @@
 //! The outputs of a script's files.
 
-ghost use Rattle.std.specs.Prelude.{◌≡◌, ℕ, List, true, IfOk, OnOk};
+ghost use Rattle.std.specs.Prelude.{◌≡◌, ℕ, List, true, Err, IfOk};
 ghost use Rattle.std.specs.FinMap as map;
+ghost use Rattle.std.specs.Str.{IsUtf8};
 ghost use Rattle.build_plain.specs.Out.{Builds};
-ghost use Rattle.edit_script.specs.Files.{AreFilesAfter};
-ghost use Rattle.edit_script.specs.View.{event_view};
+ghost use Rattle.edit_script.specs.Files.{EveryFits, IsUnfit};
 ghost use Rattle.out_store.specs.Paths.{IsOutputPath};
+ghost use Rattle.store_cli.specs.Fitting.{HaveUtf8Resolver};
 ghost use Rattle.store_cli.specs.Stored.{BuildsAfter};
-ghost use Rattle.store_cli.specs.inner.Taking.{IsTaken};
 
+use crate::laws::outputs_fit;
 use build_plain::Earlier;
-use edit_script::{Event, Events};
-use file_plan::Files;
-use out_store::is_output_path;
+use bumpalo::Bump;
+use edit_script::Events;
+use file_plan::{Files, LoadStop};
 use std::alloc::Global;
 use tk_io::{NoMemory, Outputs};
 use token_cli::build_files;
-
-// Does with the files what the event says.
-fn take_event<'s>(files: &mut Files<'s>, event: &Event<'s>) -> Result<(), NoMemory>
-    ensures { OnOk result (IsTaken (event_view event.now) files.old files.new) }
-{
-    match event {
-        Event::Put(path, text) => files.put(path, text)?,
-        Event::Del(path) => files.del(path),
-        Event::Commit => {}
-    }
-    Ok(())
-}
-
-// The files after all events.
-fn files_after<'s>(alloc: Global, events: &Events<'s>) -> Result<Files<'s>, NoMemory>
-    ensures { IfOk result (λ files. AreFilesAfter events.now files) }
-{
-    let mut files = Files::new(alloc);
-    for event in events.as_slice() {
-        take_event(&mut files, event)?;
-    }
-    Ok(files)
-}
 
 // The outputs of the files, from nothing.
 fn build_anew(alloc: Global, files: &Files<'_>) -> Result<Outputs, NoMemory>
@@ -48,32 +26,39 @@ fn build_anew(alloc: Global, files: &Files<'_>) -> Result<Outputs, NoMemory>
     build_files(alloc, files, &mut earlier)
 }
 
-// Whether a store may hold each of these outputs.
-fn fit(outputs: &Outputs) -> bool
-    ensures { result ≡ true → (path : List ℕ) → map.contains_key outputs.now path ≡ true
-        → IsOutputPath path }
+// A text is UTF-8.
+fn is_utf8(_text: &str)
+    ensures { IsUtf8 _text.now }
+{}
+
+// The resolver document is UTF-8, as each text is.
+fn resolver_is_utf8(files: &Files<'_>)
+    ensures { HaveUtf8Resolver files.now }
 {
-    for (path, _) in outputs.entries() {
-        if !is_output_path(path.as_bytes()) {
-            return false;
-        }
+    if let Some(text) = files.get("resolver.json") {
+        is_utf8(text);
     }
-    true
 }
 
-/// The outputs of the files after all events.
+/// The outputs of the files after all events, which stand at paths that a store can hold. Patched texts are made in the
+/// arena.
 ///
 /// # Errors
-/// `NoMemory`. It is answered too where an output had a path that a store may not hold; no output has one.
-pub(crate) fn outputs_after(alloc: Global, events: &Events<'_>) -> Result<Outputs, NoMemory>
+/// `Unfit` exactly where an event does not fit what stands before it, with the number of the first; `NoMemory`.
+pub(crate) fn outputs_after<'s>(
+    alloc: Global,
+    events: &Events<'s>,
+    arena: &'s Bump,
+) -> Result<Outputs, LoadStop>
     ensures built { IfOk result (λ outputs. BuildsAfter events.now outputs) }
+    ensures fits { IfOk result (λ _. EveryFits events.now) }
+    ensures unfit { (number : ℕ) → result ≡ Err (LoadStop.Unfit number)
+        → IsUnfit events.now number }
     ensures fit { IfOk result (λ outputs. (path : List ℕ)
         → map.contains_key outputs path ≡ true → IsOutputPath path) }
 {
-    let files = files_after(alloc, events)?;
-    let outputs = build_anew(alloc, &files)?;
-    if !fit(&outputs) {
-        return Err(NoMemory);
-    }
-    Ok(outputs)
+    outputs_fit();
+    let files = Files::load(alloc, events, arena)?;
+    resolver_is_utf8(&files);
+    Ok(build_anew(alloc, &files)?)
 }

@@ -2,12 +2,14 @@
 #![tactic(auto)]
 
 mod building;
+mod laws;
 mod reporting;
 mod running;
 mod status;
 mod stop;
 mod wiring;
 
+pub use laws::outputs_fit;
 pub use running::run_store;
 pub use status::StoreStatus;
 pub use wiring::program;

@@ -27,6 +27,20 @@ fn report_script<E: Sink>(err: &mut E, at: usize) -> Result<(), Failed>
     write_all(err, b"\n")
 }
 
+// Says which event does not fit.
+fn report_event<E: Sink>(err: &mut E, number: usize) -> Result<(), Failed>
+    ensures whole { OnOk result (Appends (E.written err.old) (E.written err.new)
+        (codes "tokc_store: event " ++ decimal number ++ codes " does not fit\n")) }
+    ensures part { OnErr result (AppendsPart (E.written err.old) (E.written err.new)
+        (codes "tokc_store: event " ++ decimal number ++ codes " does not fit\n")) }
+    ensures cause { HasCause (E.faults err.old) (E.faults err.new) result }
+{
+    let mut buffer = Buffer::new();
+    write_all(err, b"tokc_store: event ")?;
+    write_all(err, buffer.format(number).as_bytes())?;
+    write_all(err, b" does not fit\n")
+}
+
 // Writes the text of a stop.
 fn write_text<E: Sink>(err: &mut E, stop: Stop) -> Result<(), Failed>
     ensures whole { OnOk result (Appends (E.written err.old) (E.written err.new) (stop_text stop)) }
@@ -42,6 +56,7 @@ fn write_text<E: Sink>(err: &mut E, stop: Stop) -> Result<(), Failed>
         Stop::TooLong => write_all(err, b"tokc_store: script too long\n"),
         Stop::StoreFault => write_all(err, b"tokc_store: store failed\n"),
         Stop::BadManifest => write_all(err, b"tokc_store: bad manifest\n"),
+        Stop::BadEvent(number) => report_event(err, number),
     }
 }
 

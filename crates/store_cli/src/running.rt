@@ -5,11 +5,12 @@ ghost use Rattle.std.specs.Prelude.{length, IfSome};
 ghost use Rattle.std.specs.Bool.{Decides};
 ghost use Rattle.tk_io.specs.Causes.{Rose};
 ghost use Rattle.tk_io.specs.Reading.{TakesAtMost, TakesExactly};
+ghost use Rattle.edit_script.specs.Files.{EveryFits, IsUnfit};
 ghost use Rattle.edit_script.specs.Script.{EventData, IsScript};
 ghost use Rattle.out_store.specs.Effects.{Told};
 ghost use Rattle.out_store.specs.Kept.{IsBadSlot, Kept};
 ghost use Rattle.out_store.specs.declared.slot.Slot.{Slot as SlotData};
-ghost use Rattle.token_cli.specs.Headline.{IsNoScript, most_bytes};
+ghost use Rattle.token_cli.specs.Headline.{HasUnfitEvent, IsNoScript, most_bytes};
 ghost use Rattle.token_cli.specs.Report.{Reports};
 ghost use Rattle.store_cli.specs.Report.{error_text};
 ghost use Rattle.store_cli.specs.Stored.{HadBadSlot, IsStored, StoredAll};
@@ -19,6 +20,7 @@ use crate::building::outputs_after;
 use crate::reporting::report;
 use crate::status::{StoreStatus, status_of};
 use crate::stop::Stop;
+use bumpalo::Bump;
 use out_store::{Store, store_laws, sync};
 use std::alloc::Global;
 use tk_io::{Sink, Source, read_all};
@@ -27,7 +29,26 @@ use token_cli::{is_refused, read_events};
 /// How many bytes a script may have.
 const LIMIT: u64 = 67_108_864;
 
-// Reads the events of the script, and brings the store to the outputs of their files.
+// Reads the events of the script, and brings the store to the outputs of their files. Patched texts are made in the arena.
+fn store_told<'s, T: Store>(
+    alloc: Global,
+    script: &'s [u8],
+    arena: &'s Bump,
+    store: &mut T,
+) -> Result<bool, Stop>
+    ensures scripted { Scripted result script.entry.now (T.held store.old) (T.held store.new)
+        (T.faults store.old) (T.faults store.new) }
+    ensures kept { Told (T.held store.old) (T.held store.new) (λ m n. Kept m → Kept n) }
+    ensures blocked { IfSome (T.held store.old) (λ m. (s : SlotData) → IsBadSlot m s
+        → (refused : Bool) → result ≢ Ok refused) }
+{
+    let events = read_events(alloc, script)?;
+    let outputs = outputs_after(alloc, &events, arena)?;
+    sync(alloc, store, &outputs)?;
+    Ok(is_refused(&outputs))
+}
+
+// Brings the store to the outputs of the script's files. The arena is made first, so that it outlives the files.
 fn store_script<T: Store>(alloc: Global, script: &[u8], store: &mut T) -> Result<bool, Stop>
     ensures scripted { Scripted result script.now (T.held store.old) (T.held store.new)
         (T.faults store.old) (T.faults store.new) }
@@ -35,10 +56,8 @@ fn store_script<T: Store>(alloc: Global, script: &[u8], store: &mut T) -> Result
     ensures blocked { IfSome (T.held store.old) (λ m. (s : SlotData) → IsBadSlot m s
         → (refused : Bool) → result ≢ Ok refused) }
 {
-    let events = read_events(alloc, script)?;
-    let outputs = outputs_after(alloc, &events)?;
-    sync(alloc, store, &outputs)?;
-    Ok(is_refused(&outputs))
+    let arena = Bump::new(alloc);
+    store_told(alloc, script, &arena, store)
 }
 
 // Whether there is one word.
@@ -100,6 +119,12 @@ pub fn run_store<S: Source, T: Store, E: Sink>(
         × (T.held store.new ≡ T.held store.old)
         × Reports (E.written err.old) (E.written err.new) (E.faults err.old) (E.faults err.new)
         (error_text result at) }
+    // An event does not fit, its number is said, and nothing is stored.
+    ensures bad_event { result ≡ StoreStatus.BadEvent → (number : ℕ)
+        × HasUnfitEvent (S.left src.old) (S.left src.new) number
+        × (T.held store.new ≡ T.held store.old)
+        × Reports (E.written err.old) (E.written err.new) (E.faults err.old) (E.faults err.new)
+        (error_text result number) }
     // A fault is answered only where its count rose.
     ensures read_fault { result ≡ StoreStatus.ReadFault → Rose (S.faults src.old) (S.faults src.new)
         × (T.held store.new ≡ T.held store.old) }
@@ -116,12 +141,19 @@ pub fn run_store<S: Source, T: Store, E: Sink>(
         × (T.held store.new ≡ T.held store.old) }
     ensures taken { (result ≡ StoreStatus.TooLong → ⊥)
         → TakesAtMost most_bytes (S.left src.old) (S.left src.new) }
-    // Where the script has a reading and nothing fails, the store has the outputs, or had a bad slot, or memory ran out.
+    // Where the script has a reading, each event fits and nothing fails, the store has the outputs, or had a bad slot, or
+    // memory ran out.
     ensures complete { (script : List ℕ) (es : List EventData) → length words.now ≡ 1
         → S.left src.old ≡ Some script → length script ≤ most_bytes → IsScript script es
+        → EveryFits es
         → (Rose (S.faults src.old) (S.faults src.new) → ⊥)
         → (Rose (T.faults store.old) (T.faults store.new) → ⊥)
         → IsStored result ⊎ (result ≡ StoreStatus.BadManifest) }
+    // Where an event does not fit and reading doesn't fail, that is said, or memory ran out.
+    ensures unfit { (script : List ℕ) (es : List EventData) (number : ℕ) → length words.now ≡ 1
+        → S.left src.old ≡ Some script → length script ≤ most_bytes → IsScript script es
+        → IsUnfit es number → (Rose (S.faults src.old) (S.faults src.new) → ⊥)
+        → (result ≡ StoreStatus.BadEvent) ⊎ (result ≡ StoreStatus.NoMemory) }
     // Where the script has no reading and reading doesn't fail, that is said, or memory ran out.
     ensures unread { (script : List ℕ) → length words.now ≡ 1 → S.left src.old ≡ Some script
         → length script ≤ most_bytes → ((es : List EventData) → IsScript script es → ⊥)
@@ -132,7 +164,7 @@ pub fn run_store<S: Source, T: Store, E: Sink>(
         → most_bytes < length script → (Rose (S.faults src.old) (S.faults src.new) → ⊥)
         → (result ≡ StoreStatus.TooLong) ⊎ (result ≡ StoreStatus.NoMemory) }
     // The error text was appended whole, or a part of it was and the error sink failed.
-    ensures error { (result ≡ StoreStatus.BadScript → ⊥)
+    ensures error { (result ≡ StoreStatus.BadScript → ⊥) → (result ≡ StoreStatus.BadEvent → ⊥)
         → Reports (E.written err.old) (E.written err.new) (E.faults err.old) (E.faults err.new)
         (error_text result 0) }
 {

@@ -27,6 +27,8 @@ pub enum StoreStatus {
     StoreFault,
     /// The store holds a gate without a manifest.
     BadManifest,
+    /// An event of the script does not fit what stands before it.
+    BadEvent,
 }
 
 impl StoreStatus {
@@ -44,6 +46,7 @@ impl StoreStatus {
             StoreStatus::TooLong => 7,
             StoreStatus::StoreFault => 10,
             StoreStatus::BadManifest => 11,
+            StoreStatus::BadEvent => 9,
         }
     }
 }
@@ -62,5 +65,6 @@ pub(crate) fn status_of(ended: Result<bool, Stop>) -> StoreStatus
         Err(Stop::TooLong) => StoreStatus::TooLong,
         Err(Stop::StoreFault) => StoreStatus::StoreFault,
         Err(Stop::BadManifest) => StoreStatus::BadManifest,
+        Err(Stop::BadEvent(_)) => StoreStatus::BadEvent,
     }
 }

@@ -2,9 +2,10 @@
 
 ghost use Rattle.std.specs.Prelude.{◌≡◌};
 ghost use Rattle.store_cli.specs.declared.stop.Stop.TheVariants.{NoMemory as OutOfMemory};
-ghost use Rattle.store_cli.specs.inner.Ending.{of_read, of_script, of_sync};
+ghost use Rattle.store_cli.specs.inner.Ending.{of_load, of_read, of_script, of_sync};
 
 use edit_script::ScriptStop;
+use file_plan::LoadStop;
 use out_store::SyncStop;
 use tk_io::{NoMemory, ReadStop};
 
@@ -25,6 +26,8 @@ pub(crate) enum Stop {
     StoreFault,
     /// The store holds a gate without a manifest.
     BadManifest,
+    /// The event with this number, counted from 1, does not fit what stands before it.
+    BadEvent(usize),
 }
 
 impl From<NoMemory> for Stop {
@@ -54,6 +57,17 @@ impl From<ScriptStop> for Stop {
         match stop {
             ScriptStop::BadScript(at) => Stop::BadScript(at),
             ScriptStop::NoMemory => Stop::NoMemory,
+        }
+    }
+}
+
+impl From<LoadStop> for Stop {
+    ghost from_gives = { λ s e. e ≡ of_load s };
+
+    fn from(stop: LoadStop) -> Stop {
+        match stop {
+            LoadStop::Unfit(number) => Stop::BadEvent(number),
+            LoadStop::NoMemory => Stop::NoMemory,
         }
     }
 }

@@ -5,7 +5,7 @@ use Rattle.store_cli.specs.inner.Ending.{place_of, status_of}
 use Rattle.token_cli.specs.Report.{Reports}
 use Rattle.store_cli.specs.declared.status.StoreStatus.{StoreStatus}
 use Rattle.store_cli.specs.declared.status.StoreStatus.TheVariants as status
-use Rattle.store_cli.proofs.Endings.{completed, endless, ends_as, unreadable}
+use Rattle.store_cli.proofs.Endings.{completed, endless, ends_as, refused_event, unreadable}
 use Rattle.store_cli.proofs.Stopping.{blocked_status, text_of_status}
 use Rattle.store_cli.proofs.running.run_store.Goals as goal
 
@@ -39,6 +39,19 @@ returns-clause-bad_script g c e =
           (sym c.status_of.ensures) c.report.ensures,
     )
 
+pub returns-clause-bad_event : goal.returns-clause-bad_event
+returns-clause-bad_event g c e =
+    let r = c.main_job-ended.result in
+    let ends = ends_as r c.status_of.result status.BadEvent _ _ c.main_job-ended.ensures.ends c.status_of.ensures e in (
+      place_of r,
+      ends.0,
+      ends.1,
+      subst
+          (λ (s : StoreStatus). Reports (g.E.Sink.written c.args.err.now) (g.E.Sink.written c.report.new.err)
+          (g.E.Sink.faults c.args.err.now) (g.E.Sink.faults c.report.new.err) (error_text s (place_of r)))
+          (sym c.status_of.ensures) c.report.ensures,
+    )
+
 pub returns-clause-read_fault : goal.returns-clause-read_fault
 returns-clause-read_fault g c e =
     ends_as c.main_job-ended.result c.status_of.result status.ReadFault _ _ c.main_job-ended.ensures.ends c.status_of.ensures e
@@ -59,9 +72,14 @@ pub returns-clause-taken : goal.returns-clause-taken
 returns-clause-taken g c not = c.main_job-ended.ensures.taken (λ e. not (c.status_of.ensures ∙ ap status_of e))
 
 pub returns-clause-complete : goal.returns-clause-complete
-returns-clause-complete g c script es one told short is unread good =
+returns-clause-complete g c script es one told short is fits unread good =
     subst (λ (s : StoreStatus). IsStored s ⊎ (s ≡ status.BadManifest)) (sym c.status_of.ensures)
-    (completed _ one _ _ script told _ _ unread _ _ _ _ c.main_job-ended.result short es is good c.main_job-ended.ensures.ends)
+    (completed _ one _ _ script told _ _ unread _ _ _ _ c.main_job-ended.result short es is fits good c.main_job-ended.ensures.ends)
+
+pub returns-clause-unfit : goal.returns-clause-unfit
+returns-clause-unfit g c script es number one told short is unfit unread =
+    subst (λ (s : StoreStatus). (s ≡ status.BadEvent) ⊎ (s ≡ status.NoMemory)) (sym c.status_of.ensures)
+    (refused_event _ one _ _ script told _ _ unread _ _ _ _ c.main_job-ended.result short es number is unfit c.main_job-ended.ensures.ends)
 
 pub returns-clause-unread : goal.returns-clause-unread
 returns-clause-unread g c script one told short none unread =
@@ -80,8 +98,8 @@ pub returns-clause-blocked : goal.returns-clause-blocked
 returns-clause-blocked g c = blocked_status c.main_job-ended.result c.status_of.result (g.T.Store.held c.args.store.now) c.status_of.ensures c.main_job-ended.ensures.blocked
 
 pub returns-clause-error : goal.returns-clause-error
-returns-clause-error g c not =
+returns-clause-error g c not fit =
     subst
     (λ (text : List ℕ). Reports (g.E.Sink.written c.args.err.now) (g.E.Sink.written c.report.new.err)
     (g.E.Sink.faults c.args.err.now) (g.E.Sink.faults c.report.new.err) text)
-    (text_of_status c.main_job-ended.result c.status_of.result c.status_of.ensures not) c.report.ensures
+    (text_of_status c.main_job-ended.result c.status_of.result c.status_of.ensures not fit) c.report.ensures
