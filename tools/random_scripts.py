@@ -1,8 +1,15 @@
 """Random scripts, the same one for the same seed: resolvers with sets, contexts and inline sources, token files of all types with
-references across files, configurations, and edits of all of these. Most are as they should be; some break a rule.
+references across files, configurations, and edits of all of these. Most are as they should be; some break a rule. Run, it
+compares the answers of two programs to scripts of both versions, whose moves and patches at times do not fit.
+
+usage: random_scripts.py PROGRAM OTHER FIRST LAST    tells each seed from FIRST to LAST whose script they answer otherwise
+
+Exit status: 0 all are answered alike; 1 some are not; 2 wrong arguments.
 """
 import json
 import random
+import subprocess
+import sys
 
 from sample_tokens import CAPS, FAMILIES, GENERIC, KINDS, RANGES, STROKES, WEIGHTS
 
@@ -255,3 +262,94 @@ def commits(seed, most=4):
             files.update(found[-1])
             files = {path: text for path, text in files.items() if text is not None}
     return found
+
+
+# How often an event is one of version 2, and how often such a one has places or a path of any kind.
+SECOND, ANY = 0.7, 0.1
+WORDS = ("replay", "build")
+SECONDS = 300
+
+
+def put(path, data):
+    return b"put %s %d\n%s\n" % (path.encode(), len(data), data)
+
+
+def place(chance, data):
+    """A place in a text: seldom any, else one where a character starts or the text ends."""
+    if chance.random() < ANY:
+        return chance.randrange(len(data) + 3)
+    return len(data.decode()[:chance.randrange(len(data.decode()) + 1)].encode())
+
+
+def patch(chance, path, old, new):
+    """A patch that makes one text of another: its middle from the first to the last character that differ, or more; seldom any."""
+    start, end = sorted((place(chance, old), place(chance, old)))
+    if chance.random() < ANY:
+        return b"patch %s %d %d 1\n \n" % (path.encode(), start, end)
+    first, second = old.decode(), new.decode()
+    most = min(len(first), len(second))
+    before = next((i for i in range(most) if first[i] != second[i]), most)
+    behind = next((i for i in range(most - before) if first[-1 - i] != second[-1 - i]), most - before)
+    before, behind = chance.randint(0, before) if chance.random() < 0.3 else before, chance.randint(0, behind)
+    start, end, middle = len(first[:before].encode()), len(old) - len(first[len(first) - behind:].encode()), second[before:len(second) - behind].encode()
+    return b"patch %s %d %d %d\n%s\n" % (path.encode(), start, end, len(middle), middle)
+
+
+def other_event(chance, files):
+    """A move there and back, a move onto itself, one of a path that may be absent, or a patch of any bytes."""
+    paths = [*files, "absent.json"] if chance.random() < ANY or not files else [*files]
+    path = chance.choice(sorted(paths)).encode()
+    share = chance.random()
+    if share < 0.4:
+        return b"move %s x\nmove x %s\n" % (path, path)
+    if share < 0.7:
+        return b"move %s %s\n" % (path, path)
+    data = files.get(path.decode(), b"")
+    at = place(chance, data)
+    return b"patch %s %d %d 0\n\n" % (path, at, at)
+
+
+def events(seed, most=4):
+    """The script of a seed with the commits of `commits`, of version 1 or 2; under 2 by moves and patches where there may be some."""
+    chance, version = random.Random(f"events {seed}"), seed % 3
+    files, pieces = {}, [b"tokc-script %d\n" % (1 if version == 0 else 2)]
+    for of_one in commits(seed, most):
+        for path, text in of_one.items():
+            data = None if text is None else text.encode()
+            if data is None:
+                pieces.append(b"del %s\n" % path.encode())
+                files.pop(path, None)
+                continue
+            is_patch = version and path in files and chance.random() < SECOND
+            pieces.append(patch(chance, path, files[path], data) if is_patch else put(path, data))
+            files[path] = data
+        if version and chance.random() < SECOND:
+            pieces.append(other_event(chance, files))
+        pieces.append(b"commit\n")
+    return b"".join(pieces)
+
+
+def answer(program, word, script):
+    ran = subprocess.run([program, word], input=script, capture_output=True, timeout=SECONDS, check=False)
+    return ran.returncode, ran.stdout, ran.stderr
+
+
+def main(words):
+    if len(words) != 4 or not all(it.isdigit() for it in words[2:]):
+        print(__doc__.split("\n\n")[1], file=sys.stderr)
+        return 2
+    found, counts = [], {}
+    for seed in range(int(words[2]), int(words[3]) + 1):
+        script, word = events(seed), WORDS[seed // 3 % 2]
+        first, second = (answer(program, word, script) for program in words[:2])
+        counts[first[0]] = counts.get(first[0], 0) + 1
+        if first != second:
+            found.append(seed)
+            print(f"seed {seed}: {word}: status {first[0]} and {second[0]}")
+    told = ", ".join(f"{counts[it]} with {it}" for it in sorted(counts))
+    print(f"{sum(counts.values())} scripts ({told}), {len(found)} answered otherwise")
+    return int(bool(found))
+
+
+if __name__ == "__main__":
+    sys.exit(main(sys.argv[1:]))

@@ -1,7 +1,7 @@
 """The table of crates/stored_scripts: rows of a script and the stream that is wanted for it, as recipes.
 
-A row is the line `row STATUS ARGUMENTS`, the line of its name, the recipe of its script and that of its stream. A recipe is a list
-of steps that the line `end` closes. A step is the line `FIRST LAST LEN`, LEN bytes and a newline: the bytes once for each number
+A row is the line `row STATUS ARGUMENTS`, the line of its name, the recipe of its script and that of its stream, and where the status is
+above 1, that of what is said. A recipe is a list of steps that the line `end` closes. A step is the line `FIRST LAST LEN`, LEN bytes and a newline: the bytes once for each number
 from FIRST to LAST, with its decimal digits in place of each byte 1.
 """
 import re
@@ -45,18 +45,21 @@ class Recipe:
 
 
 class Row(NamedTuple):
-    """The number of the status, the arguments, the name, and the recipes as they stand in the table."""
+    """The number of the status, the arguments, the name, and the recipes as they stand in the table. With a status above 1 something is
+    said, and with the others nothing."""
 
     status: int
     words: str
     name: str
     script: bytes
     stream: bytes
+    said: bytes = b""
 
     def line(self):
         """The row as the table has it."""
         head = f"row {self.status} {self.words}\n{self.name}\n"
-        return head.encode() + self.script + END + self.stream + END
+        said = self.said + END if self.status > 1 else b""
+        return head.encode() + self.script + END + self.stream + END + said
 
 
 def written(recipe):
@@ -88,10 +91,12 @@ def rows_of(data):
         head = HEAD.match(data, at)
         if not head:
             raise ValueError(f"no row at {at}")
-        middle = recipe_at(data, head.end())
-        end = recipe_at(data, middle + len(END))
-        found.append(Row(int(head[1]), head[2].decode(), head[3].decode(), data[head.end():middle], data[middle + len(END):end]))
-        at = end + len(END)
+        recipes, at = [], head.end()
+        for _ in range(3 if int(head[1]) > 1 else 2):
+            end = recipe_at(data, at)
+            recipes.append(data[at:end])
+            at = end + len(END)
+        found.append(Row(int(head[1]), head[2].decode(), head[3].decode(), *recipes))
     return found
 
 
