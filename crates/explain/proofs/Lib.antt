@@ -1,2 +1,7 @@
+mod HopsExplain
+mod HopsFollowed
+mod HopsHold
+mod PlacesVisited
 mod PlacesWritten
 mod ValidExplains
+mod WaysKnown

@@ -1,12 +1,13 @@
 -- The value at a place, step after step.
-use Rattle.std.proofs.Common.{◌≡◌, ℕ, zero, suc, ◌+◌, ◌<◌, List, [], ◌∷◌, cond, Option, Some, None, refl, sym, ap, ◌∙◌, option_map, length, drop, get_or, drop-cons, add-one, arith}
-use Rattle.std.specs.Prelude.{is_some, option_and_then}
+use Rattle.std.proofs.Common.{◌≡◌, ℕ, zero, suc, ◌+◌, ◌-◌, ◌<◌, List, [], ◌∷◌, ◌++◌, Bool, true, false, cond, Option, Some, None, refl, sym, ap, ◌∙◌, subst, option_map, length, take, drop, get_or, drop-cons, add-one, arith}
+use Rattle.std.proofs.lemmas.List.{take_more}
+use Rattle.std.specs.Prelude.{is_some, option_and_then, slice_get}
 use Rattle.std.specs.FinMap as map
 use Rattle.std.specs.Str.{bytes_eq}
 use Rattle.json_span.specs.Tree.{Tree, a_null, a_boolean, a_number, a_string, an_array, an_object, Placed, Entry, tree_of, elements_in, entries_in, array_in, object_in, value_of_name}
 use Rattle.name_path.specs.declared.place.Place.{Place}
 use Rattle.group_inherit.specs.Flattening.{Flattened}
-use Rattle.alias_ref.specs.Written.{Step, parts_of, parts_by_index, parts_by_name, part_under, part_behind, value_at, written_as, role_at, written_at, written_in, is_written}
+use Rattle.alias_ref.specs.Written.{Step, Written, role_behind, role_at_end, is_reference, parts_of, parts_by_index, parts_by_name, part_under, part_behind, value_at, written_as, role_at, written_at, written_in, is_written}
 use Rattle.alias_ref.specs.Laws.{Flat}
 
 -- parts under names
@@ -57,20 +58,55 @@ drop_all [] (suc i) h = refl
 drop_all (x ∷ xs) zero h = absurd (h (omega arith))
 drop_all (x ∷ xs) (suc i) h = drop_all xs i (λ k. h (omega (arith, k)))
 
-as_written : (p : Place) (f : Flattened) (v : Option Placed) → is_some v ≡ is_written (option_map (λ n. written_as (role_at f.def.by_ref p.trail) (tree_of n)) v)
-as_written p f None = refl
-as_written p f (Some n) = refl
+pub taken_at : (xs : List Step) (i : ℕ) (x : Step) → i < length xs → x ≡ get_or xs i x → take (i + 1) xs ≡ take i xs ++ x ∷ []
+taken_at xs i x h e = take_more xs i x h ∙ ap (λ y. take i xs ++ y ∷ []) (sym e)
 
-in_token : (p : Place) (g : Option Flattened) → is_some (option_and_then (λ f. value_at f.def.value p.trail) g) ≡ is_written (option_and_then (λ f. written_at f.def p.trail) g)
-unfolding written_at
-in_token p None = refl
-in_token p (Some f) = as_written p f (value_at f.def.value p.trail)
-
--- a place is written where its steps lead to a value
-pub written_value : (flat : Flat) (p : Place) (o : Option Placed) → o ≡ option_and_then (λ f. value_at f.def.value p.trail) (map.get flat p.token) → is_some o ≡ is_written (written_in flat p)
+-- what stands there, and what is said of it
+pub none_there : (flat : Flat) (p : Place) → map.get flat p.token ≡ None → written_in flat p ≡ None
 unfolding written_in
-written_value flat p o e = ap is_some e ∙ in_token p (map.get flat p.token)
+none_there flat p e = ap (option_and_then (λ f. written_at f.def p.trail)) e
 
-pub mapped : {A B : Type 0} (f : A → B) (o : Option A) → is_some o ≡ is_some (option_map f o)
-mapped f None = refl
-mapped f (Some x) = refl
+in_there : (flat : Flat) (p : Place) (f : Flattened) → map.get flat p.token ≡ Some f → written_in flat p ≡ written_at f.def p.trail
+unfolding written_in
+in_there flat p f e = ap (option_and_then (λ (x : Flattened). written_at x.def p.trail)) e
+
+at_value : (p : Place) (f : Flattened) (o : Option Placed) → o ≡ value_at f.def.value p.trail → written_at f.def p.trail ≡ option_map (λ n. written_as (role_at f.def.by_ref p.trail) (tree_of n)) o
+unfolding written_at
+at_value p f o g = ap (option_map (λ n. written_as (role_at f.def.by_ref p.trail) (tree_of n))) (sym g)
+
+pub there_is : (flat : Flat) (p : Place) (f : Flattened) (o : Option Placed) → map.get flat p.token ≡ Some f → o ≡ value_at f.def.value p.trail → written_in flat p ≡ option_map (λ n. written_as (role_at f.def.by_ref p.trail) (tree_of n)) o
+there_is flat p f o e g = in_there flat p f e ∙ at_value p f o g
+
+pub no_reference : (o : Option Written) → o ≡ None → is_reference o ≡ false
+no_reference o e = ap is_reference e
+
+pub mapped : (o : Option Placed) (f : Placed → Written) → is_some o ≡ is_written (option_map f o)
+mapped None f = refl
+mapped (Some n) f = refl
+
+pub shown : {A B : Type 0} (f : A → B) (o : Option A) → is_some o ≡ is_some (option_map f o)
+shown f None = refl
+shown f (Some x) = refl
+
+-- the role at the end of steps is that behind the last of them
+role_end : (s : Step) (trail : List Step) (last : Step) → slice_get (s ∷ trail) (length trail) ≡ Some last → role_at_end s trail ≡ role_behind last
+role_end s [] last e = ap role_behind (same s last e)
+  where
+    same : (x y : Step) → Some x ≡ Some y → x ≡ y
+    same x y f = cc
+role_end s (r ∷ trail) last e = role_end r trail last e
+
+role_snoc : (x : Step) (front : List Step) (s : Step) → role_at_end x (front ++ s ∷ []) ≡ role_behind s
+role_snoc x [] s = refl
+role_snoc x (y ∷ front) s = role_snoc y front s
+
+pub role_behind_is : (own : Bool) (front : List Step) (s : Step) → role_at own (front ++ s ∷ []) ≡ role_behind s
+role_behind_is true [] s = refl
+role_behind_is false [] s = refl
+role_behind_is true (x ∷ front) s = role_snoc x front s
+role_behind_is false (x ∷ front) s = role_snoc x front s
+
+pub role_is : (own : Bool) (steps : List Step) (last : Step) → slice_get steps (length steps - 1) ≡ Some last → role_at own steps ≡ role_behind last
+role_is own [] last e = absurd (cc)
+role_is true (s ∷ trail) last e = role_end s trail last (subst (λ i. slice_get (s ∷ trail) i ≡ Some last) (omega arith) e)
+role_is false (s ∷ trail) last e = role_end s trail last (subst (λ i. slice_get (s ∷ trail) i ≡ Some last) (omega arith) e)

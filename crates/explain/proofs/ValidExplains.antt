@@ -9,22 +9,23 @@ use Rattle.alias_ref.specs.Meaning as meaning
 use Rattle.alias_ref.specs.Laws.{Flat}
 use Rattle.certificates.specs.declared.certificate.Hop.{Hop}
 use Rattle.certificates.specs.declared.certificate.Cert.{Cert}
-use Rattle.explain.specs.Validity.{Reaches, stays, follows, GoesBy, arrived, onward, LeadsBy, leads, EachLeads, Valid}
+use Rattle.explain.specs.Following.{Reaches, stays, follows}
+use Rattle.explain.specs.Validity.{GoesBy, arrived, onward, LeadsBy, leads, EachLeads, Valid}
 
 -- each of these hops leads to its target
-abbrev AllLead : WrittenPlaces → List Hop → Type 0
+abbrev pub AllLead : WrittenPlaces → List Hop → Type 0
 AllLead T hops = (hop : Hop) → In hop hops → Leads T hop.spot.place hop.target
 
 module _ (T : WrittenPlaces) where
-  settled : {hops : List Hop} {p q : Place} → AllLead T hops → is_reference (T q) ≡ false → Reaches hops p q → Settles T p q
+  pub settled : {hops : List Hop} {p q : Place} → AllLead T hops → is_reference (T q) ≡ false → Reaches hops p q → Settles T p q
   settled all stop (stays none) = meaning.stays stop
   settled all stop (follows hop is starts more) = meaning.follows (subst (λ (x : Place). Leads T x hop.target) starts (all hop is)) (settled all stop more)
 
-  goes : {hops : List Hop} {p q : Place} {steps : List Step} → AllLead T hops → GoesBy T hops p steps q → Goes T p steps q
+  pub goes : {hops : List Hop} {p q : Place} {steps : List Step} → AllLead T hops → GoesBy T hops p steps q → Goes T p steps q
   goes all arrived = meaning.arrived
   goes all (onward s w more) = meaning.onward (settled all s.no_reference s.reached) w (goes all more)
 
-  led : {hops : List Hop} {p q : Place} → AllLead T hops → LeadsBy T hops p q → Leads T p q
+  pub led : {hops : List Hop} {p q : Place} → AllLead T hops → LeadsBy T hops p q → Leads T p q
   led all (leads reads there way) = meaning.leads reads there (goes all way)
 
   with_one : (before : List Hop) (h : Hop) → AllLead T before → Leads T h.spot.place h.target → AllLead T (before ++ h ∷ [])
@@ -33,7 +34,7 @@ module _ (T : WrittenPlaces) where
   with_one (b ∷ bs) h all l hop (inl e) = all hop (inl e)
   with_one (b ∷ bs) h all l hop (inr more) = with_one bs h (λ k is. all k (inr is)) l hop more
 
-  each : (before hops : List Hop) → AllLead T before → EachLeads T before hops → AllLead T hops
+  pub each : (before hops : List Hop) → AllLead T before → EachLeads T before hops → AllLead T hops
   each before [] all e hop none = absurd none
   each before (h ∷ hops) all e hop (inl same) = subst (λ (x : Hop). Leads T x.spot.place x.target) (sym same) (led all e.0)
   each before (h ∷ hops) all e hop (inr more) = each (before ++ h ∷ []) hops (with_one before h all (led all e.0)) e.1 hop more

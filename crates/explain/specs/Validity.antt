@@ -1,8 +1,8 @@
 -- When a certificate holds of a flat tree.
-use Rattle.std.specs.Prelude.{◌≡◌, List, [], ◌∷◌, ◌++◌, true, false, Some, map}
+use Rattle.std.specs.Prelude.{◌≡◌, List, [], ◌∷◌, ◌++◌, true, false, Some}
 use Rattle.std.specs.FinMap as flat_map
 use Rattle.std.specs.List.{AllByRecursion}
-use Rattle.ring.specs.Lists.{In, AreApart}
+use Rattle.ring.specs.Lists.{AreApart}
 use Rattle.name_path.specs.declared.place.Place.{Place}
 use Rattle.group_inherit.specs.Flattening.{Flattened}
 use Rattle.alias_ref.specs.Written.{Step, refers, WrittenPlaces, written_in, whole, part, is_reference, is_written}
@@ -11,17 +11,9 @@ use Rattle.alias_ref.specs.Laws.{Flat}
 use Rattle.certificates.specs.declared.certificate.Spot.{Spot}
 use Rattle.certificates.specs.declared.certificate.Hop.{Hop}
 use Rattle.certificates.specs.declared.certificate.Cert.{Cert}
+use Rattle.explain.specs.Following.{starts_of, Reaches}
 
--- where hops start, in order
-abbrev pub starts_of : List Hop → List Place
-starts_of hops = map (λ h. h.spot.place) hops
-
--- The hops are followed from p: the one that starts there, and so on, until none starts at the place q.
-pub data Reaches (hops : List Hop) : Place → Place → Type 0 where
-  stays : {p : Place} → (In p (starts_of hops) → ⊥) → Reaches hops p p
-  follows : {p q : Place} (hop : Hop) → In hop hops → hop.spot.place ≡ p → Reaches hops hop.target q → Reaches hops p q
-
--- .. and this is no reference
+-- the place that is reached from p is q, and no reference
 pub record SettlesBy (T : WrittenPlaces) (hops : List Hop) (p q : Place) : Type 0 where
   pub reached : Reaches hops p q
   pub no_reference : is_reference (T q) ≡ false

@@ -4,8 +4,14 @@
 //! holds of a tree is said without a word of how it was found.
 #![tactic(auto)]
 
+mod checking;
 mod laws;
 mod places;
+mod saying;
+mod showing;
+mod ways;
 
+pub use checking::verify;
 pub use laws::{explained_value, valid_explains};
 pub use places::written;
+pub use showing::show;

@@ -1,17 +1,17 @@
 //! Which places are written.
 
-ghost use Rattle.std.specs.Prelude.{◌≡◌, option_map, option_and_then};
-ghost use Rattle.std.specs.FinMap as map;
+ghost use Rattle.std.specs.Prelude.{◌≡◌, option_map};
 ghost use Rattle.std.specs.Fmt.{decimal};
 ghost use Rattle.std.specs.Str.{bytes_eq};
 ghost use Rattle.json_span.specs.View.{ref_view, items_view};
 ghost use Rattle.alias_ref.specs.Written.{is_written, part_behind, part_under, parts_by_index};
 ghost use Rattle.alias_ref.specs.Written.{value_at, written_in};
 
-use group_inherit::Flat;
+use group_inherit::{Entry, Flat};
 use itoa::Buffer;
 use json_span::{Items, NodeRef};
 use name_path::Place;
+use tk_io::Text;
 
 /// Whether the step spells the index in decimal digits.
 fn is_index(at: usize, step: &str) -> bool
@@ -50,15 +50,11 @@ fn part<'a, 's>(node: NodeRef<'a, 's>, step: &str) -> Option<NodeRef<'a, 's>>
     None
 }
 
-/// The value to which the place's steps lead in the value of its token.
-fn value<'a, 's>(flat: &'a Flat<'s>, place: &Place<'s>) -> Option<NodeRef<'a, 's>>
-    ensures { option_map ref_view result
-        ≡ option_and_then (λ f. value_at f.def.value place.now.trail)
-        (map.get flat.entry.now place.now.token) }
+/// The value to which the steps lead in the value of a token.
+pub(crate) fn value_in<'a, 's>(entry: &'a Entry<'s>, steps: &[Text<'s>]) -> Option<NodeRef<'a, 's>>
+    ensures { option_map ref_view result ≡ value_at entry.entry.now.def.value steps.now }
 {
-    let entry = flat.get(&place.token)?;
     let mut node = entry.def.value.as_ref();
-    let steps = place.trail.as_slice();
     for step in steps {
         let Some(next) = part(node, step.as_str()) else {
             return None;
@@ -73,5 +69,8 @@ fn value<'a, 's>(flat: &'a Flat<'s>, place: &Place<'s>) -> Option<NodeRef<'a, 's
 pub fn written<'s>(flat: &Flat<'s>, place: &Place<'s>) -> bool
     ensures { result ≡ is_written (written_in flat.now place.now) }
 {
-    value(flat, place).is_some()
+    let Some(entry) = flat.get(&place.token) else {
+        return false;
+    };
+    value_in(entry, place.trail.as_slice()).is_some()
 }

@@ -1,0 +1,4 @@
+pub mod Ways
+pub mod Saying
+pub mod Holding
+pub mod Showing
