@@ -1,0 +1,6 @@
+mod Entries
+mod FirstBreaks
+mod Listings
+mod Planned
+mod Tellings
+mod ToldPairs
