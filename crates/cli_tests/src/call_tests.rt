@@ -25,7 +25,7 @@ fn read_by<'s, L: Ledger>(alloc: Global, text: &'s [u8], page: Blank) -> Option<
     read(alloc, text, &mut steps).ok()
 }
 
-fn value(alloc: Global, text: &[u8]) -> Option<Node<'_>> {
+pub(crate) fn value(alloc: Global, text: &[u8]) -> Option<Node<'_>> {
     read_by::<Brand>(alloc, text, Blank::new(1))
 }
 
@@ -83,7 +83,7 @@ fn plain_values_have_their_parts(rt: HostRuntime) {
     assert!(rt; has_plain_list(rt.alloc()) == Some(true));
 }
 
-fn group_of<'s, L: Ledger>(
+pub(crate) fn group_of<'s, L: Ledger>(
     alloc: Global,
     text: &'s [u8],
     steps: &mut Steps<L>,
