@@ -24,9 +24,11 @@ cd "${0%/*}" && cd now && cat >../script && cat stream && cat said >&2 && exit "
 
 
 def make_program():
-    """Compiles the program, which takes minutes, where no `rt ci` went before."""
-    with open(FIRST, "rb") as first:
-        subprocess.run([TOKC, "build"], stdin=first, stdout=subprocess.DEVNULL, check=True)
+    """Compiles the programs, which takes minutes, where no `rt ci` went before."""
+    with tempfile.TemporaryDirectory() as room:
+        for words in (["build"], ["store", room]):
+            with open(FIRST, "rb") as first:
+                subprocess.run([TOKC, *words], stdin=first, stdout=subprocess.DEVNULL, check=True)
 
 
 def program():
@@ -82,6 +84,11 @@ def tree(folder):
             path = os.path.join(at, name)
             found[os.path.relpath(path, folder)] = read(path)
     return found
+
+
+def outputs_in(folder):
+    """The outputs in a folder, by their paths, with their bytes."""
+    return {path: data for path, data in tree(folder).items() if not path.startswith(".tokc/")}
 
 
 def stream_of(*commits):
@@ -143,7 +150,5 @@ class Room(unittest.TestCase):
         return self.tool("build", "tokens", "out", tokc=self.stand_in(stream, status, said))
 
     def outputs(self):
-        """The files below `out` but for the list of what was written."""
-        found = tree(self.out)
-        found.pop(".tokc-outputs", None)
-        return found
+        """The files below `out` but for the lists of what was written."""
+        return outputs_in(self.out)

@@ -29,11 +29,11 @@ def loaded():
 
 
 RUN = loaded()
-EVENT = re.compile(r"commit\n|put ([a-z0-9/.]+) (0|[1-9][0-9]{0,7})\n")
+EVENT = re.compile(r"commit\n|(?:put|patch) ([a-z0-9/.]+)(?: [0-9]+ [0-9]+)? (0|[1-9][0-9]{0,7})\n")
 
 
 def events_of(script):
-    """The paths that a script puts, with None for a commit. Fails where it is no script."""
+    """The paths that a script puts and patches, with None for a commit. Fails where it is no script."""
     found, at = [], 0
     while at < len(script):
         event = EVENT.match(script, at)
@@ -110,7 +110,7 @@ class Scripts(unittest.TestCase):
     """What is measured."""
 
     def test_each_is_a_script_within_the_limit(self):
-        for name, make in RUN.SCRIPTS.items():
+        for name, make in {**RUN.SCRIPTS, **RUN.PATCHES}.items():
             if name in SLOW:
                 continue
             with self.subTest(name=name):
@@ -121,6 +121,19 @@ class Scripts(unittest.TestCase):
                 self.assertEqual(found[-1], None)
                 if "commits" in name:
                     self.assertEqual(found.count(None), int(name.split(" ")[0].replace(",", "")))
+
+    def test_patches_of_one_byte(self):
+        """Each changes the byte, and the file has the same length after it."""
+        script = RUN.patched(2_100)
+        text = script.split("\n")[1]
+        self.assertAlmostEqual(len(text) / 1e3, 90, delta=1)
+        found = re.findall(r"^patch tokens.json ([0-9]+) ([0-9]+) 1\n([0-9])\ncommit$", script, re.M)
+        self.assertEqual(len(found), 2_099)
+        text = list(text)
+        for start, end, digit in found:
+            self.assertEqual(int(end), int(start) + 1)
+            self.assertTrue(text[int(start)].isdigit() and text[int(start)] != digit)
+            text[int(start)] = digit
 
     def test_sizes(self):
         for megabytes in (1, 4, 10):

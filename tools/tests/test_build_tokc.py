@@ -19,7 +19,8 @@ echo "$*" >>"$kit/calls"
 case $1 in
 doc) echo "$kit/START-HERE.md" ;;
 try)
-    [ "$5" != build ] || case $(cat "$kit/way") in
+    case $5 in build | */site) way=$(cat "$kit/way") ;; esac
+    case $way in
     module)
         mkdir -p "$TMPDIR/native" && head -c 1000000 /dev/zero >"$TMPDIR/native/module.bc" && : >"$TMPDIR/native/module-1.o.tmp"
         exec sleep 60
@@ -35,15 +36,17 @@ lib)
     mkdir -p out/rlib out/incremental
     ;;
 run)
-    cat >/dev/null && mkdir -p out && printf '#!/bin/sh\\necho proved "$@"\\n' >out/tokc && chmod +x out/tokc
+    made=out/${PWD##*/}
+    cat >/dev/null && mkdir -p out && printf '#!/bin/sh\\necho proved "$@"\\n' >"$made" && chmod +x "$made"
     ;;
 esac
 """
 CLANG = '#!/bin/sh\nfor it; do last=$it; done\n[ ! -e "${0%/*}/fails" ] || { echo "clang: refused"; exit 1; }\necho object >"$last"\n'
 LINK = '#!/bin/sh\nshift 5\nprintf \'#!/bin/sh\\necho compiled "$@"\\n\' >"$1" && chmod +x "$1"\n'
 
-COMPILES = "tokc: compiles the program, which takes about three minutes; this machine has not checked its proof, which ./tokc prove does in about fifty minutes\n"
-TRIES = "tokc: runs the program by `rt try`, which takes a minute each time; this machine has not checked its proof\n"
+COMPILES = "tokc: compiles tokc, which takes about three minutes; this machine has not checked the proof, which ./tokc prove does in about fifty minutes\n"
+COMPILED = "tokc: tokc is compiled, in N s\n"
+TRIES = "tokc: runs tokc by `rt try`, which takes a minute each time; this machine has not checked its proof\n"
 NO_RT = "tokc: the toolchain is needed: put the folder of `rt` (rattle-kit-13f) on the path; its guide is START-HERE.md in the toolchain's folder, as /opt/rattle\n"
 
 
@@ -81,7 +84,7 @@ class Compiled(Made):
     """Without a check of the proof."""
 
     def test_it_is_compiled_once_and_said_so(self):
-        self.assertEqual(self.tokc("build"), (0, "compiled build\n", COMPILES + "tokc: the program is compiled, in N s\n"))
+        self.assertEqual(self.tokc("build"), (0, "compiled build\n", COMPILES + COMPILED))
         self.assertEqual(self.tokc("gen", "1", "2"), (0, "compiled gen 1 2\n", ""))
         self.assertEqual(read(self.at("kit/calls")), b"doc\ntry --steps 1 -- build\ndoc\n")
 
@@ -99,7 +102,7 @@ class Compiled(Made):
         for way in ("none", "small"):
             with self.subTest(way=way):
                 self.way(way)
-                wanted = COMPILES + "tokc: `rt try` left no module of the program\n" + TRIES + "tokc: its own line\n"
+                wanted = COMPILES + "tokc: `rt try` left no module of tokc\n" + TRIES + "tokc: its own line\n"
                 self.assertEqual(self.tokc("build", given=b"a script\n"), (1, "a script\n", wanted))
 
     def test_a_compiler_that_refuses_the_module(self):
@@ -107,7 +110,7 @@ class Compiled(Made):
         status, out, err = self.tokc("build", given=b"a script\n")
         log = self.at("crates/tokc/out/build.log")
         self.assertEqual((status, out), (1, "a script\n"))
-        self.assertEqual(err, f"{COMPILES}tokc: clang did not take the program; {log} ends with:\nclang: refused\n{TRIES}tokc: its own line\n")
+        self.assertEqual(err, f"{COMPILES}tokc: clang did not take tokc; {log} ends with:\nclang: refused\n{TRIES}tokc: its own line\n")
 
     def test_a_toolchain_without_its_compiler(self):
         shutil.rmtree(self.at("kit/toolchain"))
@@ -144,13 +147,13 @@ class Proved(Made):
         status, out, err = self.tokc("prove")
         self.assertEqual((status, out), (0, ""))
         self.assertEqual(err.replace("0 s so far", "N s so far").replace("1 s so far", "N s so far"), (
-            "tokc: proves 2 crates and builds the program: about fifty minutes on four processors where nothing is kept\n"
+            "tokc: proves 2 crates and builds tokc: about fifty minutes on four processors where nothing is kept\n"
             "tokc: 0 of 2 crates are proved; low under way; N s so far\n"
             "tokc: 1 of 2 crates are proved; tokc under way; N s so far\n"
-            "tokc: all 2 crates are proved and the program is built, in N s; ./tokc takes this program\n"
+            "tokc: all 2 crates are proved and the programs are built, in N s; ./tokc takes these programs\n"
         ))
         self.assertEqual(self.tokc("build"), (0, "proved build\n", ""))
-        self.assertEqual(self.tokc("prove"), (0, "", "tokc: is proved and built already\n"))
+        self.assertEqual(self.tokc("prove"), (0, "", "tokc: all is proved and built already\n"))
         self.assertEqual(re.sub(rb"\d+", b"N", read(self.at("crates/tokc/out/proof-times"))), b"low N\ntokc N\n")
 
     def test_new_sources_take_the_proved_program_away(self):
@@ -163,7 +166,49 @@ class Proved(Made):
         status, out, err = self.tokc("prove")
         log = self.at("crates/tokc/out/build.log")
         self.assertEqual((status, out), (1, ""))
-        self.assertRegex(err, rf"tokc: a proof failed, or the program could not be built; {re.escape(log)} ends with:\nprove-below: proves low\nit is not proved\nprove-below: low took .*\n\Z")
+        self.assertRegex(err, rf"tokc: a proof failed, or tokc could not be built; {re.escape(log)} ends with:\nprove-below: proves low\nit is not proved\nprove-below: low took .*\n\Z")
+
+
+class Both(Made):
+    """With tokc_store beside tokc."""
+
+    def setUp(self):
+        super().setUp()
+        write(self.at("crates.txt"), "low:\nstore: low\ntokc: low\ntokc_store: store low\n")
+        for name in ("store", "tokc_store"):
+            write(self.at("crates", name, "src/main.rt"), "")
+
+    def test_both_are_compiled_side_by_side(self):
+        compiles = COMPILES.replace("compiles tokc,", "compiles tokc and tokc_store,")
+        self.assertEqual(self.tokc("store", "a b"), (0, "compiled a b\n", compiles + "tokc: tokc and tokc_store are compiled, in N s\n"))
+        self.assertEqual(self.tokc("build"), (0, "compiled build\n", ""))
+        os.remove(self.at("crates/tokc/out/unproved/tokc"))
+        self.assertEqual(self.tokc("store", "a b"), (0, "compiled a b\n", ""))
+        self.assertEqual(self.tokc("build"), (0, "compiled build\n", COMPILES + COMPILED))
+
+    def test_a_folder_needs_a_program(self):
+        self.way("none")
+        status, out, err = self.tokc("store", "a")
+        self.assertEqual((status, out), (126, ""))
+        self.assertRegex(err, "`rt try` left no module of tokc(_store)?\n\\Z")
+
+    def test_both_are_proved(self):
+        self.tokc("build")
+        status, out, err = self.tokc("prove")
+        self.assertEqual((status, out), (0, ""))
+        lines = [re.sub("[0-9]+ s so far", "N s so far", it) for it in err.splitlines()]
+        self.assertEqual(lines[0], "tokc: proves 4 crates and builds tokc and tokc_store: about fifty minutes on four processors where nothing is kept")
+        self.assertEqual(lines[-1], "tokc: all 4 crates are proved and the programs are built, in N s; ./tokc takes these programs")
+        self.assertIn("tokc: 1 of 2 crates are proved; tokc_store under way; N s so far", lines)
+        self.assertEqual(self.tokc("store", "a"), (0, "proved a\n", ""))
+        self.assertEqual(self.tokc("prove"), (0, "", "tokc: all is proved and built already\n"))
+
+    def test_both_are_installed(self):
+        prefix = self.at("prefix")
+        self.assertEqual(self.tokc("install", prefix)[0], 0)
+        self.assertEqual(run([os.path.join(prefix, "bin", "tokc_store"), "x"]), (0, "compiled x\n", ""))
+        told = f"tokc is {BUILD.UNPROVED_WORD}\ntokc_store is {BUILD.UNPROVED_WORD}\n"
+        self.assertEqual(run([os.path.join(prefix, "bin", "tokc-dir"), "--version"]), (0, "tokc-dir\n" + told, ""))
 
 
 class Left(unittest.TestCase):
@@ -209,7 +254,7 @@ class Installed(Made):
                     self.tokc("prove")
                 status, out, err = self.tokc("install", prefix)
                 self.assertEqual((status, out), (0, ""))
-                self.assertTrue(err.endswith(f"tokc: tokc and tokc-dir stand in {prefix}/bin, the manual in {prefix}/share/doc/tokc; {told}\n"), err)
+                self.assertTrue(err.endswith(f"tokc: tokc and tokc-dir stand in {prefix}/bin, the manual in {prefix}/share/doc/tokc\ntokc: tokc is {told}\n"), err)
                 os.rename(prefix, prefix + " moved")
                 ran = run([os.path.join(prefix + " moved", "bin", "tokc"), "build"])
                 self.assertEqual(ran, (0, "compiled build\n" if word == "not proved" else "proved build\n", ""))

@@ -45,7 +45,7 @@ commit
 """)
 
     def test_what_is_passed_over(self):
-        self.put({"tokens.json": "{}", "read.me": "x", "sub/tokc.toml": "=", "a.JSON": "x", ".git/x y.json": "x", "earlier/.tokc-outputs": "", "earlier/tokens.json": "1"})
+        self.put({"tokens.json": "{}", "read.me": "x", "sub/tokc.toml": "=", "a.JSON": "x", ".git/x y.json": "x", "earlier/.tokc/0": "", "earlier/tokens.json": "1"})
         self.put({"build/out/default/tokens.json": "1", ".hidden.json": "2", "node_modules/pkg/tokens.json": "3", "$themes.json": "[]", "$metadata.json": "{}"})
         os.symlink("..", self.at("tokens", "up"))
         self.assertEqual(self.script("tokens/build/out"), b"tokc-script 1\nput .hidden.json 1\n2\nput tokens.json 2\n{}\ncommit\n")
@@ -163,7 +163,8 @@ class Out(Room):
         ran = self.build(stream_of([("a/b.css", CSS), ("a/c.css", b""), ("d=%20+e/x", b"\0\xff\n")]))
         self.assertEqual((ran.status, ran.err), (0, ""))
         self.assertEqual(self.outputs(), {"a/b.css": CSS, "a/c.css": b"", "d=%20+e/x": b"\0\xff\n"})
-        self.assertEqual(read(self.at("out/.tokc-outputs")), b"a/b.css\na/c.css\nd=%20+e/x\n")
+        self.assertEqual(read(self.at("out/.tokc/1")), b"a/b.css\na/c.css\nd=%20+e/x\n")
+        self.assertEqual(sorted(os.listdir(self.at("out/.tokc"))), ["0", "1", "1.ok"])
         self.assertEqual(ran.out.splitlines()[:3], ["wrote a/b.css", "wrote a/c.css", "wrote d=%20+e/x"])
         self.assertRegex(ran.out.splitlines()[3], r"\A3 outputs; 3 changed; [0-9.]+ s\Z")
 
@@ -187,11 +188,12 @@ class Out(Room):
     def test_what_did_not_change_is_not_written(self):
         two = [("a/x.css", CSS), ("a/y.css", CSS)]
         self.build(stream_of(two))
-        names = [self.at("out", it) for it in ("a/x.css", "a/y.css", ".tokc-outputs")]
+        names = [self.at("out", it) for it in ("a/x.css", "a/y.css", ".tokc/1")]
         before = [os.stat(it).st_ino for it in names]
+        self.build(stream_of(two))
+        self.assertEqual([os.stat(it).st_ino for it in names], before)
         ran = self.build(stream_of([two[0], ("a/y.css", OTHER)]))
-        after = [os.stat(it).st_ino for it in names]
-        self.assertEqual([one == other for one, other in zip(before, after)], [True, False, True])
+        self.assertEqual([os.stat(it).st_ino == was for it, was in zip(names, before)], [True, False, False])
         self.assertEqual(ran.out.splitlines()[0], "wrote a/y.css")
 
     def test_a_file_is_replaced_by_a_rename(self):
@@ -204,15 +206,18 @@ class Out(Room):
 
     def test_what_a_run_that_was_cut_off_leaves_is_put_right(self):
         self.build(stream_of([("a/x.css", CSS)]))
-        write(self.at("out/.tokc-outputs"), "a/x.css\nb/y.css\nb/z.css\n")
+        write(self.at("out/.tokc/0"), "a/x.css\nb/y.css\nb/z.css\n")
+        write(self.at("out/.tokc/0.ok"), "")
         write(self.at("out/b/y.css"), CSS)
-        write(self.at("out/.tokc-new"), CSS[:4])
+        write(self.at("out/.tokc/new"), CSS[:4])
         self.build(stream_of([("a/x.css", OTHER)]))
-        self.assertEqual(tree(self.out), {"a/x.css": OTHER, ".tokc-outputs": b"a/x.css\n"})
+        self.assertEqual(self.outputs(), {"a/x.css": OTHER})
+        self.assertEqual((read(self.at("out/.tokc/0")), sorted(os.listdir(self.at("out/.tokc")))), (b"a/x.css\n", ["0", "0.ok", "1"]))
 
     def test_a_list_that_leads_outside_removes_nothing_there(self):
         write(self.at("mine"), "1")
-        write(self.at("out/.tokc-outputs"), "../mine\n/etc/../mine\na//b\n.\n" + self.at("mine") + "\n")
+        write(self.at("out/.tokc/0.ok"), "")
+        write(self.at("out/.tokc/0"), "../mine\n/etc/../mine\na//b\n.\n" + self.at("mine") + "\n")
         self.build(ONE)
         self.assertEqual(read(self.at("mine")), b"1")
 
@@ -253,7 +258,7 @@ class Streams(Room):
             b"", b"tokc-stream 2\ndone 0\n", b"tokc-stream 1\n", b"tokc-stream 1\ndone 1\n", b"tokc-stream 1\ncommit 2\ndone 1\n", b"tokc-stream 1\ndone 0\nx",
             ONE[:-1], ONE[:-9], ONE.replace(b"css 22", b"css 21"), ONE.replace(b"css 22", b"css 99"), ONE.replace(b"css 22", b"css"), ONE.replace(b"css 22", b"css 022"),
             ONE.replace(b"file default", b"file ../default"), ONE.replace(b"file default", b"file /default"), ONE.replace(b"file default", b"file a//b"),
-            ONE.replace(b"default/tokens.css", b".tokc-outputs"), ONE.replace(b"commit 1\n", b""), ONE.replace(b"commit 1", b"commit 1 2"),
+            ONE.replace(b"default/tokens.css", b".tokc/0"), ONE.replace(b"commit 1\n", b""), ONE.replace(b"commit 1", b"commit 1 2"),
             stream_of([("a", None)]), ONE.replace(b"file ", b"put "), ONE.replace(b"tokens.css", b"to\0kens.css"), ONE.replace(b"done 1", b"done 01"),
         ]
         for stream in cases:
@@ -449,6 +454,27 @@ class Watching(Room):
             write(self.at("made", name), "{}")
         os.rename(self.at("made"), self.at("tokens", "made"))
         self.told("made/a.json, made/b.json, made/c.json and 1 more are new: 1 output; 0 changed")
+
+    def test_what_changed_is_sent(self):
+        """By a patch, by a move and by a put; after the program stopped, all files are put."""
+        first = '{"space":{"$type":"dimension","s":{"$value":{"value":4,"unit":"px"}}}}'
+        self.put({"tokens.json": first})
+        self.told("tokens.json is changed: 1 output; 0 changed")
+        script = f"tokc-script 2\nput tokens.json 2\n{{}}\nput tokens.json 70\n{first}\n"
+        self.assertEqual(read(self.at("stand-in", "script")).decode(), script + "commit\n")
+        self.put({"tokens.json": first.replace("4", "16")})
+        self.told("tokens.json is changed: 1 output; 0 changed")
+        script += "patch tokens.json 53 54 2\n16\n"
+        self.assertEqual(read(self.at("stand-in", "script")).decode(), script + "commit\n")
+        os.rename(self.at("tokens", "tokens.json"), self.at("tokens", "core.json"))
+        self.told("core.json is new; tokens.json is gone: 1 output; 0 changed")
+        self.assertEqual(read(self.at("stand-in", "script")).decode(), script + "move tokens.json core.json\ncommit\n")
+        self.stand_in(b"", 6, "tokc: its own line\n")
+        self.put({"core.json": "{}"})
+        self.told("tokc: its own line", "tokc ran out of memory")
+        self.stand_in(ONE)
+        self.told("core.json is changed: mended; 1 output; 0 changed")
+        self.assertEqual(read(self.at("stand-in", "script")), b"tokc-script 2\nput core.json 2\n{}\ncommit\n")
 
     def test_an_interrupt_ends_it_well(self):
         self.watch.send_signal(signal.SIGINT)

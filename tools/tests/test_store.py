@@ -1,4 +1,7 @@
-"""The program tokc_store over real folders: killed after every fifth system call, on a full disk, without permission, and past symbolic links."""
+"""The program tokc_store over real folders: killed after every fifth system call, on a full disk, without permission, and past symbolic links.
+
+Each is tried where the outputs stand in `out` of the folder, and where they stand right in it, with the lists in `.tokc`.
+"""
 import ctypes
 import os
 import signal
@@ -7,16 +10,23 @@ import sys
 import tempfile
 import unittest
 
-from helpers import TOKC, TOP, run, tree, write
+from helpers import TOKC, TOP, make_program, outputs_in, run, tree, write
 
 sys.path.insert(0, os.path.join(TOP, "tools"))
 
 from tokcdir.program import outputs_of, script_of
 
-PROGRAM = os.path.join(TOP, "crates", "tokc_store", "out", "tokc_store")
+PROGRAMS = [os.path.join(TOP, "crates", "tokc_store", "out", *parts) for parts in (("tokc_store",), ("unproved", "tokc_store"))]
+PROGRAM = None
 TRACE_ME, TO_NEXT_CALL = 0, 24
 STEP = 5
 DONE, REFUSED, USAGE, FAULT, BAD = 0, 1, 2, 10, 11
+
+
+def setUpModule():
+    global PROGRAM
+    make_program()
+    PROGRAM = max(filter(os.path.exists, PROGRAMS), key=os.path.getmtime)
 
 
 def themes(names, value):
@@ -39,10 +49,6 @@ def wanted(script):
 
 def store(root, script):
     return run([PROGRAM, root], script).status
-
-
-def standing(root):
-    return tree(os.path.join(root, "out"))
 
 
 def killed_after(root, script, calls):
@@ -69,29 +75,30 @@ def killed_after(root, script, calls):
     return False
 
 
-@unittest.skipUnless(os.path.exists(PROGRAM), "tokc_store is not built")
-class Folders(unittest.TestCase):
+class Folder:
+    """The tests of one layout."""
+
     def setUp(self):
         room = tempfile.TemporaryDirectory()
         self.addCleanup(room.cleanup)
         self.room = room.name
-        self.root = os.path.join(room.name, "site")
+        self.root = self.new("site")
 
     def test_brings_a_folder_to_the_outputs(self):
         for script in (OLD, NEW, NEW):
             self.assertEqual(DONE, store(self.root, script))
-            self.assertEqual(wanted(script), standing(self.root))
+            self.assertEqual(wanted(script), self.standing(self.root))
 
     def test_mends_what_a_killed_run_left(self):
         outputs = {script: wanted(script) for script in (OLD, NEW)}
         end, calls = False, 1
         while not end:
-            root = os.path.join(self.room, str(calls))
+            root = self.new(str(calls))
             self.assertEqual(DONE, store(root, OLD))
             end = killed_after(root, NEW, calls)
             for script in (OLD, NEW):
                 self.assertEqual(DONE, store(root, script), f"{calls} calls")
-                self.assertEqual(outputs[script], standing(root), f"{calls} calls")
+                self.assertEqual(outputs[script], self.standing(root), f"{calls} calls")
             calls += STEP
         self.assertGreater(calls, 100)
 
@@ -102,22 +109,22 @@ class Folders(unittest.TestCase):
     def test_no_script(self):
         ran = run([PROGRAM, self.root], b"tokc-script 1\nput\n")
         self.assertEqual((3, "", "tokc_store: bad script at byte 14\n"), ran)
-        self.assertFalse(os.path.exists(self.root))
+        self.assertEqual({}, tree(self.root))
 
     def test_a_refused_build(self):
         self.assertEqual(REFUSED, store(self.root, script_of({"tokens.json": b""})))
-        self.assertEqual(["default/REFUSED"], list(standing(self.root)))
+        self.assertEqual(["default/REFUSED"], list(self.standing(self.root)))
 
     def test_a_gate_without_a_manifest(self):
-        write(os.path.join(self.root, "meta", "0.ok"), b"")
+        write(os.path.join(self.root, self.LISTS, "0.ok"), b"")
         ran = run([PROGRAM, self.root], OLD)
         self.assertEqual((BAD, "", "tokc_store: bad manifest\n"), ran)
 
     def test_a_link_below_the_folder(self):
         outside = os.path.join(self.room, "outside")
         os.makedirs(outside)
-        os.makedirs(self.root)
-        os.symlink(outside, os.path.join(self.root, "out"))
+        os.makedirs(os.path.join(self.root, self.OUT), exist_ok=True)
+        os.symlink(outside, os.path.join(self.root, self.OUT, "theme=light"))
         ran = run([PROGRAM, self.root], OLD)
         self.assertEqual((FAULT, "", "tokc_store: store failed\n"), ran)
         self.assertEqual([], os.listdir(outside))
@@ -126,11 +133,11 @@ class Folders(unittest.TestCase):
         if os.geteuid() == 0:
             self.skipTest("root may write everywhere")
         self.assertEqual(DONE, store(self.root, OLD))
-        os.chmod(os.path.join(self.root, "out"), 0o500)
+        os.chmod(os.path.join(self.root, self.OUT), 0o500)
         self.assertEqual(FAULT, store(self.root, NEW))
-        os.chmod(os.path.join(self.root, "out"), 0o700)
+        os.chmod(os.path.join(self.root, self.OUT), 0o700)
         self.assertEqual(DONE, store(self.root, NEW))
-        self.assertEqual(wanted(NEW), standing(self.root))
+        self.assertEqual(wanted(NEW), self.standing(self.root))
 
     def test_a_full_disk(self):
         disk = os.path.join(self.room, "disk")
@@ -139,6 +146,7 @@ class Folders(unittest.TestCase):
         if made.returncode:
             self.skipTest("no file system can be mounted here")
         self.addCleanup(subprocess.run, ["umount", disk], check=False)
+        self.new("disk")
         self.assertEqual(DONE, store(disk, OLD))
         filler = os.path.join(disk, "filler")
         with open(filler, "wb", buffering=0) as file:
@@ -148,7 +156,67 @@ class Folders(unittest.TestCase):
         self.assertEqual(FAULT, store(disk, MORE))
         os.remove(filler)
         self.assertEqual(DONE, store(disk, MORE))
-        self.assertEqual(wanted(MORE), standing(disk))
+        self.assertEqual(wanted(MORE), self.standing(disk))
+
+
+class Apart(Folder, unittest.TestCase):
+    """Outputs in `out`, lists in `meta`."""
+
+    OUT, LISTS = "out", "meta"
+
+    def new(self, name):
+        return os.path.join(self.room, name)
+
+    def standing(self, root):
+        return tree(os.path.join(root, "out"))
+
+    def test_a_link_in_the_place_of_the_outputs(self):
+        outside = os.path.join(self.room, "outside")
+        os.makedirs(outside)
+        os.makedirs(self.root)
+        os.symlink(outside, os.path.join(self.root, "out"))
+        self.assertEqual(FAULT, store(self.root, OLD))
+        self.assertEqual([], os.listdir(outside))
+
+
+class Within(Folder, unittest.TestCase):
+    """Outputs right in the folder, lists in `.tokc`."""
+
+    OUT, LISTS = "", ".tokc"
+
+    def new(self, name):
+        root = os.path.join(self.room, name)
+        os.makedirs(os.path.join(root, ".tokc"))
+        return root
+
+    def standing(self, root):
+        return outputs_in(root)
+
+    def test_nothing_else_is_touched(self):
+        for path in ("mine", "theme=light/mine", ".tokc/mine"):
+            write(os.path.join(self.root, path), b"mine")
+        for script in (OLD, NEW, OLD):
+            self.assertEqual(DONE, store(self.root, script))
+            self.assertEqual({**wanted(script), "mine": b"mine", "theme=light/mine": b"mine"}, self.standing(self.root))
+        self.assertEqual({"0", "1", "1.ok", "mine"}, set(os.listdir(os.path.join(self.root, ".tokc"))))
+
+    def test_a_file_is_replaced_by_a_rename(self):
+        self.assertEqual(DONE, store(self.root, OLD))
+        name = os.path.join(self.root, "theme=light", "tokens.css")
+        with open(name, "rb") as old:
+            self.assertEqual(DONE, store(self.root, NEW))
+            self.assertEqual(wanted(OLD)["theme=light/tokens.css"], old.read())
+
+    def test_a_link_in_the_place_of_the_lists(self):
+        outside = os.path.join(self.room, "outside")
+        os.makedirs(outside)
+        for path in (".tokc/new", ".tokc"):
+            name = os.path.join(self.root, path)
+            if os.path.isdir(name):
+                os.rename(name, os.path.join(self.room, "away"))
+            os.symlink(outside, name)
+            self.assertEqual(FAULT, store(self.root, OLD))
+        self.assertEqual([], os.listdir(outside))
 
 
 if __name__ == "__main__":

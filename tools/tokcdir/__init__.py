@@ -3,6 +3,7 @@
     stop        how a run ends, and what is said on the way
     folder      which files of a folder tokc is given
     program     scripts, streams, and the program that stands between them
+    events      the script of a watch, which says what changed of the files
     outputs     the folder of outputs: what is written there, and how it differs
     refusal     what a REFUSED file tells, and a sentence for each rule
     places      JSON texts with the place of each value

@@ -4,7 +4,7 @@ from typing import NamedTuple
 
 from .message import Teller, as_json, as_lines
 from .outputs import is_refusal
-from .program import run_tokc
+from .program import run_tokc, script_of
 from .refusal import refusals_of
 from .rows import all_rows, counted, omission_lines, omissions
 from .stop import REFUSED_STATUS, say
@@ -38,9 +38,9 @@ def messages_of(outputs, folder, files):
     return [teller.message(refusal, permutations, names) for refusal, permutations in refusals]
 
 
-def build_of(folder, files, is_quiet=False, is_silent=False):
-    """The build of a folder's files, by tokc."""
-    outputs = run_tokc(files, is_quiet, is_silent)
+def build_of(folder, files, is_quiet=False, is_silent=False, script=None):
+    """The build of a folder's files, by tokc, of the script that puts them or another one that leaves them."""
+    outputs = run_tokc(script_of(files) if script is None else script, is_quiet, is_silent)
     return Build(outputs, messages_of(outputs, folder, files))
 
 

@@ -8,8 +8,8 @@ import time
 from . import preview
 from .building import Build, Options, build_of, messages_of, tell
 from .folder import is_inside, read_folder
-from .outputs import differences, write_outputs
-from .program import HERE, outputs_of, script_of
+from .outputs import told_differences, write_outputs
+from .program import HERE, outputs_of, script_of, writer_of
 from .stop import FAILED, REFUSED_STATUS, WRONG_USE, Stop, say
 from .watching import watch
 
@@ -47,7 +47,7 @@ def do_build(options, tokens, out):
     folders_apart(tokens, out)
     files, start = files_of(tokens, out, options), time.monotonic()
     build = build_of(tokens, files, options.is_quiet)
-    changes = write_outputs(out, build.outputs)
+    changes = write_outputs(out, build.outputs, writer_of(script_of(files)))
     tell(build, changes, f"; {len(changes)} changed", start, options)
     return build.status()
 
@@ -59,7 +59,7 @@ def do_check(options, tokens, out=None):
         folders_apart(tokens, out)
     files, start = files_of(tokens, out, options), time.monotonic()
     build = build_of(tokens, files, options.is_quiet)
-    found = differences(out, build.outputs) if out is not None else []
+    found = told_differences(out, build.outputs) if out is not None else []
     for it in found if options.is_json else ():
         print(json.dumps({"output": it.path, "state": it.word}), flush=True)
     tell(build, found, f"; {len(found)} differ" if out is not None else "", start, options)
@@ -112,12 +112,12 @@ WORDS = {
 
 
 def version():
-    """What this is, and whether the proof of the program beside it was checked."""
+    """What this is, and whether the proofs of the programs beside it were checked."""
     try:
         with open(os.path.join(HERE, "PROOF"), encoding="utf-8") as file:
-            return f"tokc-dir\ntokc is {file.read().strip()}"
+            return f"tokc-dir\n{file.read().strip()}"
     except OSError:
-        return "tokc-dir\ntokc is the one of the repository, which ./tokc compiles, and ./tokc prove proves"
+        return "tokc-dir\ntokc and tokc_store are those of the repository, which ./tokc compiles, and ./tokc prove proves"
 
 
 def parsed(words):

@@ -11,7 +11,7 @@ import re
 import stat
 from typing import NamedTuple
 
-from .outputs import LIST
+from .outputs import LISTS
 from .stop import WRONG_USE, Stop, shown, some
 
 CONFIG, RESOLVER, DEFAULT = "tokc.toml", "resolver.json", "tokens.json"
@@ -51,7 +51,7 @@ def subfolders(tokens, folder, out, above):
         if entry.name.startswith(".") or entry.name in PASSED_FOLDERS or not entry.is_dir():
             continue
         real = os.path.realpath(entry.path)
-        is_ours = os.path.lexists(os.path.join(entry.path, LIST)) or real == out
+        is_ours = os.path.lexists(os.path.join(entry.path, LISTS)) or real == out
         if not is_ours and real not in above and (not entry.is_symlink() or is_inside(real, tokens)):
             yield entry.path, real
 

@@ -1,14 +1,15 @@
-"""Scripts, streams, and the program that stands between them."""
+"""Scripts, streams, and the programs that stand between them and write outputs."""
 import os
 import re
 import subprocess
 
-from .outputs import is_output_path
+from .outputs import bring, is_output_path
 from .stop import FAILED, REFUSED_STATUS, Stop
 
 # Where this tool stands: beside the program where it is installed, and in tools/ of the repository.
 HERE = os.path.dirname(os.path.dirname(os.path.realpath(__file__)))
 QUIET = "TOKC_QUIET"
+NO_PROGRAM = 126
 
 # Why tokc stopped without a stream, by its exit status. Its own line stands before this one.
 STOPS = {
@@ -16,7 +17,14 @@ STOPS = {
     5: "tokc could not write its stream",
     6: "tokc ran out of memory",
     7: "the token files are too large: a script has at most 67,108,864 bytes",
-    126: "there is no program to run, as said above",
+    NO_PROGRAM: "there is no program to run, as said above",
+}
+
+# Why tokc_store stopped before the outputs stand, by its exit status.
+STORE_STOPS = {
+    6: "tokc_store ran out of memory",
+    10: "{out}: it can't be written: the disk is full, writing is not permitted, or a link, or a folder in the place of a file, stands in it",
+    11: "{out}/.tokc: its lists are not as this tool leaves them; remove it, and what stands in {out} and is no output",
 }
 
 
@@ -24,6 +32,35 @@ def program():
     """The program that is run."""
     beside = os.path.join(HERE, "tokc")
     return os.environ.get("TOKC") or (beside if os.path.exists(beside) else os.path.join(os.path.dirname(HERE), "tokc"))
+
+
+def store_words(out):
+    """The command that brings a folder to the outputs of a script. Where another program is named than ours, there is none."""
+    beside = os.path.join(HERE, "tokc_store")
+    if os.path.exists(beside):
+        return None if os.environ.get("TOKC") else [beside, out]
+    return None if program() != os.path.join(os.path.dirname(HERE), "tokc") else [program(), "store", out]
+
+
+def store_status(out, script, lock):
+    """How tokc_store ends over a folder and a script. It holds the lock too, so that the folder stays its own where this run is
+    cut off. What is said of a program that is not proved was said of tokc."""
+    words = store_words(out)
+    if words is None:
+        return NO_PROGRAM
+    env = {**os.environ, QUIET: "1"}
+    return subprocess.run(words, input=script, stdout=subprocess.DEVNULL, env=env, pass_fds=(lock,), check=False).returncode
+
+
+def writer_of(script):
+    """What brings a folder to the outputs of a script: tokc_store, or where it can't be had, the steps of this tool."""
+    def write(out, outputs, lock):
+        status = store_status(out, script, lock)
+        if status == NO_PROGRAM:
+            bring(out, outputs)
+        elif status not in (0, REFUSED_STATUS):
+            raise Stop(FAILED, STORE_STOPS.get(status, "tokc_store ended with status {status}").format(out=out, status=status))
+    return write
 
 
 def script_of(files):
@@ -83,12 +120,12 @@ def outputs_of(stream):
             raise lines.stop()
 
 
-def run_tokc(files, is_quiet=False, is_silent=False):
-    """The outputs of the files, as tokc builds them: quiet where it is to say nothing but what is wrong, silent where not even that."""
+def run_tokc(script, is_quiet=False, is_silent=False):
+    """The outputs of a script's files, as tokc builds them: quiet where it is to say nothing but what is wrong, silent where not even that."""
     name = program()
     env = {**os.environ, QUIET: "1"} if is_quiet else None
     try:
-        ran = subprocess.run([name, "build"], input=script_of(files), stdout=subprocess.PIPE, stderr=subprocess.DEVNULL if is_silent else None, env=env, check=False)
+        ran = subprocess.run([name, "build"], input=script, stdout=subprocess.PIPE, stderr=subprocess.DEVNULL if is_silent else None, env=env, check=False)
     except OSError as error:
         raise Stop(FAILED, f"{name}: it can't be run: {error.strerror}") from None
     if ran.returncode not in (0, REFUSED_STATUS):

@@ -3,8 +3,10 @@ import os
 import time
 
 from .building import build_of, closing, omitted_lines, tell_messages
+from .events import Growing
 from .folder import read_folder, token_paths
 from .outputs import listed, write_outputs
+from .program import writer_of
 from .stop import Stop, say, some
 
 # How long is waited before a refusal replaces good outputs: the file that it is told of may be half written.
@@ -34,15 +36,21 @@ def change_line(earlier, files):
 
 
 class Watch:
-    """What a watch has seen of the folder, the files that it tried last, those that it built last and what they gave, and what went wrong."""
+    """What a watch has seen of the folder, the files that it tried last, those that it built last and what they gave, what went wrong, and
+    the script that it sends."""
 
     def __init__(self, tokens, out, options):
         self.tokens, self.out, self.options = tokens, out, options
         self.seen, self.tried, self.files, self.build, self.problem = None, None, None, None, None
+        self.sent = Growing()
 
     def tell(self, line):
         if not self.options.is_quiet:
             print(line, flush=True)
+
+    def built(self, files, is_quiet, is_silent=False):
+        """The build of files, of a script that says what changed."""
+        return build_of(self.tokens, files, is_quiet, is_silent, self.sent.script(files))
 
     def settled(self, files, build):
         """A build of what the folder holds, after a moment where a refusal would replace good outputs."""
@@ -51,7 +59,7 @@ class Watch:
             again = read_folder(self.tokens, self.out).files
             if again == files:
                 break
-            files, build = again, build_of(self.tokens, again, True)
+            files, build = again, self.built(again, True)
         return files, build
 
     def bring(self, files):
@@ -59,8 +67,8 @@ class Watch:
         start = time.monotonic()
         is_quiet = self.options.is_quiet or self.build is not None
         is_told, self.tried = files == self.tried, files
-        files, build = self.settled(files, build_of(self.tokens, files, is_quiet, is_told))
-        written = write_outputs(self.out, build.outputs)
+        files, build = self.settled(files, self.built(files, is_quiet, is_told))
+        written = write_outputs(self.out, build.outputs, writer_of(self.sent.script(files)))
         was_wrong = self.problem is not None or (self.build is not None and self.build.is_refused())
         what = "built" if self.files is None else change_line(self.files, files) or "tried again"
         mended = "mended; " if was_wrong and not build.is_refused() else ""
@@ -74,7 +82,7 @@ class Watch:
         """Writes outputs that somebody deleted again."""
         if self.build is None or listed(self.out) >= self.build.outputs.keys() and all(os.path.lexists(os.path.join(self.out, it)) for it in self.build.outputs):
             return
-        written = [it.path for it in write_outputs(self.out, self.build.outputs)]
+        written = [it.path for it in write_outputs(self.out, self.build.outputs, writer_of(self.sent.script(self.files)))]
         if written:
             self.tell(f"{some(written)} {'was' if len(written) == 1 else 'were'} gone or changed, and {'is' if len(written) == 1 else 'are'} written again")
 
@@ -103,10 +111,11 @@ class Watch:
             self.fail(stop.lines)
 
     def fail(self, lines):
-        """Tells what went wrong, once, and has it tried again at the next look."""
+        """Tells what went wrong, once, and has it tried again at the next look, with a script that puts all files."""
         if self.problem != list(lines):
             say(lines)
         self.problem = list(lines)
+        self.sent = Growing()
 
 
 def watch(tokens, out, seconds, options):
