@@ -1,5 +1,0 @@
-use Rattle.edit_script.proofs.Standing.{one_files}
-use Rattle.edit_script.proofs.laws.one_map.Goals as goal
-
-pub returns : goal.returns
-returns c = one_files
