@@ -1,0 +1,4 @@
+mod Endings
+mod Pieces
+mod Stopping
+mod Taking

@@ -1,0 +1,12 @@
+mod Adding
+mod Choosing
+mod Named
+mod Needing
+mod Offering
+mod Ordering
+mod Reading
+mod Refusals
+mod Rising
+mod Showing
+mod Shows
+mod SheetsWhole

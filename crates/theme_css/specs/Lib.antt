@@ -1,0 +1,5 @@
+pub mod Cascade
+pub mod Blocks
+pub mod Sheet
+pub mod Themes
+pub mod inner
