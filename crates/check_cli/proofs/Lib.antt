@@ -1,4 +1,0 @@
-mod Endings
-mod Pieces
-mod Stopping
-mod Taking

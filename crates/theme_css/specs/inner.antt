@@ -1,5 +1,0 @@
-pub mod Views
-pub mod Offers
-pub mod Order
-pub mod Choices
-pub mod Pages
