@@ -20,14 +20,14 @@ use Rattle.tk_io.proofs.TextMaps.{text_cmp-IsAntisymmetric}
 use Rattle.json_span.specs.Tree.{Entry, placed, a_null}
 use Rattle.json_span.specs.Flaw.{equal_names, is_seen}
 use Rattle.json_span.specs.inner.Names.{AreNamesOf, names_flaw, reversed_names}
-use Rattle.json_span.specs.inner.NameOrder.{named_at, placed_from, is_below, AreSorted, least, again_in}
+use Rattle.json_span.specs.inner.NameOrder.{key_of, word_of, word, named_at, placed_from, is_below, AreSorted, least, again_in}
 use Rattle.json_span.specs.declared.names.NameSpan.{NameSpan}
 use Rattle.json_span.specs.declared.names.PlacedName.{PlacedName}
 use Rattle.json_span.proofs.Naming.{no_name, are_at, are_many, one_entry, told_at, seen_before, flaw_here, flaw_later}
 
 -- what stands after the last
 pub no_placed : PlacedName
-no_placed = record { name = []; place = 0 }
+no_placed = record { key = 0; name = []; place = 0 }
 
 -- it stands in the list
 data In (y : PlacedName) : List PlacedName → Type 0 where
@@ -83,11 +83,11 @@ follows_unfilter p x y (z ∷ l) h =
     ] h
 
 -- a stable sort keeps equal names in order, both ways
-ties_same : (x y : PlacedName) → x.name ≡ y.name → ties is_below x y ≡ true
+ties_same : (x y : PlacedName) → word x ≡ word y → ties is_below x y ≡ true
 ties_same x y e =
-    subst (λ t. (not (is_lt (text_cmp x.name t)) && not (is_lt (text_cmp t x.name))) ≡ true) e (ap (λ r. not (is_lt r) && not (is_lt r)) (tied_itself nat_list_cmp_total x.name))
+    subst (λ t. (not (is_lt (text_cmp (word x) t)) && not (is_lt (text_cmp t (word x)))) ≡ true) e (ap (λ r. not (is_lt r) && not (is_lt r)) (tied_itself nat_list_cmp_total (word x)))
 
-module _ (xs ys : List PlacedName) (stable : IsStableBy is_below xs ys) (x y : PlacedName) (same : x.name ≡ y.name) where
+module _ (xs ys : List PlacedName) (stable : IsStableBy is_below xs ys) (x y : PlacedName) (same : word x ≡ word y) where
   to_sorted : Follows x y xs → Follows x y ys
   to_sorted h = follows_unfilter (ties is_below x) x y ys (subst (Follows x y) (sym (stable x)) (follows_filter (ties is_below x) x y xs h (ties_same x x refl) (ties_same x y same)))
 
@@ -106,21 +106,21 @@ head_least x z l s = s 0 x (omega arith) (omega arith)
 none_less : (x y : PlacedName) (l : List PlacedName) → IsSortedBy is_below (x ∷ l) → In y l → is_below y x ≡ false
 none_less x y [] s h = elim h [ ]
 none_less x y (z ∷ l) s in_head = head_least x y l s
-none_less x y (z ∷ l) s (in_tail h) = (ranks_by nat_list_cmp_total (λ m. m.name)).chain y z x (none_less z y l (tail_sorted x (z ∷ l) s) h) (head_least x z l s)
+none_less x y (z ∷ l) s (in_tail h) = (ranks_by nat_list_cmp_total word).chain y z x (none_less z y l (tail_sorted x (z ∷ l) s) h) (head_least x z l s)
 
 tied : (r : Ordering) → is_lt r ≡ false → is_lt (ordering_reverse r) ≡ false → r ≡ Equal
 tied Less e f = cc
 tied Equal e f = refl
 tied Greater e f = cc
 
-between : (x y z : PlacedName) → is_below z x ≡ false → is_below y z ≡ false → x.name ≡ y.name → z.name ≡ y.name
+between : (x y z : PlacedName) → is_below z x ≡ false → is_below y z ≡ false → word x ≡ word y → word z ≡ word y
 between x y z e f same =
-    text_cmp-IsAntisymmetric z.name y.name (tied (text_cmp z.name y.name) (subst (λ t. is_lt (text_cmp z.name t) ≡ false) same e) (ap is_lt (sym (nat_list_cmp_total.antisymm y.name z.name)) ∙ f))
+    text_cmp-IsAntisymmetric (word z) (word y) (tied (text_cmp (word z) (word y)) (subst (λ t. is_lt (text_cmp (word z) t) ≡ false) same e) (ap is_lt (sym (nat_list_cmp_total.antisymm (word y) (word z))) ∙ f))
 
 abbrev HasNext : PlacedName → List PlacedName → Type 0
-HasNext y l = (w : PlacedName) × Next w y l × (w.name ≡ y.name)
+HasNext y l = (w : PlacedName) × Next w y l × (word w ≡ word y)
 
-next_of : (x y : PlacedName) (l : List PlacedName) → IsSortedBy is_below (x ∷ l) → In y l → x.name ≡ y.name → HasNext y (x ∷ l)
+next_of : (x y : PlacedName) (l : List PlacedName) → IsSortedBy is_below (x ∷ l) → In y l → word x ≡ word y → HasNext y (x ∷ l)
 next_of x y [] s h e = elim h [ ]
 next_of x y (z ∷ l) s in_head e = (x, at_head, e)
 next_of x y (z ∷ l) s (in_tail h) e =
@@ -128,7 +128,7 @@ next_of x y (z ∷ l) s (in_tail h) e =
     let (w, n, t) = next_of z y l rest h (between x y z (head_least x z l s) (none_less z y l rest h) e) in
     (w, next_tail n, t)
 
-has_next : (x y : PlacedName) (ys : List PlacedName) → IsSortedBy is_below ys → Follows x y ys → x.name ≡ y.name → HasNext y ys
+has_next : (x y : PlacedName) (ys : List PlacedName) → IsSortedBy is_below ys → Follows x y ys → word x ≡ word y → HasNext y ys
 has_next x y [] s h e = elim h [ ]
 has_next x y (z ∷ l) s (from_head h) e = next_of x y l s h e
 has_next x y (z ∷ l) s (from_tail h) e = let (w, n, t) = has_next x y l (tail_sorted z l s) h e in (w, next_tail n, t)
@@ -158,15 +158,15 @@ least_from None b r e = inr e
 least_from (Some p) None r e = inl e
 least_from (Some p) (Some q) r e = either_is (nat_le p q) p q r e
 
-again_lower : (w y : PlacedName) (ys : List PlacedName) → Next w y ys → w.name ≡ y.name → (p : ℕ) × (again_in ys ≡ Some p) × (p ≤ y.place)
+again_lower : (w y : PlacedName) (ys : List PlacedName) → Next w y ys → word w ≡ word y → (p : ℕ) × (again_in ys ≡ Some p) × (p ≤ y.place)
 again_lower w y [] n e = elim n [ ]
 again_lower w y (x ∷ []) (next_tail n) e = elim n [ ]
 again_lower w y (x ∷ z ∷ l) at_head e =
     let (r, k, le) = least_left y.place (again_in (y ∷ l)) in
-    (r, ap (λ b. least (cond b (Some y.place) None) (again_in (y ∷ l))) ((bytes_eq-Decides w.name y.name).1 e) ∙ k, le)
+    (r, ap (λ b. least (cond b (Some y.place) None) (again_in (y ∷ l))) ((bytes_eq-Decides (word w) (word y)).1 e) ∙ k, le)
 again_lower w y (x ∷ z ∷ l) (next_tail n) e =
     let (p, k, le) = again_lower w y (z ∷ l) n e in
-    let first = cond (bytes_eq x.name z.name) (Some z.place) None in
+    let first = cond (bytes_eq (word x) (word z)) (Some z.place) None in
     let (r, m, lr) = least_right first p in
     (r, ap (least first) k ∙ m, omega (arith, le, lr))
 
@@ -174,7 +174,7 @@ record Again (ys : List PlacedName) (p : ℕ) : Type 0 where
   pub before : PlacedName
   pub it : PlacedName
   pub next : Next before it ys
-  pub same : before.name ≡ it.name
+  pub same : word before ≡ word it
   pub place : it.place ≡ p
 
 equal_here : (b : Bool) (q p : ℕ) → cond b (Some q) None ≡ Some p → (b ≡ true) × (q ≡ p)
@@ -184,8 +184,8 @@ equal_here false q p e = cc
 again_real : (ys : List PlacedName) (p : ℕ) → again_in ys ≡ Some p → Again ys p
 again_real [] p e = cc
 again_real (x ∷ []) p e = cc
-again_real (x ∷ y ∷ l) p e = elim (least_from (cond (bytes_eq x.name y.name) (Some y.place) None) (again_in (y ∷ l)) p e) as (λ _. Again (x ∷ y ∷ l) p) [
-  | inl k ↦ let (t, q) = equal_here (bytes_eq x.name y.name) y.place p k in record { before = x; it = y; next = at_head; same = (bytes_eq-Decides x.name y.name).0 t; place = q }
+again_real (x ∷ y ∷ l) p e = elim (least_from (cond (bytes_eq (word x) (word y)) (Some y.place) None) (again_in (y ∷ l)) p e) as (λ _. Again (x ∷ y ∷ l) p) [
+  | inl k ↦ let (t, q) = equal_here (bytes_eq (word x) (word y)) y.place p k in record { before = x; it = y; next = at_head; same = (bytes_eq-Decides (word x) (word y)).0 t; place = q }
   | inr k ↦ let r = again_real (y ∷ l) p k in record { before = r.before; it = r.it; next = next_tail r.next; same = r.same; place = r.place }
 ]
 
@@ -214,7 +214,7 @@ record At (es : List Entry) (n : ℕ) (y : PlacedName) : Type 0 where
   pub at : ℕ
   pub entry : Entry
   pub there : slice_get es at ≡ Some entry
-  pub name : y.name ≡ entry.name
+  pub name : word y ≡ word_of entry.name
   pub place : y.place ≡ n + at
 
 abbrev at_later : (g : Entry) (es : List Entry) (n : ℕ) (y : PlacedName) → At es (n + 1) y → At (g ∷ es) n y
@@ -222,8 +222,11 @@ at_later g es n y a = record { at = suc a.at; entry = a.entry; there = a.there; 
 
 in_back : (y : PlacedName) (es : List Entry) (n : ℕ) → In y (placed_from n es) → At es n y
 in_back y [] n h = elim h [ ]
-in_back y (g ∷ es) n in_head = record { at = 0; entry = g; there = refl; name = refl; place = omega arith }
-in_back y (g ∷ es) n (in_tail h) = at_later g es n y (in_back y es (n + 1) h)
+in_back y (g ∷ es) n h = back g y (λ k. in_back y es (n + 1) k) h
+  where
+    back : (f : Entry) (z : PlacedName) → (In z (placed_from (n + 1) es) → At es (n + 1) z) → In z (named_at f n ∷ placed_from (n + 1) es) → At (f ∷ es) n z
+    back f z later in_head = record { at = 0; entry = f; there = refl; name = refl; place = omega arith }
+    back f z later (in_tail k) = at_later f es n z (later k)
 
 some_less : (k : ℕ) → 0 < suc k
 some_less k = omega arith
@@ -238,10 +241,13 @@ record Pair (es : List Entry) (n : ℕ) (x y : PlacedName) : Type 0 where
 
 follows_back : (x y : PlacedName) (es : List Entry) (n : ℕ) → Follows x y (placed_from n es) → Pair es n x y
 follows_back x y [] n h = elim h [ ]
-follows_back x y (g ∷ es) n (from_head h) =
-    let b = in_back y es (n + 1) h in
-    record { one = record { at = 0; entry = g; there = refl; name = refl; place = omega arith }; two = at_later g es n y b; order = some_less b.at }
-follows_back x y (g ∷ es) n (from_tail h) = let p = follows_back x y es (n + 1) h in record { one = at_later g es n x p.one; two = at_later g es n y p.two; order = both_less p.one.at p.two.at p.order }
+follows_back x y (g ∷ es) n h = back g x (λ k. follows_back x y es (n + 1) k) h
+  where
+    back : (f : Entry) (z : PlacedName) → (Follows z y (placed_from (n + 1) es) → Pair es (n + 1) z y) → Follows z y (named_at f n ∷ placed_from (n + 1) es) → Pair (f ∷ es) n z y
+    back f z later (from_head k) =
+        let b = in_back y es (n + 1) k in
+        record { one = record { at = 0; entry = f; there = refl; name = refl; place = omega arith }; two = at_later f es n y b; order = some_less b.at }
+    back f z later (from_tail k) = let p = later k in record { one = at_later f es n z p.one; two = at_later f es n y p.two; order = both_less p.one.at p.two.at p.order }
 
 -- a name is seen where an equal one stands before it
 record Seen (es : List Entry) (i : ℕ) (x : List ℕ) : Type 0 where
@@ -302,7 +308,7 @@ module _ (es : List Entry) (ys : List PlacedName) (s : AreSorted es ys) where
   second_again j f h k =
       let w = seen_from es j f.name k in
       let both = follows_placed es 0 w.at j w.at j w.entry f w.there h w.before (omega arith) (omega arith) in
-      let (v, n, t) = has_next (named_at w.entry w.at) (named_at f j) ys s.0 (to_sorted (placed_from 0 es) ys s.1 (named_at w.entry w.at) (named_at f j) w.same both) w.same in
+      let (v, n, t) = has_next (named_at w.entry w.at) (named_at f j) ys s.0 (to_sorted (placed_from 0 es) ys s.1 (named_at w.entry w.at) (named_at f j) (ap word_of w.same) both) (ap word_of w.same) in
       again_lower v (named_at f j) ys n t
 
   pub again_none : again_in ys ≡ None → names_flaw [] es ≡ None
@@ -319,7 +325,7 @@ module _ (es : List Entry) (ys : List PlacedName) (s : AreSorted es ys) where
       let both = follows_back a.before a.it es 0 (from_sorted (placed_from 0 es) ys s.1 a.before a.it a.same (next_follows a.before a.it ys a.next)) in
       let at : both.two.at ≡ p = omega (arith, both.two.place, a.place) in
       let there : slice_get es p ≡ Some both.two.entry = subst (λ k. slice_get es k ≡ Some both.two.entry) at both.two.there in
-      let same : both.one.entry.name ≡ both.two.entry.name = sym both.one.name ∙ a.same ∙ both.two.name in
+      let same : both.one.entry.name ≡ both.two.entry.name = ap (drop 1) (sym both.one.name ∙ a.same ∙ both.two.name) in
       let seen = seen_before es p both.one.at both.one.entry both.two.entry.name both.one.there (omega (arith, both.order, at)) ((bytes_eq-Decides both.one.entry.name both.two.entry.name).1 same) in
       let new : AllNew es p = λ j f h lt k. (let (q, m, le) = second_again j f h k in let same_place : q ≡ p = some_is (sym m ∙ e) in omega (arith, le, lt, same_place)) in
       record { entry = both.two.entry; there = there; flaw = sym (flaw_here es p both.two.entry there seen (still_to_come es p (omega (arith, slice_get_within es p both.two.entry there)) new)) }
@@ -343,18 +349,20 @@ placed_more [] n (suc i) b e h p = cc
 placed_more (g ∷ es) n zero b e h p = let same : n ≡ b = omega (arith, p) in λ k. named_at (some_is h k) (same k) ∷ []
 placed_more (g ∷ es) n (suc i) b e h p = ap (λ l. named_at g n ∷ l) (placed_more es (n + 1) i b e h (omega (arith, p)))
 
-pub taken_in : (es : List Entry) (i : ℕ) (e : Entry) (name : List ℕ) (old new : List PlacedName) → slice_get es i ≡ Some e → name ≡ e.name → old ≡ placed_from 0 (take i es) → new ≡ old ++ record { name = name; place = i } ∷ [] → new ≡ placed_from 0 (take (i + 1) es)
-taken_in es i e name old new h same so_far is =
-    is ∙ ap (λ l. l ++ record { name = name; place = i } ∷ []) so_far ∙ ap (λ t. placed_from 0 (take i es) ++ record { name = t; place = i } ∷ []) same ∙ sym (placed_more es 0 i i e h (omega arith)) ∙ ap (λ k. placed_from 0 (take k es)) (sym (add-one i))
+pub taken_in : (es : List Entry) (i : ℕ) (e : Entry) (key : ℕ) (name : List ℕ) (old new : List PlacedName) → slice_get es i ≡ Some e → key ≡ key_of name → name ≡ e.name → old ≡ placed_from 0 (take i es) → new ≡ old ++ record { key = key; name = name; place = i } ∷ []
+    → new ≡ placed_from 0 (take (i + 1) es)
+taken_in es i e key name old new h keyed same so_far is =
+    is ∙ ap (λ l. l ++ record { key = key; name = name; place = i } ∷ []) so_far ∙ ap (λ k. placed_from 0 (take i es) ++ record { key = k; name = name; place = i } ∷ []) keyed
+    ∙ ap (λ t. placed_from 0 (take i es) ++ record { key = key_of t; name = t; place = i } ∷ []) same ∙ sym (placed_more es 0 i i e h (omega arith)) ∙ ap (λ k. placed_from 0 (take k es)) (sym (add-one i))
 
 pub all_taken : (text : List ℕ) (ns : List NameSpan) (es : List Entry) (i : ℕ) (old : List PlacedName) → AreNamesOf text ns es → length ns ≤ i → old ≡ placed_from 0 (take i es) → old ≡ placed_from 0 es
 all_taken text ns es i old are le is = let many : length es ≤ i = omega (arith, le, are_many text ns es are) in is ∙ ap (placed_from 0) (take_all i es many)
 
--- a sort by names
+-- a sort by keys and names
 pub sorts : {F : Type 0} {g : Mut F (Bor PlacedName × (Bor PlacedName × Unit {0})) Ordering} {f : F} (list : List PlacedName) → IsSortedByClosure g f list
-    → ((a : Bor PlacedName × (Bor PlacedName × Unit {0})) (r : Ordering) (f' : F) → Called g f a r f' → (r ≡ text_cmp a.0.now.name a.1.0.now.name) × (f' ≡ f)) → IsSortedBy is_below list
-sorts {g = g} {f = f} list s h = s is_below (ranks_by nat_list_cmp_total (λ m. m.name)) (always_returns_same g (λ a r. is_lt r ≡ is_below a.0.now a.1.0.now) f (λ a r f' k. (ap is_lt (h a r f' k).0, (h a r f' k).1)))
+    → ((a : Bor PlacedName × (Bor PlacedName × Unit {0})) (r : Ordering) (f' : F) → Called g f a r f' → (r ≡ text_cmp (word a.0.now) (word a.1.0.now)) × (f' ≡ f)) → IsSortedBy is_below list
+sorts {g = g} {f = f} list s h = s is_below (ranks_by nat_list_cmp_total word) (always_returns_same g (λ a r. is_lt r ≡ is_below a.0.now a.1.0.now) f (λ a r f' k. (ap is_lt (h a r f' k).0, (h a r f' k).1)))
 
 pub keeps_ties : {F : Type 0} {g : Mut F (Bor PlacedName × (Bor PlacedName × Unit {0})) Ordering} {f : F} (old new : List PlacedName) → IsStableByClosure g f old new
-    → ((a : Bor PlacedName × (Bor PlacedName × Unit {0})) (r : Ordering) (f' : F) → Called g f a r f' → (r ≡ text_cmp a.0.now.name a.1.0.now.name) × (f' ≡ f)) → IsStableBy is_below old new
-keeps_ties {g = g} {f = f} old new s h = s is_below (ranks_by nat_list_cmp_total (λ m. m.name)) (always_returns_same g (λ a r. is_lt r ≡ is_below a.0.now a.1.0.now) f (λ a r f' k. (ap is_lt (h a r f' k).0, (h a r f' k).1)))
+    → ((a : Bor PlacedName × (Bor PlacedName × Unit {0})) (r : Ordering) (f' : F) → Called g f a r f' → (r ≡ text_cmp (word a.0.now) (word a.1.0.now)) × (f' ≡ f)) → IsStableBy is_below old new
+keeps_ties {g = g} {f = f} old new s h = s is_below (ranks_by nat_list_cmp_total word) (always_returns_same g (λ a r. is_lt r ≡ is_below a.0.now a.1.0.now) f (λ a r f' k. (ap is_lt (h a r f' k).0, (h a r f' k).1)))

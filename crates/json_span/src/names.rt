@@ -4,6 +4,7 @@ ghost use Rattle.std.specs.Prelude.{◌≡◌, ◌≤◌, ◌<◌, ◌^◌, List
 ghost use Rattle.std.specs.Prelude.{true, Some, None, IfOk, IfErr, IfSome, OnOk};
 ghost use Rattle.std.specs.Str.{bytes_eq};
 ghost use Rattle.grammar.specs.Grammar.{named};
+ghost use Rattle.tk_io.specs.Order.{text_cmp};
 ghost use Rattle.json_span.specs.Grammar.{string};
 ghost use Rattle.json_span.specs.Tree.{Entry};
 ghost use Rattle.json_span.specs.Flaw.{equal_names, is_seen};
@@ -11,6 +12,7 @@ ghost use Rattle.json_span.specs.inner.Scan.{Halts};
 ghost use Rattle.json_span.specs.inner.Names.{IsNameSpan, IsNameOf, AreNamesOf, reversed_names};
 ghost use Rattle.json_span.specs.inner.Building.{flaw_view};
 ghost use Rattle.json_span.specs.inner.NameOrder.{SortsNames, TellsSecond, again_in, least, rises};
+ghost use Rattle.json_span.specs.inner.NameOrder.{key_of, word};
 
 use crate::bytes::{Class, has};
 use crate::flaw::Flaw;
@@ -18,6 +20,7 @@ use crate::scan::plain_end;
 use crate::string::characters_end;
 use crate::text::{is_string_of, string_text};
 use std::alloc::Global;
+use std::cmp::Ordering;
 use tk_io::{NoMemory, Text};
 
 /// The offsets of a name's string, and whether no escape stands in it.
@@ -44,15 +47,19 @@ impl NameSpan {
     }
 }
 
-/// A name with its place among those of the object.
+/// A name with its key and its place among those of the object.
 #[derive(Drop)]
 pub(crate) struct PlacedName<'s> {
+    key: u64,
     name: Text<'s>,
     place: usize,
 }
 
 /// Up to how many names are compared in pairs.
 const MOST_PAIRED: usize = 8;
+
+/// What a key is multiplied by for each byte: the prime of the hash FNV-1 of 64 bits.
+const KEY_FACTOR: u64 = 1_099_511_628_211;
 
 /// The name whose string stands there.
 pub(crate) fn read_name(text: &str, at: usize) -> Result<NameSpan, usize>
@@ -135,8 +142,37 @@ fn flaw_in_pairs(alloc: Global, text: &str, names: &[NameSpan]) -> Result<Option
     Ok(None)
 }
 
-// The names in their order, each with its place among those of the object; equal names stay in the
-// order of the text.
+// A number that equal names share, and by which most others differ.
+fn key_of(name: &str) -> u64
+    ensures { result ≡ key_of name.now }
+{
+    let mut key: u64 = 0;
+    for byte in name.as_bytes() {
+        key = key.wrapping_mul(KEY_FACTOR).wrapping_add(u64::from(*byte));
+    }
+    key
+}
+
+// How two names stand to each other: by their keys, and by their bytes where those are the same.
+fn compare(left: &PlacedName<'_>, right: &PlacedName<'_>) -> Ordering
+    ensures { result ≡ text_cmp (word left.now) (word right.now) }
+{
+    match left.key.cmp(&right.key) {
+        Ordering::Less => Ordering::Less,
+        Ordering::Equal => left.name.cmp(&right.name),
+        Ordering::Greater => Ordering::Greater,
+    }
+}
+
+// Whether two names are the same, and then their keys.
+fn are_equal(left: &PlacedName<'_>, right: &PlacedName<'_>) -> bool
+    ensures { result ≡ bytes_eq (word left.now) (word right.now) }
+{
+    left.key == right.key && left.name == right.name
+}
+
+// The names by their keys, each with its place among those of the object; equal names are neighbours
+// and stay in the order of the text. Numbers are compared in place of most names.
 fn sort_names<'s>(
     alloc: Global,
     text: &'s str,
@@ -148,9 +184,10 @@ fn sort_names<'s>(
     let mut sorted = Vec::with_capacity(alloc, names.len())?;
     for place in 0..names.len() {
         let name = string_text(alloc, text, names[place].offset())?;
-        sorted.push(PlacedName { name, place })?;
+        let key = key_of(name.as_str());
+        sorted.push(PlacedName { key, name, place })?;
     }
-    sorted.sort_by(|left, right| left.name.cmp(&right.name))?;
+    sorted.sort_by(|left, right| compare(left, right))?;
     Ok(sorted)
 }
 
@@ -174,14 +211,14 @@ fn first_again(sorted: &[PlacedName<'_>]) -> Option<usize>
 {
     let mut first = None;
     for i in 1..sorted.len() {
-        if sorted[i - 1].name == sorted[i].name {
+        if are_equal(&sorted[i - 1], &sorted[i]) {
             first = lesser(first, sorted[i].place);
         }
     }
     first
 }
 
-// The first name that repeats another, by names in order.
+// The first name that repeats another, by names of which equal ones are neighbours.
 fn flaw_in_order(alloc: Global, text: &str, names: &[NameSpan]) -> Result<Option<Flaw>, NoMemory>
     requires { (es : List Entry) × AreNamesOf text.now names.now es }
     ensures { IfOk result (TellsSecond text.now names.now) }

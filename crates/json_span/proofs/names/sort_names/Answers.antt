@@ -1,8 +1,8 @@
-use Rattle.std.proofs.Common.{◌≡◌, get_or, rules, sym, subst}
+use Rattle.std.proofs.Common.{◌≡◌, get_or, rules, sym, ap, subst, ◌∙◌}
 use Rattle.std.proofs.lemmas.Option.{slice_get-get_or}
 use Rattle.std.specs.List.Sorted.{IsStableBy}
 use Rattle.json_span.specs.Table.{IsString}
-use Rattle.json_span.specs.inner.NameOrder.{is_below, placed_from}
+use Rattle.json_span.specs.inner.NameOrder.{is_below, key_of, placed_from}
 use Rattle.json_span.proofs.Naming.{no_name, are_at}
 use Rattle.json_span.proofs.NameOrder.{taken_in, all_taken, sorts, keeps_ties}
 use Rattle.json_span.proofs.names.sort_names.Goals as goal
@@ -21,7 +21,8 @@ loop-place-preserved c = λ es are.
     let n = get_or c.args.names.now i no_name in
     let (e, h, is) = are_at c.args.text.now c.args.names.now es i n are (slice_get-get_or c.args.names.now i no_name c.loop-place-test.true) in
     let same : c.in_ok-name.name ≡ e.name = c.in_ok-name.ensures e.name n.end (subst (λ k. IsString c.args.text.now k e.name n.end) (sym c.offset.ensures) is.stands) in
-    taken_in es i e c.in_ok-name.name c.loop-place.sorted.items c.push.new.self.items h same (c.loop-place.invariant es are) c.in_ok-push.ensures.items
+    let keyed = c.key_of-key.ensures ∙ ap key_of c.as_str.ensures in
+    taken_in es i e c.key_of-key.result c.in_ok-name.name c.loop-place.sorted.items c.push.new.self.items h keyed same (c.loop-place.invariant es are) c.in_ok-push.ensures.items
 
 pub returns : goal.returns
 returns c = λ es are.
