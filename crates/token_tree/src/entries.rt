@@ -1,6 +1,6 @@
 //! Lists of members in the order of their names.
 
-ghost use Rattle.std.specs.Prelude.{◌≡◌, T, IfOk, IfErr, OnOk, OnErr};
+ghost use Rattle.std.specs.Prelude.{◌≡◌, [], T, IfOk, IfErr, OnOk, OnErr};
 ghost use Rattle.std.specs.FinMap.{is_sorted};
 ghost use Rattle.tk_io.specs.Order.{text_cmp};
 ghost use Rattle.token_tree.specs.MembersView.{entries_of};
@@ -10,6 +10,7 @@ ghost use Rattle.token_tree.specs.inner.Outcomes.{AreOneMap, IsPushed, IsChildPu
 use crate::tree::{Child, Member};
 use std::alloc::Global;
 use std::cmp::Ordering;
+use std::rc::Rc;
 use tk_io::{NoMemory, Text};
 
 /// Where the name stands in the list, or else where it belongs.
@@ -45,9 +46,9 @@ fn place_from_end<'s>(list: &[Member<'s>], name: &Text<'s>) -> Result<usize, usi
     place(list, name)
 }
 
-/// Puts the child under a copy of the name in its place, or replaces the child of the name. Where
-/// memory runs out the list stays.
-pub(crate) fn put_child<'s>(
+// Puts the child under a copy of the name in its place, or replaces the child of the name. Where
+// memory runs out the list stays.
+fn put_child<'s>(
     list: &mut Vec<Member<'s>>,
     name: &Text<'s>,
     child: Child<'s>,
@@ -63,6 +64,42 @@ pub(crate) fn put_child<'s>(
             list.insert(i, Member { name, child })?;
         }
     }
+    Ok(())
+}
+
+/// A list of one member: the child under a copy of the name.
+pub(crate) fn list_of_one<'s>(
+    alloc: Global,
+    name: &Text<'s>,
+    child: Child<'s>,
+) -> Result<Rc<Vec<Member<'s>>>, NoMemory>
+    ensures { IfOk result (λ list. IsChildPut name.now child.entry [] list.value.items) }
+{
+    let mut list = Vec::new(alloc);
+    let name = name.copy()?;
+    list.push(Member { name, child })?;
+    Ok(Rc::new(alloc, list)?)
+}
+
+/// Puts the child into a list that may be shared, as into one that is not; who shares it keeps the
+/// list as it was.
+pub(crate) fn put_shared<'s>(
+    alloc: Global,
+    shared: &mut Rc<Vec<Member<'s>>>,
+    name: &Text<'s>,
+    child: Child<'s>,
+) -> Result<(), NoMemory>
+    requires { T (is_sorted text_cmp (entries_of shared.old.value.items)) }
+    ensures ok { OnOk result
+        (IsChildPut name.now child.entry shared.old.value.items shared.new.value.items) }
+    ensures err { OnErr result (shared.new.value.items ≡ shared.old.value.items) }
+{
+    if let Some(list) = Rc::get_mut(shared) {
+        return put_child(list, name, child);
+    }
+    let mut list = copy_list(alloc, shared.as_slice())?;
+    put_child(&mut list, name, child)?;
+    *shared = Rc::new(alloc, list)?;
     Ok(())
 }
 
@@ -90,8 +127,8 @@ pub(crate) fn push_some<'s>(
     Ok(())
 }
 
-/// A list of the same members, which shares what they hold.
-pub(crate) fn copy_list<'s>(alloc: Global, list: &[Member<'s>]) -> Result<Vec<Member<'s>>, NoMemory>
+// A list of the same members, which shares what they hold.
+fn copy_list<'s>(alloc: Global, list: &[Member<'s>]) -> Result<Vec<Member<'s>>, NoMemory>
     ensures { IfOk result (λ copies. entries_of copies.items ≡ entries_of list.now) }
 {
     let mut copies = Vec::with_capacity(alloc, list.len())?;

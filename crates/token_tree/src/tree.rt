@@ -12,7 +12,7 @@ ghost use Rattle.token_tree.specs.View.{group_view, member_view};
 ghost use Rattle.token_tree.specs.inner.Lists.{NamesApart};
 
 use crate::definition::TokenDef;
-use crate::entries::{copy_list, place, put_child, sort_members};
+use crate::entries::{list_of_one, place, put_shared, sort_members};
 use crate::mark::Mark;
 use name_path::{Kind, Path};
 use std::alloc::Global;
@@ -228,20 +228,13 @@ impl<'s> Members<'s> {
         ensures at { OnOk result (PutsEntry self.old self.new name.now (child_view child.entry)) }
         ensures err { OnErr result (self.new ≡ self.old) }
     {
-        let Some(shared) = &mut self.entries else {
-            let mut list = Vec::new(self.alloc);
-            let name = name.copy()?;
-            list.push(Member { name, child })?;
-            self.entries = Some(Rc::new(self.alloc, list)?);
-            return Ok(());
-        };
-        if let Some(list) = Rc::get_mut(shared) {
-            return put_child(list, name, child);
+        match &mut self.entries {
+            Some(shared) => put_shared(self.alloc, shared, name, child),
+            None => {
+                self.entries = Some(list_of_one(self.alloc, name, child)?);
+                Ok(())
+            }
         }
-        let mut list = copy_list(self.alloc, shared.as_slice())?;
-        put_child(&mut list, name, child)?;
-        *shared = Rc::new(self.alloc, list)?;
-        Ok(())
     }
 }
 
