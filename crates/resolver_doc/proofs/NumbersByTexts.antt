@@ -1,5 +1,5 @@
 -- Maps from the bytes of texts to numbers, as entries show them.
-use Rattle.std.proofs.Common.{◌≡◌, ℕ, ◌+◌, ◌<◌, ◌≤◌, length, get_or, drop, List, [], ◌∷◌, Option, Some, None, option_map, is_some, Result, Ok, Err, OnOk, cond, sym, ◌∙◌, ap, subst, refl, Bool, true, false}
+use Rattle.std.proofs.Common.{◌≡◌, ℕ, ◌+◌, ◌<◌, ◌≤◌, length, get_or, drop, List, [], ◌∷◌, Option, Some, None, option_map, is_some, cond, sym, ◌∙◌, ap, refl, Bool, true, false}
 use Rattle.std.proofs.lemmas.List.{drop_more, drop_all}
 use Rattle.std.proofs.lemmas.Map.Text.{is_eq-slice_cmp}
 use Rattle.std.proofs.lemmas.Slice.Eq.{bytes_eq-Decides}
@@ -17,7 +17,6 @@ use Rattle.tk_io.specs.View.{entries_view}
 use Rattle.json_span.specs.Tree.{Entry}
 use Rattle.json_span.specs.View.{field_view}
 use Rattle.json_span.specs.declared.fields.Field.{Field}
-use Rattle.tk_io.specs.declared.faults.NoMemory.{NoMemory}
 use Rattle.tk_io.proofs.MapViews as views
 use Rattle.tk_io.proofs.MapViews.{at_insert}
 use Rattle.tk_io.proofs.TextMaps.{text_cmp-IsAntisymmetric}
@@ -47,10 +46,6 @@ is_none : {A : Type 0} (o : Option A) → is_some o ≡ false → o ≡ None
 is_none None e = refl
 is_none (Some x) e = cc
 
-stays : {A : Type 0} (o p : Option A) → is_some o ≡ true → o ≡ option_or o p
-stays None p e = cc
-stays (Some x) p e = refl
-
 same : (text q : List ℕ) → bytes_eq text q ≡ true → text ≡ q
 same text q e = (bytes_eq-Decides text q).0 e
 
@@ -64,17 +59,17 @@ adds_new before text number none q =
     at true e = sym (ap (λ o. option_or o (Some number)) (ap (map.get before) (sym (same text q e)) ∙ is_none (map.get before text) none))
     at false e = or_none (map.get before q)
 
--- a text at which something stands is left
-pub adds_none : (before : Numbers) (text : List ℕ) (number : ℕ) → is_some (map.get before text) ≡ true → AddsFirst before before text number
-adds_none before text number some q = at (bytes_eq text q) refl
+-- a number that stood at the text is put back
+pub puts_back : (before between after : Numbers) (text : List ℕ) (number earlier : ℕ) → Some earlier ≡ map.get before text → between ≡ map.insert before text number → after ≡ map.insert between text earlier → AddsFirst before after text number
+puts_back before between after text number earlier some e f q =
+    ap (λ m. map.get m q) (f ∙ ap (λ m. map.insert m text earlier) e)
+    ∙ (at_insert nat_list_cmp_total (map.insert before text number) text earlier q
+    ∙ (ap (λ o. cond (is_eq (text_cmp text q)) (Some earlier) o) (at_insert nat_list_cmp_total before text number q)
+    ∙ (ap (λ b. cond b (Some earlier) (cond b (Some number) (map.get before q))) (is_eq-slice_cmp text q) ∙ at (bytes_eq text q) refl)))
   where
-    at : (b : Bool) → bytes_eq text q ≡ b → map.get before q ≡ option_or (map.get before q) (cond b (Some number) None)
-    at true e = stays (map.get before q) (Some number) (ap (λ t. is_some (map.get before t)) (sym (same text q e)) ∙ some)
-    at false e = or_none (map.get before q)
-
-pub put_new : (r : Result (Unit {0}) NoMemory) (before after : Numbers) (text : List ℕ) (number : ℕ) → is_some (map.get before text) ≡ false → OnOk r (after ≡ map.insert before text number) → OnOk r (AddsFirst before after text number)
-put_new (Ok u) before after text number none e = subst (λ m. AddsFirst before m text number) (sym e) (adds_new before text number none)
-put_new (Err e) before after text number none h = tt
+    at : (b : Bool) → bytes_eq text q ≡ b → cond b (Some earlier) (cond b (Some number) (map.get before q)) ≡ option_or (map.get before q) (cond b (Some number) None)
+    at true h = ap (λ o. option_or o (Some number)) (some ∙ ap (map.get before) (same text q h))
+    at false h = or_none (map.get before q)
 
 -- with the next member, the others complete the numbers
 pub completes_next : (name : List ℕ) (before after : Numbers) (n : ℕ) (e : Entry) (es all : List Entry) → Completes name before n (e ∷ es) all → AddsFirst before after (pointer name e) n → Completes name after (n + 1) es all

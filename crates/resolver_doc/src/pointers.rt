@@ -51,23 +51,25 @@ impl Pointers {
         self.numbers.get(text).copied()
     }
 
-    fn put(&mut self, text: &[u8], number: usize) -> Result<(), NoMemory>
-        ensures { OnOk result (self.new ≡ map.insert self.old text.now number) }
+    // Puts the number under the text, and answers the one that stood there.
+    fn put(&mut self, text: &[u8], number: usize) -> Result<Option<usize>, NoMemory>
+        ensures new { OnOk result (self.new ≡ map.insert self.old text.now number) }
+        ensures old { IfOk result (λ earlier. earlier ≡ map.get self.old text.now) }
     {
         let mut key = Vec::new(self.alloc);
         key.extend_from_slice(text)?;
-        self.numbers.insert(key, number)?;
-        Ok(())
+        Ok(self.numbers.insert(key, number)?)
     }
 
-    /// Puts the number under the text, unless one stands there.
+    /// Puts the number under the text, unless one stands there: that one is put back, which is rare, so that a text is
+    /// looked for once.
     pub(crate) fn put_first(&mut self, text: &[u8], number: usize) -> Result<(), NoMemory>
         ensures { OnOk result (AddsFirst self.old self.new text.now number) }
     {
-        if self.get(text).is_some() {
-            return Ok(());
+        if let Some(earlier) = self.put(text, number)? {
+            let _ = self.put(text, earlier)?;
         }
-        self.put(text, number)
+        Ok(())
     }
 }
 
