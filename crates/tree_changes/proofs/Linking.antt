@@ -21,7 +21,7 @@ use Rattle.alias_ref.specs.Written.{Step}
 use Rattle.tree_changes.specs.Reached.{is_changed, IsReached}
 use Rattle.tree_changes.specs.Lone.{IsLone, AreLone}
 use Rattle.tree_changes.specs.Standing.{StandsAt}
-use Rattle.tree_changes.specs.inner.Links.{IsThere, IsStillAbsent, IsListed, IsNameOf, AreNamed, NamesChanged, BeginsAt, IsLinked, AreLinked}
+use Rattle.tree_changes.specs.inner.Links.{IsThere, IsStillEnd, IsListed, IsNameOf, AreNamed, NamesChanged, BeginsAt, IsLinked, AreLinked, IsMissed}
 use Rattle.tree_changes.proofs.LinksReach.{some_is, there_found}
 use Rattle.tree_changes.proofs.Walks.{begun}
 
@@ -158,13 +158,13 @@ module _ (old new : Flat) (i : ℕ) (token : TokenAt) (edges : List (List ℕ)) 
     linked : IsLinked old new after i token
     linked = record {
       same = same;
-      all = λ name j. subst (λ (ps : List ℕ). IsListed new ps name ⊎ IsStillAbsent old new name) (sym (at_it i refl)) (named.all name j);
+      all = λ name j. subst (λ (ps : List ℕ). IsListed new ps name ⊎ IsStillEnd old new name) (sym (at_it i refl)) (named.all name j);
     }
 
     moved : (place : ℕ) (other : TokenAt) → place ≢ i → IsLinked old new edges place other → IsLinked old new after place other
     moved place other n l = record {
       same = l.same;
-      all = λ name j. subst (λ (ps : List ℕ). IsListed new ps name ⊎ IsStillAbsent old new name) (sym (elsewhere place n)) (l.all name j);
+      all = λ name j. subst (λ (ps : List ℕ). IsListed new ps name ⊎ IsStillEnd old new name) (sym (elsewhere place n)) (l.all name j);
     }
 
     all_linked : (place : ℕ) (other : TokenAt) → place < i + 1 → slice_get tokens place ≡ Some other → In place begins ⊎ IsLinked old new after place other
@@ -220,6 +220,18 @@ lone_there refs old new lone token there place is known of_there of_token at sai
     let one : other ≡ there = some_is (sym other_at ∙ at) in
     let source : there.1.def.source ≡ token.1.def.source = ap (λ r. r.source) (subst (λ (t : TokenAt). raw_of t.1 ≡ raw_of token.1) one same) in
     sym (refs there.1.def token.1.def of_there of_token source) ∙ known place there is at said e
+
+-- .. and where it is named, it is an end as before
+pub lone_missed : DifferDecides → (old new : Flat) (i : ℕ) (token : TokenAt) (place : Option ℕ) (name : List Step) (row : List ℕ)
+    → slice_get (finite.entries new) i ≡ Some token → token.0 ≡ name → StandsAt old new token place → is_some place ≡ true → IsLone token true
+    → IsMissed old new name row row false
+lone_missed decides old new i token place name row at named stands some lone =
+    let there : finite.get new name ≡ Some token.1 = subst (λ (p : List Step). finite.get new p ≡ Some token.1) named (there_found new token.0 token.1 i at) in
+    record {
+      ends = λ f e. subst (λ (g : Flattened). refs_of g.def ≡ []) (some_is (sym there ∙ e)) (lone refl);
+      same_row = refl;
+      changed = subst (λ (p : List Step). false ≡ is_changed old new p) named (sym (stands_same decides old new i token place at stands some));
+    }
 
 pub none_lone : (token : TokenAt) → IsLone token false
 none_lone token e = cc

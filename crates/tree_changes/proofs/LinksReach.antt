@@ -15,7 +15,7 @@ use Rattle.alias_ref.specs.Refs.{refs_of}
 use Rattle.alias_ref.specs.Unchanged.{Reaches, at_start, by_reference}
 use Rattle.alias_ref.specs.Written.{Step}
 use Rattle.tree_changes.specs.Reached.{is_changed, IsReached}
-use Rattle.tree_changes.specs.inner.Links.{IsThere, IsStillAbsent, IsListed, IsNameOf, BeginsAt, IsLinked, AreLinked}
+use Rattle.tree_changes.specs.inner.Links.{IsThere, IsStillEnd, IsListed, IsNameOf, BeginsAt, IsLinked, AreLinked}
 use Rattle.tree_changes.proofs.MapEntries.{entry_found}
 use Rattle.tree_changes.proofs.Walks.{begun}
 
@@ -65,18 +65,18 @@ module _ (old new : Flat) (edges : List (List ℕ)) (begins : List ℕ) (are : A
       }
 
   -- A walk of references from a token: a change begins on its way, or a walk of edges goes along with it, or it ends at a
-  -- name that is absent as before.
+  -- name from which none leads on, as before.
   abbrev ComesAlong : ℕ → List Step → Type 0
   ComesAlong v end = (u : ℕ) × IsThere new end u × Walk edges v u
 
   abbrev Leads : ℕ → List Step → Type 0
-  Leads v end = WalksTo edges begins v ⊎ (ComesAlong v end ⊎ IsStillAbsent old new end)
+  Leads v end = WalksTo edges begins v ⊎ (ComesAlong v end ⊎ IsStillEnd old new end)
 
   one_further : (v u : ℕ) (middle end : List Step) (g : Flattened) → slice_get tokens u ≡ Some (middle, g) → Walk edges v u
       → In end (refs_of g.def) → Leads v end
   one_further v u middle end g at so_far i = go (are.all u (middle, g) (slice_get_within tokens u (middle, g) at) at)
     where
-      next : IsListed new (targets_of edges u) end ⊎ IsStillAbsent old new end → Leads v end
+      next : IsListed new (targets_of edges u) end ⊎ IsStillEnd old new end → Leads v end
       next (inl n) = inr (inl (n.place, n.there, further edges v u n.place so_far (in_has_place n.place (targets_of edges u) n.among)))
       next (inr still) = inr (inr still)
 
@@ -95,7 +95,7 @@ module _ (old new : Flat) (edges : List (List ℕ)) (begins : List ℕ) (are : A
       go (inl done) = inl done
       go (inr (inl (u, is, so_far))) =
           one_further v u middle end is.0 is.1 so_far (subst (λ (h : Flattened). In end (refs_of h.def)) (same is.0 u is.1) i)
-      go (inr (inr still)) = absurd (some_none (sym still.absent ∙ there))
+      go (inr (inr still)) = absurd (subst (In end) (still.ends f there) i)
 
   back : (v : ℕ) (token : TokenAt) → slice_get tokens v ≡ Some token → IsReached old new token.0 → WalksTo edges begins v
   back v token at r = go (leads v token r.end at r.walk)

@@ -55,16 +55,20 @@ same_at (t ∷ ts) (suc i) c d h = same_at ts i c d (omega (arith, h))
 
 -- The turns of a search.
 
+pub key_place : (tokens : List TokenAt) (path : List Step) (i : ℕ) → T (is_sorted names_cmp tokens) → i < length tokens
+    → ((d : TokenAt) → names_cmp (get_or tokens i d).0 path ≡ Equal) → IsPlaceOf tokens path (Some i)
+key_place tokens path i sorted within ties = (
+  within,
+  (λ d. same_path (get_or tokens i d).0 path (ties d)),
+  (λ d. subst (λ (l : List TokenAt). find names_cmp path l ≡ Some (get_or tokens i d).1) (as_entries tokens)
+      (found_at total key value path tokens i d (in_order tokens sorted) within (ties d))),
+)
+
 pub found_place : (tokens : List TokenAt) (path : List Step) (i : ℕ) (e : TokenAt) → T (is_sorted names_cmp tokens)
     → i < length tokens → e ≡ get_or tokens i e → names_cmp path e.0 ≡ Equal → IsPlaceOf tokens path (Some i)
 found_place tokens path i e sorted within is tie =
-    let at : (d : TokenAt) → get_or tokens i d ≡ e = λ d. same_at tokens i d e within ∙ sym is in (
-      within,
-      (λ d. ap key (at d) ∙ sym (same_path path e.0 tie)),
-      (λ d. subst (λ (l : List TokenAt). find names_cmp path l ≡ Some (get_or tokens i d).1) (as_entries tokens)
-          (found_at total key value path tokens i d (in_order tokens sorted) within
-          (ap (λ (t : TokenAt). names_cmp t.0 path) (at d) ∙ turned path e.0 Equal tie))),
-    )
+    key_place tokens path i sorted within (λ d.
+    ap (λ (t : TokenAt). names_cmp t.0 path) (same_at tokens i d e within ∙ sym is) ∙ turned path e.0 Equal tie)
 
 pub missed : (tokens : List TokenAt) (path : List Step) (i : ℕ) → IsPassed tokens path i
     → AllWithin (λ (t : TokenAt). names_cmp t.0 path ≡ Greater) tokens i (length tokens) → IsPlaceOf tokens path None

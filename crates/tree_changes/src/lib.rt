@@ -3,6 +3,7 @@
 #![tactic(auto)]
 
 mod definitions;
+mod index;
 mod keeping;
 mod laws;
 mod links;

@@ -5,12 +5,40 @@ ghost use Rattle.std.specs.FinMap.Entries.{is_sorted};
 ghost use Rattle.tk_io.specs.Order.{names_cmp};
 ghost use Rattle.tree_changes.specs.inner.Places.{IsPlaceOf};
 
-use group_inherit::Entry;
+use crate::index::Index;
+use group_inherit::{Entry, Flat};
 use name_path::Path;
+use std::alloc::Global;
 use std::cmp::Ordering;
+use tk_io::NoMemory;
+
+/// How many tokens of a flat tree there are for each one that may name others, at most, where an index is worth its while.
+const TOKENS_A_NAMING: usize = 8;
+
+/// How many of the tokens are known to be lone.
+fn count_lone(lone: &[bool]) -> usize {
+    let mut count: usize = 0;
+    for is_lone in lone {
+        if *is_lone {
+            count = count.saturating_add(1);
+        }
+    }
+    count
+}
+
+/// An index of the tokens of a flat tree, where so many of an earlier one may name others that it is worth its while; else an
+/// empty one.
+pub(crate) fn index_of(alloc: Global, lone: &[bool], flat: &Flat<'_>) -> Result<Index, NoMemory> {
+    let tokens = flat.as_slice();
+    let naming = tokens.len().saturating_sub(count_lone(lone));
+    if naming < tokens.len() / TOKENS_A_NAMING {
+        return Ok(Index::new(alloc));
+    }
+    Index::of(alloc, tokens)
+}
 
 /// The place of the token of this path, by halves.
-pub(crate) fn place_of<'s>(tokens: &[(Path<'s>, Entry<'s>)], path: &Path<'s>) -> Option<usize>
+fn by_halves<'s>(tokens: &[(Path<'s>, Entry<'s>)], path: &Path<'s>) -> Option<usize>
     requires { T (is_sorted names_cmp tokens.now) }
     ensures { IsPlaceOf tokens.now path.now result }
 {
@@ -25,4 +53,19 @@ pub(crate) fn place_of<'s>(tokens: &[(Path<'s>, Entry<'s>)], path: &Path<'s>) ->
         }
     }
     None
+}
+
+/// The place of the token of this path: by the index, and where that does not find it by halves.
+pub(crate) fn place_of<'s>(
+    index: &Index,
+    tokens: &[(Path<'s>, Entry<'s>)],
+    path: &Path<'s>,
+) -> Option<usize>
+    requires { T (is_sorted names_cmp tokens.now) }
+    ensures { IsPlaceOf tokens.now path.now result }
+{
+    match index.found(tokens, path) {
+        Some(i) => Some(i),
+        None => by_halves(tokens, path),
+    }
 }

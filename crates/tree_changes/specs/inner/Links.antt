@@ -16,9 +16,13 @@ use Rattle.tree_changes.specs.declared.links.Links.{Links}
 abbrev pub IsThere : Flat → List Step → ℕ → Type 0
 IsThere flat path i = (f : Flattened) × (slice_get (finite.entries flat) i ≡ Some (path, f))
 
--- no token stands at the path, as before
-pub record IsStillAbsent (old new : Flat) (path : List Step) : Type 0 where
-  pub absent : finite.get new path ≡ None
+-- no reference leads on from the path, since no token stands there, or one that names no other
+abbrev pub EndsAt : Flat → List Step → Type 0
+EndsAt new path = (f : Flattened) → finite.get new path ≡ Some f → refs_of f.def ≡ []
+
+-- .. and it is not changed
+pub record IsStillEnd (old new : Flat) (path : List Step) : Type 0 where
+  pub ends : EndsAt new path
   pub same : is_changed old new path ≡ false
 
 -- A name that is looked for: the place of its token came behind those of the row ..
@@ -28,9 +32,9 @@ pub record IsFound (new : Flat) (name : List Step) (before after : List ℕ) (go
   pub added : after ≡ before ++ place ∷ []
   pub stands : gone ≡ false
 
--- .. or there is none, and the row stays
+-- .. or no reference leads on from it, and the row stays
 pub record IsMissed (old new : Flat) (name : List Step) (before after : List ℕ) (gone : Bool) : Type 0 where
-  pub absent : finite.get new name ≡ None
+  pub ends : EndsAt new name
   pub same_row : after ≡ before
   pub changed : gone ≡ is_changed old new name
 
@@ -49,10 +53,10 @@ pub record IsNameOf (new : Flat) (names : List (List Step)) (place : ℕ) : Type
   pub among : In name names
   pub there : IsThere new name place
 
--- the row has the places of these names, but for those that are absent as before
+-- the row has the places of these names, but for those that are ends as before
 pub record AreNamed (old new : Flat) (names : List (List Step)) (row : List ℕ) : Type 0 where
   pub each : (place : ℕ) → In place row → IsNameOf new names place
-  pub all : (name : List Step) → In name names → IsListed new row name ⊎ IsStillAbsent old new name
+  pub all : (name : List Step) → In name names → IsListed new row name ⊎ IsStillEnd old new name
 
 -- one of the names is changed
 pub record NamesChanged (old new : Flat) (names : List (List Step)) : Type 0 where
@@ -60,7 +64,7 @@ pub record NamesChanged (old new : Flat) (names : List (List Step)) : Type 0 whe
   pub among : In name names
   pub changed : is_changed old new name ≡ true
 
--- one of the names is gone, or the row has the places of all
+-- one of the names is gone, or the row has the places of those from which references may lead on
 pub record IsRow (old new : Flat) (names : List (List Step)) (row : List ℕ) (gone : Bool) : Type 0 where
   pub lost : gone ≡ true → NamesChanged old new names
   pub named : gone ≡ false → AreNamed old new names row
@@ -71,10 +75,10 @@ pub record BeginsAt (old new : Flat) (place : ℕ) : Type 0 where
   pub there : IsThere new path place
   pub reached : IsReached old new path
 
--- a token that is not changed itself, whose edges lead to all tokens that it names
+-- a token that is not changed itself, whose edges lead to all tokens that it names, but for those that stand as before and name no other
 pub record IsLinked (old new : Flat) (edges : List (List ℕ)) (place : ℕ) (token : TokenAt) : Type 0 where
   pub same : is_changed old new token.0 ≡ false
-  pub all : (name : List Step) → In name (refs_of token.1.def) → IsListed new (targets_of edges place) name ⊎ IsStillAbsent old new name
+  pub all : (name : List Step) → In name (refs_of token.1.def) → IsListed new (targets_of edges place) name ⊎ IsStillEnd old new name
 
 -- The first tokens of the tree were looked at: each is one at which a change begins, or is linked to those that it names.
 -- Edges lead to tokens that are named, and a change begins at tokens that are reached.

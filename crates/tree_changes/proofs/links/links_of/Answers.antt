@@ -31,10 +31,12 @@ add-requires c =
     let placed : slice_get c.args.places.now i ≡ Some place = slice_get-get_or c.args.places.now i None within in
     let stands = at_places (StandsAt old new) (finite.entries new) c.args.places.now i token place c.requires.places at placed in
     record {
+      places = c.requires.places;
+      known = c.requires.lone;
       token = at;
       same = λ e. stands_same c.differ_decides.ensures old new i token place at stands (sym c.is_some.ensures ∙ e);
       other = λ e. stands_other old new token place stands (sym c.is_some.ensures ∙ e);
-      lone = c.is_lone-is_lone.ensures new stands;
+      lone = c.is_lone-is_lone.ensures.lone new stands;
       links = c.loop-i.invariant;
     }
 

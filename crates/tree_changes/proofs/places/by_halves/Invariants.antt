@@ -4,7 +4,7 @@ use Rattle.std.specs.List.{AllWithin}
 use Rattle.tk_io.specs.Order.{names_cmp}
 use Rattle.group_inherit.specs.Flattening.{TokenAt}
 use Rattle.tree_changes.specs.inner.Places.{IsPassed}
-use Rattle.tree_changes.proofs.places.place_of.Given as goal
+use Rattle.tree_changes.proofs.places.by_halves.Given as goal
 
 abbrev pub decreases-loop-low : goal.decreases-loop-low
 decreases-loop-low l = l.high - l.low
