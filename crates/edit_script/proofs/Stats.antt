@@ -1,30 +1,10 @@
--- The short statistics, commit after commit, and the numbers of a commit.
-use Rattle.std.proofs.Common.{◌≡◌, ◌∙◌, ℕ, suc, ◌+◌, ◌<◌, ◌≤◌, List, [], ◌∷◌, ◌++◌, length, drop, get_or, Some, None, refl, sym, ap, arith, append_assoc, append-nil, drop-cons, add-one}
+-- The numbers of a commit in the statistics.
+use Rattle.std.proofs.Common.{◌≡◌, ◌∙◌, ℕ, suc, ◌+◌, ◌<◌, ◌≤◌, List, [], ◌∷◌, length, drop, get_or, Some, None, refl, sym, ap, arith, drop-cons, add-one}
 use Rattle.std.proofs.Common.{map as map_list}
 use Rattle.std.proofs.lemmas.List.{get_or-map, drop_all, length-map}
-use Rattle.std.specs.FinMap as map
-use Rattle.edit_script.specs.Delta.{ChangeData, Delta}
+use Rattle.edit_script.specs.Delta.{ChangeData}
 use Rattle.edit_script.specs.View.{Lined}
-use Rattle.edit_script.specs.Stats.{without_lines, gone_count, written_count, short_line, short_lines, short_stats}
-use Rattle.edit_script.specs.Stream.{line_text}
-use Rattle.edit_script.specs.declared.line.Line.TheVariants.{StatsHead, Done}
-use Rattle.edit_script.proofs.Deltas.{same_count, next_count}
-
-pub no_lines : (k : ℕ) → short_lines k [] ≡ []
-unfolding short_lines
-no_lines k = refl
-
-pub more_lines : (k : ℕ) (ds : List Delta) (d : Delta) → short_lines k (ds ++ d ∷ []) ≡ short_lines k ds ++ line_text (short_line (k + length ds) (map.entries d))
-unfolding short_lines
-more_lines k [] d = append-nil (line_text (short_line k (map.entries d))) ∙ ap (λ n. line_text (short_line n (map.entries d))) (same_count k)
-more_lines k (e ∷ ds) d =
-    ap (λ l. line_text (short_line k (map.entries e)) ++ l) (more_lines (k + 1) ds d)
-    ∙ (ap (λ n. line_text (short_line k (map.entries e)) ++ (short_lines (k + 1) ds ++ line_text (short_line n (map.entries d)))) (next_count k (length ds))
-    ∙ sym (append_assoc (line_text (short_line k (map.entries e))) (short_lines (k + 1) ds) (line_text (short_line (k + suc (length ds)) (map.entries d)))))
-
-pub stats_are : (ds : List Delta) → short_stats ds ≡ line_text StatsHead ++ short_lines 1 ds ++ line_text (Done (length ds))
-unfolding short_stats
-stats_are ds = refl
+use Rattle.edit_script.specs.Stats.{without_lines, gone_count, written_count}
 
 -- each change has new bytes or is of an output that is held no more
 pub counts_whole : (cs : List ChangeData) → written_count cs + gone_count cs ≡ length cs

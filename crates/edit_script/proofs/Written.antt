@@ -45,3 +45,14 @@ pub line_carried : (cs : List ChangeData) (i : ℕ) (change : Lined) → slice_g
 line_carried [] i change e = absurd (none-some change e)
 line_carried (x ∷ cs) zero change e = subst (λ z. z ≡ with_line z.0) (same_Some (with_line x) change e) refl
 line_carried (x ∷ cs) (suc i) change e = line_carried cs i change e
+
+-- six words with a number each, and an end
+pub six_numbers : (a b c d e f g : List ℕ) (u v w x y z : List ℕ) (k l m n o p : List ℕ) (end : List ℕ)
+    → a ≡ u ++ k → b ≡ a ++ v ++ l → c ≡ b ++ w ++ m → d ≡ c ++ x ++ n → e ≡ d ++ y ++ o → f ≡ e ++ z ++ p → g ≡ f ++ end
+    → g ≡ u ++ k ++ v ++ l ++ w ++ m ++ x ++ n ++ y ++ o ++ z ++ p ++ end
+six_numbers a b c d e f g u v w x y z k l m n o p end first second third fourth fifth sixth last =
+    last
+    ∙ ap (λ s. s ++ end)
+    (sixth
+    ∙ ap (λ s. s ++ z ++ p)
+    (fifth ∙ ap (λ s. s ++ y ++ o) (fourth ∙ ap (λ s. s ++ x ++ n) (third ∙ ap (λ s. s ++ w ++ m) (second ∙ ap (λ s. s ++ v ++ l) first)))))

@@ -1,11 +1,10 @@
--- The short statistics: how many outputs each commit writes, and how many it gives up.
-use Rattle.std.specs.Prelude.{ℕ, suc, ◌+◌, List, [], ◌∷◌, ◌++◌, length, map as map_list, Some, None}
-use Rattle.std.specs.FinMap as map
+-- The numbers of a commit in the statistics: how many outputs it writes, and how many it gives up, beside how much was done
+-- for it.
+use Rattle.std.specs.Prelude.{ℕ, suc, List, [], ◌∷◌, map as map_list, Some, None}
 use Rattle.edit_script.specs.declared.line.Line.{Line}
-use Rattle.edit_script.specs.declared.line.Line.TheVariants.{StatsHead, Short, Done}
-use Rattle.edit_script.specs.Delta.{ChangeData, Delta}
+use Rattle.edit_script.specs.declared.line.Line.TheVariants.{Stats}
+use Rattle.edit_script.specs.Delta.{ChangeData}
 use Rattle.edit_script.specs.View.{Lined}
-use Rattle.edit_script.specs.Stream.{line_text}
 
 -- how many of the changes have new bytes
 abbrev pub written_count : List ChangeData → ℕ
@@ -19,19 +18,11 @@ gone_count [] = 0
 gone_count ((path, None) ∷ cs) = suc (gone_count cs)
 gone_count ((path, Some bytes) ∷ cs) = gone_count cs
 
--- the line of the commit with this number and these changes
-abbrev pub short_line : ℕ → List ChangeData → Line
-short_line k cs = Short k (written_count cs) (gone_count cs)
+-- the line of the commit with this number, for which so many files were read, permutations merged and tokens evaluated,
+-- and of these changes
+abbrev pub stats_line : ℕ → ℕ → ℕ → ℕ → List ChangeData → Line
+stats_line k parsed merged evaluated cs = Stats k parsed merged evaluated (written_count cs) (gone_count cs)
 
 -- changes without the lines that they carry
 abbrev pub without_lines : List Lined → List ChangeData
 without_lines changes = map_list (λ change. change.0) changes
-
--- the lines of commits, the first of them with this number
-unfoldable pub short_lines : ℕ → List Delta → List ℕ
-short_lines k [] = []
-short_lines k (d ∷ ds) = line_text (short_line k (map.entries d)) ++ short_lines (k + 1) ds
-
--- the short statistics of one delta a commit: the header, the commits, counted from 1, and how many they were
-unfoldable pub short_stats : List Delta → List ℕ
-short_stats ds = line_text StatsHead ++ short_lines 1 ds ++ line_text (Done (length ds))

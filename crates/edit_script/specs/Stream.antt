@@ -4,7 +4,7 @@ use Rattle.std.specs.FinMap as map
 use Rattle.std.specs.Fmt.{decimal}
 use Rattle.std.specs.List.{flat_map}
 use Rattle.edit_script.specs.declared.line.Line.{Line}
-use Rattle.edit_script.specs.declared.line.Line.TheVariants.{StreamHead, StatsHead, Commit, Short, Done}
+use Rattle.edit_script.specs.declared.line.Line.TheVariants.{StreamHead, StatsHead, Commit, Stats, Done}
 use Rattle.edit_script.specs.Delta.{ChangeData, Delta}
 
 -- the line, with its line end
@@ -12,7 +12,10 @@ abbrev pub line_text : Line → List ℕ
 line_text StreamHead = codes "tokc-stream 1\n"
 line_text StatsHead = codes "tokc-stats 1\n"
 line_text (Commit k) = codes "commit " ++ decimal k ++ codes "\n"
-line_text (Short k written gone) = codes "commit " ++ decimal k ++ codes " written " ++ decimal written ++ codes " gone " ++ decimal gone ++ codes "\n"
+line_text (Stats k parsed merged evaluated written gone) =
+    codes "commit " ++ decimal k ++ codes " parsed " ++ decimal parsed ++ codes " merged " ++ decimal merged
+    ++ codes " evaluated " ++ decimal evaluated ++ codes " written " ++ decimal written ++ codes " gone " ++ decimal gone
+    ++ codes "\n"
 line_text (Done n) = codes "done " ++ decimal n ++ codes "\n"
 
 -- the first line of a change's record

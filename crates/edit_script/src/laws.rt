@@ -12,10 +12,9 @@ ghost use Rattle.edit_script.specs.Delta.{held_at};
 ghost use Rattle.edit_script.specs.Script.{EventData, IsScript, IsScriptOf, IsScriptStop};
 ghost use Rattle.edit_script.specs.Script.{IsSpellable, event_text, header};
 ghost use Rattle.edit_script.specs.declared.version.Version.TheVariants.{First, Second};
-ghost use Rattle.edit_script.specs.declared.line.Line.TheVariants.{StreamHead, StatsHead};
+ghost use Rattle.edit_script.specs.declared.line.Line.TheVariants.{StreamHead};
 ghost use Rattle.edit_script.specs.declared.line.Line.TheVariants.{Commit as CommitLine, Done};
 ghost use Rattle.edit_script.specs.View.{Lined, with_line};
-ghost use Rattle.edit_script.specs.Stats.{short_line, short_lines, short_stats};
 ghost use Rattle.edit_script.specs.Stream.{commits_text, line_text, pieces_of, record_of};
 ghost use Rattle.edit_script.specs.Stream.{stream_of, stream_pieces};
 
@@ -91,16 +90,6 @@ pub fn stream_parts()
         ++ flat_map record_of (map.entries d) }
     ensures end { (ds : List Delta)
         → stream_of ds ≡ line_text StreamHead ++ commits_text 1 ds ++ line_text (Done (length ds)) }
-{}
-
-/// The short statistics before their first commit, after one commit more, and at their end.
-pub fn stats_parts()
-    ensures none { (k : ℕ) → short_lines k [] ≡ [] }
-    ensures more { (k : ℕ) → (ds : List Delta) → (d : Delta)
-        → short_lines k (ds ++ d ∷ [])
-        ≡ short_lines k ds ++ line_text (short_line (k + length ds) (map.entries d)) }
-    ensures end { (ds : List Delta)
-        → short_stats ds ≡ line_text StatsHead ++ short_lines 1 ds ++ line_text (Done (length ds)) }
 {}
 
 /// The pieces of a record, and of a stream, one after another, are that record and that stream.

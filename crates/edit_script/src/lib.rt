@@ -2,6 +2,7 @@
 #![tactic(auto)]
 
 mod change;
+mod counts;
 mod cut;
 mod event;
 mod event_line;
@@ -15,10 +16,10 @@ mod outcome;
 mod path;
 mod record_line;
 mod script;
-mod short;
 mod version;
 
 pub use change::{Change, Changes};
+pub use counts::stats_line;
 pub use event::{Event, Events};
 pub use file_laws::{
     counted_commits, first_texts, fitting_events, made_lengths, one_map, one_more_event,
@@ -27,7 +28,7 @@ pub use file_laws::{
 pub use fitting::{effect, made_length};
 pub use laws::{
     carried_lines, delta_applies, deltas_apply, one_delta, one_more_delta, one_reading, one_stop,
-    pieces_are_whole, script_is_text, second_version, spellings_apart, stats_parts, stream_parts,
+    pieces_are_whole, script_is_text, second_version, spellings_apart, stream_parts,
 };
 pub use line::{Line, write_line};
 pub use merging::delta;
@@ -35,5 +36,4 @@ pub use outcome::Outcome;
 pub use path::is_path;
 pub use record_line::write_change;
 pub use script::{ScriptStop, read_script};
-pub use short::short_line;
 pub use version::Version;

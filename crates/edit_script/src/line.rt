@@ -20,10 +20,13 @@ pub enum Line {
     StatsHead,
     /// The line of this commit, counted from 1: `commit K`.
     Commit(u64),
-    /// The line of this commit in the short statistics, with the numbers of its `file` and `gone` records:
-    /// `commit K written D gone E`.
-    Short {
+    /// The line of this commit in the statistics, with the numbers of files read, of permutations merged and of tokens
+    /// evaluated for it, and of its `file` and `gone` records: `commit K parsed A merged B evaluated C written D gone E`.
+    Stats {
         commit: u64,
+        parsed: u64,
+        merged: u64,
+        evaluated: u64,
         written: u64,
         gone: u64,
     },
@@ -52,17 +55,20 @@ pub fn write_line<K: Sink>(out: &mut K, line: &Line) -> Result<(), Failed>
         Line::StreamHead => write_all(out, b"tokc-stream 1\n"),
         Line::StatsHead => write_all(out, b"tokc-stats 1\n"),
         Line::Commit(k) => write_numbered(out, b"commit ", *k),
-        Line::Short {
+        Line::Stats {
             commit,
+            parsed,
+            merged,
+            evaluated,
             written,
             gone,
-        } => write_short(out, *commit, *written, *gone),
+        } => write_stats(out, *commit, *parsed, *merged, *evaluated, *written, *gone),
         Line::Done(n) => write_numbered(out, b"done ", *n),
     }
 }
 
-// The most bytes of a line: those of the words of the short statistics, and of three numbers.
-const LONGEST_LINE: usize = 96;
+// The most bytes of a line: those of the words of the statistics, and of six numbers.
+const LONGEST_LINE: usize = 192;
 
 // Writes the word, the number and a line end as one piece.
 fn write_numbered<K: Sink>(out: &mut K, word: &[u8], number: u64) -> Result<(), Failed>
@@ -79,19 +85,30 @@ fn write_numbered<K: Sink>(out: &mut K, word: &[u8], number: u64) -> Result<(), 
     write_all(out, &piece[..len])
 }
 
-// Writes the line of a commit in the short statistics as one piece.
-fn write_short<K: Sink>(out: &mut K, commit: u64, written: u64, gone: u64) -> Result<(), Failed>
+// Writes the line of a commit in the statistics as one piece.
+fn write_stats<K: Sink>(
+    out: &mut K,
+    commit: u64,
+    parsed: u64,
+    merged: u64,
+    evaluated: u64,
+    written: u64,
+    gone: u64,
+) -> Result<(), Failed>
     ensures whole { OnOk result (Appends (K.written out.old) (K.written out.new)
-        (line_text (Line.Short commit written gone))) }
+        (line_text (Line.Stats commit parsed merged evaluated written gone))) }
     ensures part { OnErr result (AppendsPart (K.written out.old) (K.written out.new)
-        (line_text (Line.Short commit written gone))) }
+        (line_text (Line.Stats commit parsed merged evaluated written gone))) }
     ensures cause { HasCause (K.faults out.old) (K.faults out.new) result }
 {
     let mut piece = [0u8; LONGEST_LINE];
     let first = put_number(&mut piece, 0, b"commit ", commit);
-    let second = put_number(&mut piece, first, b" written ", written);
-    let third = put_number(&mut piece, second, b" gone ", gone);
-    let len = put_at(&mut piece, third, b"\n");
+    let second = put_number(&mut piece, first, b" parsed ", parsed);
+    let third = put_number(&mut piece, second, b" merged ", merged);
+    let fourth = put_number(&mut piece, third, b" evaluated ", evaluated);
+    let fifth = put_number(&mut piece, fourth, b" written ", written);
+    let sixth = put_number(&mut piece, fifth, b" gone ", gone);
+    let len = put_at(&mut piece, sixth, b"\n");
     write_all(out, &piece[..len])
 }
 

@@ -1,7 +1,7 @@
 use Rattle.std.proofs.Common.{◌≡◌, ◌+◌, ◌≤◌, drop, map}
 use Rattle.edit_script.specs.Stats.{without_lines, gone_count}
 use Rattle.edit_script.specs.View.{change_view}
-use Rattle.edit_script.proofs.short.gone_count.Given as goal
+use Rattle.edit_script.proofs.counts.gone_count.Given as goal
 
 abbrev pub invariant-loop-change : goal.invariant-loop-change
 invariant-loop-change l =

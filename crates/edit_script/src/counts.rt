@@ -1,8 +1,8 @@
-//! The line of a commit in the short statistics, and its numbers.
+//! The line of a commit in the statistics, and its numbers.
 
 ghost use Rattle.std.specs.Prelude.{◌≡◌, ◌≤◌, [], ◌∷◌};
 ghost use Rattle.edit_script.specs.View.{change_view};
-ghost use Rattle.edit_script.specs.Stats.{without_lines, gone_count, short_line};
+ghost use Rattle.edit_script.specs.Stats.{without_lines, gone_count, stats_line};
 
 use crate::{Change, Changes, Line};
 
@@ -28,13 +28,23 @@ fn gone_count(changes: &Changes<'_>) -> usize
     count
 }
 
-/// The line of the commit with this number and these changes in the short statistics.
-pub fn short_line(commit: u64, changes: &Changes<'_>) -> Line
-    ensures { result ≡ short_line commit (without_lines changes.now) }
+/// The line of the commit with this number in the statistics: how many files were read for it, permutations merged and
+/// tokens evaluated, and how many of the changes are outputs that are written and outputs that are held no more.
+pub fn stats_line(
+    commit: u64,
+    parsed: u64,
+    merged: u64,
+    evaluated: u64,
+    changes: &Changes<'_>,
+) -> Line
+    ensures { result ≡ stats_line commit parsed merged evaluated (without_lines changes.now) }
 {
     let gone = gone_count(changes);
-    Line::Short {
+    Line::Stats {
         commit,
+        parsed,
+        merged,
+        evaluated,
         written: (changes.len() - gone) as u64,
         gone: gone as u64,
     }

@@ -2,7 +2,7 @@ use Rattle.std.proofs.Common.{◌≡◌, ◌+◌, ℕ, List, [], ◌∷◌, drop
 use Rattle.edit_script.specs.View.{Lined, change_view}
 use Rattle.edit_script.specs.Stats.{without_lines, gone_count}
 use Rattle.edit_script.proofs.Stats.{first_left, gone_left, none_left}
-use Rattle.edit_script.proofs.short.gone_count.Goals as goal
+use Rattle.edit_script.proofs.counts.gone_count.Goals as goal
 
 -- one change more is counted, and all are
 counted : (left rest : List Lined) (c : Lined) (all before more : ℕ) → left ≡ c ∷ rest → before + gone_count (without_lines left) ≡ all → more ≡ gone_count (c.0 ∷ []) → (before + more) + gone_count (without_lines rest) ≡ all
