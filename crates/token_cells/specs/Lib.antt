@@ -38,8 +38,10 @@
 --   told in the file of a definition that is there, at the span of the place in it; a clash that is
 --   told is one, and none is told exactly where no token has a name of an earlier one
 --   (`breaks_are_real`, `clashes_are_real`)
--- * of an object under a kind with parts of other kinds the first broken part in the order of the
---   kind's row is told, a missing one at the object (`value_row_laws`)
+-- * of a value under a kind with parts the first broken part in the order of the kind's row is told,
+--   a missing one at its object; of a list the first broken item, and the list itself where its
+--   length is wrong; of a curve and of a colour's components a broken form before a number out of
+--   its range (`value_row_laws`)
 
 pub mod TokenCell
 pub mod Cell

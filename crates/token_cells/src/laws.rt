@@ -106,8 +106,9 @@ pub fn each_cell()
     name_laws();
 }
 
-/// Of an object under a kind with parts of other kinds, the part that is told is broken, and none before it in the order of the
-/// kind's row; and where a part is broken, the first one is told.
+/// Of a value under a kind with parts, the part that is told is broken, and none before it in the order of the kind's row; and
+/// where a part is broken, the first one is told. Of a list it is the first broken item, and the list itself where its length
+/// is wrong. The numbers of a curve and the components of a colour are told by their form before they are by their range.
 pub fn value_row_laws()
     ensures { RowsTellFirst }
 {}
