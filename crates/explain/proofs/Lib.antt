@@ -1,6 +1,7 @@
 mod HopsExplain
 mod HopsFollowed
 mod HopsHold
+mod LinesFit
 mod PlacesVisited
 mod PlacesWritten
 mod ValidExplains

@@ -9,7 +9,9 @@
 -- * whether a place is written is told exactly (`written`)
 -- * whether a certificate is valid is told exactly, whoever made it (`verify`)
 -- * the certificate of a written place, in a tree of which no token breaks a rule of references, is
---   valid, and its hops are those that explain the place, in their order, none twice (`show`)
+--   valid, and its hops are those that explain the place, in their order, none twice (`show`); where
+--   the tree's tokens have a place in the lines of certificates (`HasLines`), it is spelled by its
+--   lines, and so is any that is valid there (`show`: `spelled`; `valid_is_spelled`)
 -- * of a valid certificate each hop leads to its target, the place that is explained settles at the
 --   end, and the end is no reference; what the end means, the place means; and valid certificates of
 --   one place have one end (`valid_explains`, `explained_value`)

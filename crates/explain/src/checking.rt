@@ -9,13 +9,13 @@ ghost use Rattle.explain.specs.Validity.{SettlesBy, GoesBy, LeadsBy, IsSpotIn, V
 ghost use Rattle.explain.specs.inner.Ways.{Knows};
 ghost use Rattle.explain.specs.inner.Holding.{IsFound, StepsTo, GoesFrom, HopHolds, EachHolds};
 
-use crate::places::written;
+use crate::places::{whole_of, written};
 use crate::saying::{Said, say};
 use crate::ways::Ways;
 use alias_ref::span_of;
 use certificates::{Cert, Hop, Spot};
 use group_inherit::Flat;
-use name_path::{Place, Trail};
+use name_path::Place;
 use std::alloc::Global;
 use tk_io::{NoMemory, Text};
 
@@ -75,10 +75,7 @@ fn lead<'s>(
     ensures target { (hops : List HopData) → Knows hops ways.old → IfOk result (λ o.
         IsFound (λ q. GoesFrom (written_in flat.now) hops named.now q) o) }
 {
-    let mut place = Place {
-        token: named.token.copy()?,
-        trail: Trail::new(alloc),
-    };
+    let mut place = whole_of(alloc, named)?;
     if !written(flat, &place) {
         return Ok(None);
     }

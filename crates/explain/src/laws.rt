@@ -1,6 +1,7 @@
 //! What a valid certificate shows.
 
 ghost use Rattle.explain.specs.Laws.{HopsLead, OriginSettles, EndStays, EndMeans, OneEnd};
+ghost use Rattle.explain.specs.Laws.{ValidIsSpelled};
 
 use alias_ref::one_meaning;
 
@@ -20,3 +21,9 @@ pub fn explained_value()
 {
     one_meaning();
 }
+
+/// A certificate that is valid in a tree whose tokens have a place in lines is spelled by its lines, and is what is read of
+/// them.
+pub fn valid_is_spelled()
+    ensures { ValidIsSpelled }
+{}

@@ -12,6 +12,6 @@ mod showing;
 mod ways;
 
 pub use checking::verify;
-pub use laws::{explained_value, valid_explains};
+pub use laws::{explained_value, valid_explains, valid_is_spelled};
 pub use places::written;
 pub use showing::show;

@@ -1,17 +1,29 @@
 //! Which places are written.
 
-ghost use Rattle.std.specs.Prelude.{◌≡◌, option_map};
+ghost use Rattle.std.specs.Prelude.{◌≡◌, IfOk, option_map};
 ghost use Rattle.std.specs.Fmt.{decimal};
 ghost use Rattle.std.specs.Str.{bytes_eq};
 ghost use Rattle.json_span.specs.View.{ref_view, items_view};
 ghost use Rattle.alias_ref.specs.Written.{is_written, part_behind, part_under, parts_by_index};
-ghost use Rattle.alias_ref.specs.Written.{value_at, written_in};
+ghost use Rattle.alias_ref.specs.Written.{value_at, whole, written_in};
 
 use group_inherit::{Entry, Flat};
 use itoa::Buffer;
 use json_span::{Items, NodeRef};
-use name_path::Place;
-use tk_io::Text;
+use name_path::{Place, Trail};
+use std::alloc::Global;
+use tk_io::{NoMemory, Text};
+
+/// The place of the whole value of the token that the place is in.
+pub(crate) fn whole_of<'s>(alloc: Global, place: &Place<'s>) -> Result<Place<'s>, NoMemory>
+    ensures { IfOk result (λ p. p ≡ whole place.now.token) }
+{
+    let token = place.token.copy()?;
+    Ok(Place {
+        token,
+        trail: Trail::new(alloc),
+    })
+}
 
 /// Whether the step spells the index in decimal digits.
 fn is_index(at: usize, step: &str) -> bool

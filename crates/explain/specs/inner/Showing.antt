@@ -8,12 +8,16 @@ use Rattle.alias_ref.specs.Asking.{Manner, IsVisited}
 use Rattle.alias_ref.specs.Laws.{Flat}
 use Rattle.alias_ref.specs.Meaning.{Goes}
 use Rattle.certificates.specs.declared.certificate.Hop.{Hop}
-use Rattle.explain.specs.Following.{starts_of}
+use Rattle.explain.specs.Following.{starts_of, Reaches}
 use Rattle.explain.specs.Validity.{GoesBy, IsSpotIn}
 use Rattle.explain.specs.Needs.{AreUnbroken, Lead, leads_of, Explains, ExplainsWay, Adds}
 use Rattle.explain.specs.inner.Ways.{Knows}
 use Rattle.explain.specs.inner.Holding.{EachHolds}
 use Rattle.explain.specs.declared.showing.Shown.{Shown}
+
+-- the hops are known, and lead from the place to an end
+abbrev pub ComesToEnd : Shown → Place → Type 0
+ComesToEnd shown p = Knows shown.hops shown.ways × ((q : Place) × Reaches shown.hops p q)
 
 -- what explains the place is among the hops
 pub record IsClosed (T : WrittenPlaces) (hops : List Hop) (p : Place) : Type 0 where
@@ -104,3 +108,7 @@ pub record IsAdded (flat : Flat) (p q : Place) (old new : Shown) : Type 0 where
   pub target : hop.target ≡ q
   pub longer : new.hops ≡ old.hops ++ hop ∷ []
   pub knows : Knows new.hops new.ways
+
+-- the hops are all that explains the place
+abbrev pub IsWholeOf : Flat → Place → Shown → Type 0
+IsWholeOf flat p shown = (b : List Place) × (none : Shown) × (none.hops ≡ []) × IsExplained flat b p none shown

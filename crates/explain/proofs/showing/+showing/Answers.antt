@@ -1,15 +1,11 @@
-use Rattle.std.proofs.Common.{◌+◌, ◌-◌, [], ◌∷◌, ◌++◌, inl, inr, refl, sym, ap, ◌∙◌, subst, take, drop, arith}
-use Rattle.std.specs.Prelude.{IfNone, IfSome}
-use Rattle.name_path.specs.declared.place.Place.{Place}
+use Rattle.std.proofs.Common.{◌+◌, ◌-◌, [], ◌∷◌, ◌++◌, inl, inr, sym, ap, ◌∙◌, subst, take, drop, arith}
 use Rattle.alias_ref.specs.Written.{whole, part, written_in, is_reference}
-use Rattle.explain.specs.Following.{Reaches}
 use Rattle.explain.specs.inner.Saying.{Says}
 use Rattle.explain.specs.inner.Showing.{IsExplained, IsOnWay}
-use Rattle.explain.specs.declared.showing.Shown.{Shown}
+use Rattle.explain.specs.inner.Ways.{Knows}
 use Rattle.explain.proofs.HopsExplain.{explained_already, explained_itself, not_misspelled, room_left, may_explain_way, may_explain_target, explained_on, way_starts, may_explain_at, explained_settles, way_goes_on, way_ends}
 use Rattle.explain.proofs.HopsHold.{true_false, on_ok, no_refers}
 use Rattle.explain.proofs.PlacesWritten.{drop_at, drop_all, taken_at}
-use Rattle.explain.proofs.WaysKnown.{place_of}
 use Rattle.explain.proofs.showing.+showing.Goals as goal
 
 pub explain-returns-then-has : goal.explain-returns-then-has
@@ -47,7 +43,7 @@ explain-explain-requires t c =
     let sound = c.unbroken_tokens.ensures.visits in
     let p = c.args.place.now in
     let n = c.in-Refers.named in
-    let q = c.in_ok-target.target in
+    let q = c.in-Ok.target in
     let now = c.args.shown.now in
     let mid = c.explain_way.new.shown in
     let b = c.requires.0 in
@@ -55,26 +51,26 @@ explain-explain-requires t c =
     let refer = subst (λ s. Says s (T p)) c.in-Refers.is c.in_ok-named.ensures in
     let some = room_left flat sound c.args.left b p now may (ap is_reference refer) in
     let on = may_explain_way flat sound c.args.left b p n now may refer (λ i. true_false (sym (c.has.ensures.exact now.hops may.shown.knows i) ∙ c.if-has.false)) in
-    let way = c.in_ok-target.ensures b p on in
-    let added = c.in_ok-add.ensures way.shown.knows way.fresh in
+    let way = c.in-Ok.ensures b p on in
+    let added = c.in_ok-add-in-Ok.ensures way.shown.knows way.fresh in
     (omega (arith, some), (b ++ p ∷ [], may_explain_target flat (c.args.left - 1) b p n q now mid c.add.new.shown on way added))
 
-pub explain-returns : goal.explain-returns
-explain-returns t c = λ b may.
+pub explain-returns-in-Ok : goal.explain-returns-in-Ok
+explain-returns-in-Ok t c = λ b may.
     let flat = c.args.flat.now in
     let T = written_in flat in
     let sound = c.unbroken_tokens.ensures.visits in
     let p = c.args.place.now in
     let n = c.in-Refers.named in
-    let q = c.in_ok-target.target in
+    let q = c.in-Ok.target in
     let now = c.args.shown.now in
     let mid = c.explain_way.new.shown in
     let next = c.add.new.shown in
     let new = c.explain.new.shown in
     let refer = subst (λ s. Says s (T p)) c.in-Refers.is c.in_ok-named.ensures in
     let on = may_explain_way flat sound c.args.left b p n now may refer (λ i. true_false (sym (c.has.ensures.exact now.hops may.shown.knows i) ∙ c.if-has.false)) in
-    let way = c.in_ok-target.ensures b p on in
-    let added = c.in_ok-add.ensures way.shown.knows way.fresh in
+    let way = c.in-Ok.ensures b p on in
+    let added = c.in_ok-add-in-Ok.ensures way.shown.knows way.fresh in
     let may' = may_explain_target flat (c.args.left - 1) b p n q now mid next on way added in
     on_ok c.explain.result (IsExplained flat (b ++ p ∷ []) q next new) (IsExplained flat b p now new) (λ e. explained_on flat sound c.args.left b p n q now mid next new may refer way added e) (c.explain.ensures (b ++ p ∷ []) may')
 
@@ -85,9 +81,7 @@ explain_way-loop-step-init t c = λ b p may.
     let now = c.args.shown.now in
     let left = c.args.left in
     let steps = c.as_slice-steps.result.now in
-    let first : Place = record { token = c.in_ok-copy.field-0; trail = c.new.result } in
-    let same = place_of first (whole n.token) c.in_ok-copy.ensures c.new.ensures in
-    subst (λ x. IsOnWay flat left b p n [] steps x now now) (sym same)
+    subst (λ x. IsOnWay flat left b p n [] steps x now now) (sym c.in_ok-place.ensures)
     (subst (λ ss. IsOnWay flat left b p n [] ss (whole n.token) now now) (sym c.as_slice-steps.ensures) (way_starts flat c.unbroken_tokens.ensures.visits left b p n now may))
 
 pub explain_way-explain-requires : goal.explain_way-explain-requires
@@ -105,8 +99,8 @@ explain_way-explain-requires t c =
     let way = subst (λ ss. IsOnWay flat left b p n (take i steps) ss at c.args.shown.now now) (drop_at steps i s (omega arith) c.step-item.is) (c.loop-step.invariant b p c.requires.2) in
     (omega arith, (b ++ p ∷ [], may_explain_at flat left b p n (take i steps) s (drop (i + 1) steps) at c.args.shown.now now way))
 
-pub explain_way-unreachable-requires : goal.explain_way-unreachable-requires
-explain_way-unreachable-requires t c =
+pub explain_way-step_behind-requires : goal.explain_way-step_behind-requires
+explain_way-step_behind-requires t c =
     let flat = c.args.flat.now in
     let n = c.args.named.now in
     let left = c.args.left in
@@ -121,7 +115,7 @@ explain_way-unreachable-requires t c =
     let way = subst (λ ss. IsOnWay flat left b p n (take i steps) ss at c.args.shown.now now) (drop_at steps i s (omega arith) c.step-item.is) (c.loop-step.invariant b p c.requires.2) in
     let e = c.in_ok-explain.ensures (b ++ p ∷ []) (may_explain_at flat left b p n (take i steps) s (drop (i + 1) steps) at c.args.shown.now now way) in
     let found = explained_settles flat (b ++ p ∷ []) at now new e in
-    subst (λ o. IfNone o ((q : Place) → Reaches new.hops at q → ⊥)) c.in_default.is (c.in_ok-next.ensures.ring new.hops e.shown.knows) found.end found.settles.reached
+    (e.shown.knows, (found.end, found.settles.reached))
 
 pub explain_way-loop-step-preserved : goal.explain_way-loop-step-preserved
 explain_way-loop-step-preserved t c = λ b p may.
@@ -135,17 +129,14 @@ explain_way-loop-step-preserved t c = λ b p may.
     let old = c.args.shown.now in
     let now = c.loop-step.shown in
     let new = c.explain.new.shown in
-    let last : Shown = record { hops = new.hops; ways = c.reach.new.self } in
+    let last = c.step_behind.new.self in
     let way = subst (λ ss. IsOnWay flat left b p n (take i steps) ss at old now) (drop_at steps i s (omega arith) c.step-item.is) (c.loop-step.invariant b p may) in
     let e = c.in_ok-explain.ensures (b ++ p ∷ []) (may_explain_at flat left b p n (take i steps) s (drop (i + 1) steps) at old now way) in
-    let next = c.in-Some.next in
-    let reach = subst (λ o. IfSome o (λ q. Reaches new.hops at q)) c.in-Some.is (c.in_ok-next.ensures.end new.hops e.shown.knows) in
-    let knows = c.in_ok-next.ensures.knows new.hops e.shown.knows in
-    let on = way_goes_on flat c.one_meaning.ensures.end left b p n (take i steps) s (drop (i + 1) steps) at next old now new last way e refl knows reach in
-    let trail = c.in_ok-push.ensures.ok ∙ ap (λ x. next.trail ++ x ∷ []) c.in_ok-copy-2.ensures in
-    let there : Place = record { token = next.token; trail = c.push.new.self } in
-    subst (λ x. IsOnWay flat left b p n (take (i + 1) steps) (drop (i + 1) steps) x old last) (sym (place_of there (part next s) refl trail))
-    (subst (λ ss. IsOnWay flat left b p n ss (drop (i + 1) steps) (part next s) old last) (sym (taken_at steps i s (omega arith) c.step-item.is)) on)
+    let behind = c.in_ok-place-2.ensures.place in
+    let same = c.in_ok-place-2.ensures.hops in
+    let on = way_goes_on flat c.one_meaning.ensures.end left b p n (take i steps) s (drop (i + 1) steps) at behind.0 old now new last way e same (subst (λ hs. Knows hs last.ways) same c.in_ok-place-2.ensures.knows) behind.1 in
+    subst (λ x. IsOnWay flat left b p n (take (i + 1) steps) (drop (i + 1) steps) x old last) (sym behind.2)
+    (subst (λ ss. IsOnWay flat left b p n ss (drop (i + 1) steps) (part behind.0 s) old last) (sym (taken_at steps i s (omega arith) c.step-item.is)) on)
 
 pub explain_way-returns : goal.explain_way-returns
 explain_way-returns t c = λ b p may.
