@@ -23,7 +23,7 @@ use Rattle.build_plain.specs.Out.{settings_of}
 use Rattle.build_plain.specs.Work.{Work, work, added}
 use Rattle.rebuild_core.specs.Sums.{IsOneIf, IsOneUnless}
 use Rattle.rebuild_core.specs.Work.{UsedOfPlan, UsedUnder, IsUsed, MergesTo, IsMerge, KeptPerm, kept_perm, contents_of, named, KeptOf, KeptOfPlan, KeptUnder, IsKept, HasSources, IsReachedIn, IsReachedSince, MergeWork, SourcesWork, PermWorkFrom, PermsWorkFrom, AreRead, PlanWorkFrom, WorkUnderFrom, IsWorkFrom}
-use Rattle.rebuild_core.proofs.Below.{EachLaws}
+use Rattle.rebuild_core.specs.inner.Below.{EachLaws}
 use Rattle.rebuild_core.proofs.Decided.{Decided, same_texts, same_options, same_lists, same_settings, same_contents, either_of, not_so}
 use Rattle.rebuild_core.proofs.ReachesDecided.{reached_decided}
 use Rattle.rebuild_core.proofs.Summing.{each_if, each_unless, each_sum}

@@ -21,7 +21,7 @@ use Rattle.build_plain.specs.Work.{Work, work, added, TreesWork, PermWork, Perms
 use Rattle.rebuild_core.specs.Laws.{FromNone}
 use Rattle.rebuild_core.specs.Sums.{IsOneIf, IsOneUnless}
 use Rattle.rebuild_core.specs.Work.{contents_of, MergesTo, KeptPerm, SourcesWork, PermWorkFrom, PermsWorkFrom, AreRead, PlanWorkFrom, WorkUnderFrom, IsWorkFrom}
-use Rattle.rebuild_core.proofs.Below.{EachLaws}
+use Rattle.rebuild_core.specs.inner.Below.{EachLaws}
 use Rattle.rebuild_core.proofs.EachWork.{each_work}
 use Rattle.rebuild_core.proofs.Summing.{held, unless_not_held, sum_all}
 

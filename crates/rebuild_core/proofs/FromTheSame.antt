@@ -22,7 +22,7 @@ use Rattle.build_plain.specs.Work.{Work, work, added}
 use Rattle.rebuild_core.specs.Laws.{FromTheSame}
 use Rattle.rebuild_core.specs.Sums.{IsOneIf, IsOneUnless}
 use Rattle.rebuild_core.specs.Work.{UsedOfPlan, UsedUnder, IsMerge, KeptPerm, kept_perm, contents_of, named, KeptOf, KeptUnder, IsKept, IsReachedSince, SourcesWork, PermWorkFrom, PermsWorkFrom, AreRead, PlanWorkFrom, WorkUnderFrom, IsWorkFrom}
-use Rattle.rebuild_core.proofs.Below.{OneLaws, EachLaws}
+use Rattle.rebuild_core.specs.inner.Below.{OneLaws, EachLaws}
 use Rattle.rebuild_core.proofs.EachWork.{each_work}
 use Rattle.tree_changes.proofs.MapEntries.{entry_found}
 use Rattle.rebuild_core.proofs.OneWork.{one_kept, one_used}

@@ -1,8 +1,22 @@
 pub mod Decided
 pub mod Summing
 pub mod ReachesDecided
-pub mod Below
 pub mod OneWork
 pub mod EachWork
 pub mod FromNone
 pub mod FromTheSame
+pub mod FilesRead
+pub mod SameSources
+pub mod PermsDone
+pub mod PermWorks
+pub mod NamedPlaces
+pub mod FilesWork
+pub mod FilledMaps
+pub mod MadePasts
+pub mod ZippedLists
+pub mod Ranges
+pub mod OldPerms
+pub mod SameContents
+pub mod TreesAdded
+pub mod KeptPlaces
+mod TwoCommits

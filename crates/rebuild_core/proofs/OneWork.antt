@@ -20,11 +20,11 @@ use Rattle.build_plain.specs.Out.{settings_of}
 use Rattle.build_plain.specs.Work.{Work, work, added}
 use Rattle.rebuild_core.specs.Sums.{IsOneIf, IsOneUnless}
 use Rattle.rebuild_core.specs.Work.{UsedOfPlan, UsedUnder, IsUsed, MergesTo, IsMerge, KeptPerm, kept_perm, contents_of, named, KeptOf, KeptOfPlan, KeptUnder, IsKept, HasSources, IsReachedSince, MergeWork, SourcesWork, PermWorkFrom, PermsWorkFrom, ReadBeside, AreRead, PlanWorkFrom, WorkUnderFrom, IsWorkFrom}
-use Rattle.rebuild_core.proofs.Below.{OneLaws}
+use Rattle.rebuild_core.specs.inner.Below.{OneLaws}
 use Rattle.rebuild_core.proofs.Summing.{one_if, one_unless, one_sum}
 
 module _ (laws : OneLaws) where
-  one_merge_of : (tree : Group) (m n : Merge) → IsMergeOf tree m → IsMergeOf tree n → m ≡ n
+  pub one_merge_of : (tree : Group) (m n : Merge) → IsMergeOf tree m → IsMergeOf tree n → m ≡ n
   one_merge_of tree (merge.Flat f) (merge.Flat g) i j = ap merge.Flat (laws.flat tree f g i.1 j.1)
   one_merge_of tree (merge.Flat f) (merge.Broken b) i j = absurd (laws.sound tree b i.0 j.0 j.1)
   one_merge_of tree (merge.Broken a) (merge.Flat g) i j = absurd (laws.sound tree a j.0 i.0 i.1)

@@ -1,5 +1,5 @@
 -- Sums have one value, and have one where each element gives one.
-use Rattle.std.proofs.Common.{◌≡◌, inl, inr, ℕ, ◌+◌, List, [], ◌∷◌, length, refl, sym, ap₂, ◌∙◌, arith}
+use Rattle.std.proofs.Common.{◌≡◌, inl, inr, ℕ, ◌+◌, ◌≤◌, List, [], ◌∷◌, length, refl, sym, ap₂, subst, ◌∙◌, arith}
 use Rattle.ring.specs.Lists.{In}
 use Rattle.rebuild_core.specs.Sums.{IsOneIf, IsOneUnless, IsSum}
 use Rattle.rebuild_core.proofs.Decided.{Decided}
@@ -68,3 +68,56 @@ module _ {X : Type 0} (gives : X → ℕ → Type 0) where
       let here : a ≡ 1 = all x a i in
       let rest : b ≡ length xs = sum_all xs b all is in
       omega (arith, e, here, rest)
+
+-- One claim by another.
+
+pub sum_so : {X : Type 0} (gives other : X → ℕ → Type 0) (xs : List X) (n : ℕ) → ((x : X) (k : ℕ) → In x xs → gives x k → other x k) → IsSum gives xs n → IsSum other xs n
+sum_so gives other [] n so e = e
+sum_so gives other (x ∷ xs) n so (a, b, i, is, e) = (a, b, so x a (inl refl) i, sum_so gives other xs b (λ y k among. so y k (inr among)) is, e)
+
+module _ {X : Type 0} (gives : X → ℕ → Type 0) where
+  pub sum_zero : (xs : List X) → ((x : X) → In x xs → gives x 0) → IsSum gives xs 0
+  sum_zero [] zeros = refl
+  sum_zero (x ∷ xs) zeros = (0, 0, zeros x (inl refl), sum_zero xs (λ y i. zeros y (inr i)), refl)
+
+  pub sum_ones : (xs : List X) → ((x : X) → gives x 1) → IsSum gives xs (length xs)
+  sum_ones [] ones = refl
+  sum_ones (x ∷ xs) ones = (1, length xs, ones x, sum_ones xs ones, omega arith)
+
+-- Sums that are made one element after another.
+
+module _ {X : Type 0} (gives : X → ℕ → Type 0) (all : List X) where
+  -- the rest's sum beside this number is that of all
+  abbrev pub SumDone : List X → ℕ → Type 0
+  SumDone rest now = (n : ℕ) → IsSum gives rest n → (m : ℕ) × IsSum gives all m × (m ≡ now + n)
+
+  pub sum_start : SumDone all 0
+  sum_start n is = (n, is, omega arith)
+
+  pub sum_next : (rest : List X) (x : X) (xs : List X) (now next k : ℕ) → rest ≡ x ∷ xs → SumDone rest now → gives x k → next ≡ now + k → SumDone xs next
+  sum_next rest x xs now next k is done here e n i =
+      let (m, all_m, same) = done (k + n) (subst (λ (r : List X). IsSum gives r (k + n)) (sym is) (k, n, here, i, refl)) in
+      (m, all_m, omega (arith, same, e))
+
+  pub sum_end : (rest : List X) (now : ℕ) → rest ≡ [] → SumDone rest now → IsSum gives all now
+  sum_end rest now is done =
+      let (m, all_m, same) = done 0 (subst (λ (r : List X). IsSum gives r 0) (sym is) refl) in
+      let whole : m ≡ now = omega (arith, same) in
+      subst (IsSum gives all) whole all_m
+
+  -- a counter and the rest's sum are within the sum of all
+  abbrev pub SumMost : ℕ → List X → ℕ → Type 0
+  SumMost start rest now = (m : ℕ) → IsSum gives all m → (n : ℕ) × IsSum gives rest n × (now + n ≤ start + m)
+
+  pub most_start : (start : ℕ) → SumMost start all start
+  most_start start m is = (m, is, omega arith)
+
+  pub most_next : (start : ℕ) (rest : List X) (x : X) (xs : List X) (now next : ℕ) → rest ≡ x ∷ xs → SumMost start rest now
+      → ((k : ℕ) → gives x k → next ≤ now + k) → SumMost start xs next
+  most_next start rest x xs now next is most rise m i =
+      let (n, rest_n, within) = most m i in
+      let (k, others, here, later, e) = subst (λ (r : List X). IsSum gives r n) is rest_n in
+      (others, later, omega (arith, within, e, rise k here))
+
+  pub most_end : (start : ℕ) (rest : List X) (now : ℕ) → SumMost start rest now → (m : ℕ) → IsSum gives all m → now ≤ start + m
+  most_end start rest now most m i = let (n, rest_n, within) = most m i in omega (arith, within)

@@ -1,4 +1,4 @@
-use Rattle.rebuild_core.proofs.Below.{OneLaws, EachLaws}
+use Rattle.rebuild_core.specs.inner.Below.{OneLaws, EachLaws}
 use Rattle.rebuild_core.proofs.EachWork.{each_work}
 use Rattle.rebuild_core.proofs.FromNone.{from_none}
 use Rattle.rebuild_core.proofs.FromTheSame.{from_the_same}

@@ -1,0 +1,84 @@
+-- What was made of files, where nothing was.
+use Rattle.std.proofs.Common.{◌≡◌, ℕ, List, [], Option, Some, None, Result, Ok, Err, refl, sym, ap, subst, ◌∙◌}
+use Rattle.std.specs.FinMap as finite
+use Rattle.tk_io.specs.FilesData.{FilesData}
+use Rattle.tk_io.specs.Order.{text_cmp}
+use Rattle.file_plan.specs.InUse.{resolver_path, resolver_in, files_in_use}
+use Rattle.file_plan.specs.Plan.{PlanBreak, planned, refused, Plans}
+use Rattle.file_plan.specs.Trees.{IsRead, AreTreesIn}
+use Rattle.file_plan.specs.View.{plan_view}
+use Rattle.file_plan.specs.declared.source.PlanPerm.{PlanPerm}
+use Rattle.file_plan.specs.declared.tree.Tree.{Tree}
+use Rattle.transforms.specs.Config.{Settings}
+use Rattle.transforms.specs.declared.config.ConfigFault.{ConfigFault}
+use Rattle.build_plain.specs.Out.{settings_of}
+use Rattle.build_plain.specs.inner.Making.{AllStand}
+use Rattle.rebuild_core.specs.Work.{UsedUnder, IsUsed, KeptPerm, KeptOf, KeptUnder, IsKept, named}
+use Rattle.rebuild_core.specs.declared.past.Past.{Past}
+use Rattle.rebuild_core.specs.declared.past.Shared.{Shared}
+use Rattle.rebuild_core.specs.inner.Past.{CameTo, IsBare, IsPast}
+
+no_trees : (used : FilesData) (trees : finite.FinMap text_cmp Tree) → used ≡ finite.empty → trees ≡ finite.empty → AreTreesIn used trees
+no_trees used trees none bare q =
+    subst (λ (o : Option (List ℕ)). IsRead o (finite.get trees q)) (sym (ap (λ (m : FilesData). finite.get m q) none ∙ finite.get-empty text_cmp q))
+    (subst (λ (o : Option Tree). IsRead None o) (sym (ap (λ (m : finite.FinMap text_cmp Tree). finite.get m q) bare ∙ finite.get-empty text_cmp q)) tt)
+
+-- no permutation came to anything
+module _ (before : Option FilesData) (past : Past) (no_plan : past.plan ≡ []) (no_outcomes : past.outcomes.items ≡ []) (none : (name : List ℕ) → IsKept before name None) where
+  none_came : CameTo past.config past.files (plan_view past.plan) past.outcomes.items
+  none_came =
+      subst (λ (l : List PlanPerm). CameTo past.config past.files (plan_view l) past.outcomes.items) (sym no_plan)
+      (subst (λ (l : List Shared). CameTo past.config past.files [] l) (sym no_outcomes) tt)
+
+  none_stand : AllStand past.files (plan_view past.plan)
+  none_stand = subst (λ (l : List PlanPerm). AllStand past.files (plan_view l)) (sym no_plan) tt
+
+  none_named : (name : List ℕ) (k : Option KeptPerm) → KeptOf past.config past.files (named name (plan_view past.plan)) k → IsKept before name k
+  none_named name k is =
+      let no_kept : k ≡ None = subst (λ (l : List PlanPerm). KeptOf past.config past.files (named name (plan_view l)) k) no_plan is in
+      subst (IsKept before name) (sym no_kept) (none name)
+
+  pub without_plan : IsUsed before past.used → AreTreesIn past.used past.trees → IsPast before past
+  without_plan used trees = record { used = used; trees = trees; outcomes = none_came; stand = none_stand; kept = none_named }
+
+-- nothing was kept
+pub no_past_is : (past : Past) → past.used ≡ finite.empty → past.trees ≡ finite.empty → past.plan ≡ [] → past.outcomes.items ≡ [] → IsPast None past
+no_past_is past used trees plan outcomes = without_plan None past plan outcomes (λ name. refl) used (no_trees past.used past.trees used trees)
+
+-- the configuration is refused
+pub unconfigured_past : (files : FilesData) (fault : ConfigFault) (past : Past) → settings_of files ≡ Err fault → past.used ≡ finite.empty → past.trees ≡ finite.empty → past.plan ≡ []
+    → past.outcomes.items ≡ [] → IsPast (Some files) past
+unconfigured_past files fault past is used trees plan outcomes =
+    without_plan (Some files) past plan outcomes (λ name. subst (λ (r : Result Settings ConfigFault). KeptUnder files name r None) (sym is) refl)
+    (subst (λ (r : Result Settings ConfigFault). UsedUnder files r past.used) (sym is) used) (no_trees past.used past.trees used trees)
+
+-- the trees are those of the files in use
+pub bare_trees : {files used : FilesData} {trees : finite.FinMap text_cmp Tree} {past : Past} → IsBare files used trees past → AreTreesIn used trees → AreTreesIn past.used past.trees
+bare_trees {used = used} {past = past} bare are =
+    subst (λ (m : FilesData). AreTreesIn m past.trees) (sym bare.used_are) (subst (λ (t : finite.FinMap text_cmp Tree). AreTreesIn used t) (sym bare.trees_are) are)
+
+-- the plan is refused
+pub unplanned_past : (files : FilesData) (settings : Settings) (broken : PlanBreak) (past : Past) → settings_of files ≡ Ok settings → Plans (finite.get files resolver_path) (refused broken)
+    → past.used ≡ resolver_in files → AreTreesIn past.used past.trees → past.plan ≡ [] → past.outcomes.items ≡ [] → IsPast (Some files) past
+unplanned_past files settings broken past is plans used trees plan outcomes =
+    without_plan (Some files) past plan outcomes (λ name. subst (λ (r : Result Settings ConfigFault). KeptUnder files name r None) (sym is) (refused broken, plans, refl))
+    (subst (λ (r : Result Settings ConfigFault). UsedUnder files r past.used) (sym is) (refused broken, plans, used)) trees
+
+-- the plan has these permutations
+pub planned_past : (files : FilesData) (settings : Settings) (past : Past) → settings_of files ≡ Ok settings → Plans (finite.get files resolver_path) (planned (plan_view past.plan))
+    → past.used ≡ files_in_use files (plan_view past.plan) → AreTreesIn past.used past.trees → past.config ≡ settings → past.files ≡ files
+    → CameTo settings files (plan_view past.plan) past.outcomes.items → AllStand files (plan_view past.plan) → IsPast (Some files) past
+planned_past files settings past is plans used trees config same came stand = record {
+  used = subst (λ (r : Result Settings ConfigFault). UsedUnder files r past.used) (sym is) (planned (plan_view past.plan), plans, used);
+  trees = trees;
+  outcomes = subst (λ (s : Settings). CameTo s past.files (plan_view past.plan) past.outcomes.items) (sym config)
+      (subst (λ (f : FilesData). CameTo settings f (plan_view past.plan) past.outcomes.items) (sym same) came);
+  stand = subst (λ (f : FilesData). AllStand f (plan_view past.plan)) (sym same) stand;
+  kept = λ name k of.
+      subst (λ (r : Result Settings ConfigFault). KeptUnder files name r k) (sym is) (
+        planned (plan_view past.plan),
+        plans,
+        subst (λ (s : Settings). KeptOf s files (named name (plan_view past.plan)) k) config
+            (subst (λ (f : FilesData). KeptOf past.config f (named name (plan_view past.plan)) k) same of),
+      );
+}

@@ -1,0 +1,103 @@
+use Rattle.std.proofs.Common.{List, option_map, sym, subst, arith}
+use Rattle.file_plan.specs.View.{plan_perm_view, plan_sources_view}
+use Rattle.file_plan.specs.declared.source.PlanSource.{PlanSource}
+use Rattle.source_trees.specs.Merging.{AllInlineStand, IsMergedOf}
+use Rattle.source_trees.specs.Sources.{HomeAt}
+use Rattle.source_trees.specs.View.{home_view}
+use Rattle.source_trees.specs.declared.laying.Merged.TheVariants.{Tree}
+use Rattle.build_plain.specs.Breaks.{home_of}
+use Rattle.build_plain.specs.Outcomes.{IsOutcome}
+use Rattle.build_plain.specs.Work.{work}
+use Rattle.build_plain.specs.declared.outcome.Outcome.TheVariants.{SourceBreak}
+use Rattle.build_plain.proofs.Perm.{merged, perm_tree, perm_break}
+use Rattle.build_plain.proofs.Works.{added_none, no_rise, work_same}
+use Rattle.rebuild_core.specs.Work.{IsMerge}
+use Rattle.rebuild_core.specs.inner.Merging.{WorkBeside}
+use Rattle.rebuild_core.proofs.PermWorks.{anew_work, broken_work, within_tree}
+use Rattle.rebuild_core.proofs.SameSources.{outcome_merge}
+use Rattle.rebuild_core.proofs.merging.merged_anew.Goals as goal
+
+pub merged_sources-requires : goal.merged_sources-requires
+merged_sources-requires g c =
+    subst (λ (h : HomeAt). AllInlineStand h.text (plan_sources_view c.as_slice-sources.result.now)) (sym c.home_of-home.ensures)
+    (subst (λ (s : List PlanSource). AllInlineStand (home_of c.args.files.now).text (plan_sources_view s)) (sym c.as_slice-sources.ensures) c.requires.stand)
+
+pub returns-in_ok-shared-in-Tree-clause-outcome : goal.returns-in_ok-shared-in-Tree-clause-outcome
+returns-in_ok-shared-in-Tree-clause-outcome g c =
+    let p = plan_perm_view c.args.perm.now in
+    let is = perm_tree c.args.files.now (home_view c.home_of-home.result) c.args.perm.now c.home_of-home.ensures c.args.shapes.now c.requires.known c.as_slice-sources.result.now c.as_slice-sources.ensures
+    c.in_ok-tree.field-0 c.in_ok-tree.ensures c.args.cfg.now c.in-Tree.tree c.in-Tree.is c.in_ok-made-in-Tree.made.0 c.in_ok-made-in-Tree.ensures.outcome in
+    subst (IsOutcome c.args.cfg.now c.args.files.now p) (sym c.in_ok-shared-in-Tree.ensures) is
+
+pub returns-in_ok-shared-in-Tree-clause-work : goal.returns-in_ok-shared-in-Tree-clause-work
+returns-in_ok-shared-in-Tree-clause-work g c = λ kept under other.
+    let files = c.args.files.now in
+    let p = plan_perm_view c.args.perm.now in
+    let made = c.in_ok-made-in-Tree.made in
+    let is = perm_tree files (home_view c.home_of-home.result) c.args.perm.now c.home_of-home.ensures c.args.shapes.now c.requires.known c.as_slice-sources.result.now c.as_slice-sources.ensures
+    c.in_ok-tree.field-0 c.in_ok-tree.ensures c.args.cfg.now c.in-Tree.tree c.in-Tree.is made.0 c.in_ok-made-in-Tree.ensures.outcome in
+    let (m, some, reached) = c.in_ok-made-in-Tree.ensures.count in
+    anew_work c.args.cfg.now files p kept (option_map (λ t. t.now.tokens) c.args.old) under other m made.1
+    (subst (IsMerge files p) some (outcome_merge c.args.cfg.now files p made.0 is)) reached
+
+pub returns-in_ok-shared-in-Tree-clause-counted : goal.returns-in_ok-shared-in-Tree-clause-counted
+returns-in_ok-shared-in-Tree-clause-counted g c = work_same (omega arith) c.merged_tree.ensures.merge c.in_ok-made-in-Tree.ensures.steps
+
+pub returns-in_ok-shared-in-Tree-clause-at_most : goal.returns-in_ok-shared-in-Tree-clause-at_most
+returns-in_ok-shared-in-Tree-clause-at_most g c = λ kept under other.
+    let files = c.args.files.now in
+    let home = home_view c.home_of-home.result in
+    let is = subst (λ (h : HomeAt). IsMergedOf files h (plan_sources_view c.args.perm.now.sources) (Tree c.in-Tree.tree)) c.home_of-home.ensures
+    (merged files home c.args.perm.now c.home_of-home.ensures c.args.shapes.now c.requires.known c.as_slice-sources.result.now c.as_slice-sources.ensures c.in_ok-tree.field-0 c.in_ok-tree.ensures
+    (Tree c.in-Tree.tree) c.in-Tree.is) in
+    within_tree c.args.cfg.now files (plan_perm_view c.args.perm.now) kept (option_map (λ t. t.now.tokens) c.args.old) under other c.in-Tree.tree is c.laws_below.ensures.one.found
+    c.args.merges.now c.merged_tree.new.merges c.args.evals.now c.merged_tree.new.evals (omega (arith, c.merged_tree.ensures.merge)) c.merged_tree.ensures.at_most
+
+pub returns-in_err-shared-in-Tree-clause-at_most : goal.returns-in_err-shared-in-Tree-clause-at_most
+returns-in_err-shared-in-Tree-clause-at_most g c = λ kept under other.
+    let files = c.args.files.now in
+    let home = home_view c.home_of-home.result in
+    let is = subst (λ (h : HomeAt). IsMergedOf files h (plan_sources_view c.args.perm.now.sources) (Tree c.in-Tree.tree)) c.home_of-home.ensures
+    (merged files home c.args.perm.now c.home_of-home.ensures c.args.shapes.now c.requires.known c.as_slice-sources.result.now c.as_slice-sources.ensures c.in_ok-tree.field-0 c.in_ok-tree.ensures
+    (Tree c.in-Tree.tree) c.in-Tree.is) in
+    within_tree c.args.cfg.now files (plan_perm_view c.args.perm.now) kept (option_map (λ t. t.now.tokens) c.args.old) under other c.in-Tree.tree is c.laws_below.ensures.one.found
+    c.args.merges.now c.merged_tree.new.merges c.args.evals.now c.merged_tree.new.evals (omega (arith, c.merged_tree.ensures.merge)) c.merged_tree.ensures.at_most
+
+pub returns-in_err-made-in-Tree-clause-at_most : goal.returns-in_err-made-in-Tree-clause-at_most
+returns-in_err-made-in-Tree-clause-at_most g c = λ kept under other.
+    let files = c.args.files.now in
+    let home = home_view c.home_of-home.result in
+    let is = subst (λ (h : HomeAt). IsMergedOf files h (plan_sources_view c.args.perm.now.sources) (Tree c.in-Tree.tree)) c.home_of-home.ensures
+    (merged files home c.args.perm.now c.home_of-home.ensures c.args.shapes.now c.requires.known c.as_slice-sources.result.now c.as_slice-sources.ensures c.in_ok-tree.field-0 c.in_ok-tree.ensures
+    (Tree c.in-Tree.tree) c.in-Tree.is) in
+    within_tree c.args.cfg.now files (plan_perm_view c.args.perm.now) kept (option_map (λ t. t.now.tokens) c.args.old) under other c.in-Tree.tree is c.laws_below.ensures.one.found
+    c.args.merges.now c.merged_tree.new.merges c.args.evals.now c.merged_tree.new.evals (omega (arith, c.merged_tree.ensures.merge)) c.merged_tree.ensures.at_most
+
+pub returns-in_ok-shared-in-Broken-clause-outcome : goal.returns-in_ok-shared-in-Broken-clause-outcome
+returns-in_ok-shared-in-Broken-clause-outcome g c =
+    subst (IsOutcome c.args.cfg.now c.args.files.now (plan_perm_view c.args.perm.now)) (sym c.in_ok-shared-in-Broken.ensures)
+    (perm_break c.args.files.now (home_view c.home_of-home.result) c.args.perm.now c.home_of-home.ensures c.args.shapes.now c.requires.known c.as_slice-sources.result.now c.as_slice-sources.ensures
+    c.in_ok-tree.field-0 c.in_ok-tree.ensures c.in-Broken.found c.in-Broken.is)
+
+pub returns-in_ok-shared-in-Broken-clause-work : goal.returns-in_ok-shared-in-Broken-clause-work
+returns-in_ok-shared-in-Broken-clause-work g c = λ kept under other.
+    let p = plan_perm_view c.args.perm.now in
+    broken_work c.args.cfg.now c.args.files.now p kept (option_map (λ t. t.now.tokens) c.args.old) under other
+    (outcome_merge c.args.cfg.now c.args.files.now p (SourceBreak c.in-Broken.found)
+    (perm_break c.args.files.now (home_view c.home_of-home.result) c.args.perm.now c.home_of-home.ensures c.args.shapes.now c.requires.known c.as_slice-sources.result.now c.as_slice-sources.ensures
+    c.in_ok-tree.field-0 c.in_ok-tree.ensures c.in-Broken.found c.in-Broken.is))
+
+pub returns-in_ok-shared-in-Broken-clause-counted : goal.returns-in_ok-shared-in-Broken-clause-counted
+returns-in_ok-shared-in-Broken-clause-counted g c = added_none (work 0 c.args.merges.now c.args.evals.now)
+
+pub returns-in_ok-shared-in-Broken-clause-at_most : goal.returns-in_ok-shared-in-Broken-clause-at_most
+returns-in_ok-shared-in-Broken-clause-at_most g c = λ kept under other.
+    no_rise (WorkBeside kept c.args.cfg.now c.args.files.now (plan_perm_view c.args.perm.now)) (work 0 c.args.merges.now c.args.evals.now)
+
+pub returns-in_err-shared-in-Broken-clause-at_most : goal.returns-in_err-shared-in-Broken-clause-at_most
+returns-in_err-shared-in-Broken-clause-at_most g c = λ kept under other.
+    no_rise (WorkBeside kept c.args.cfg.now c.args.files.now (plan_perm_view c.args.perm.now)) (work 0 c.args.merges.now c.args.evals.now)
+
+pub returns-in_err-tree-clause-at_most : goal.returns-in_err-tree-clause-at_most
+returns-in_err-tree-clause-at_most g c = λ kept under other.
+    no_rise (WorkBeside kept c.args.cfg.now c.args.files.now (plan_perm_view c.args.perm.now)) (work 0 c.args.merges.now c.args.evals.now)

@@ -1,0 +1,7 @@
+pub mod Below
+pub mod Contents
+pub mod Evaluating
+pub mod Merging
+pub mod Past
+pub mod Reading
+pub mod Renewing

@@ -1,0 +1,41 @@
+-- What was made of files, as it is kept, and how it is what `IsWorkFrom` compares with.
+use Rattle.std.specs.Prelude.{◌≡◌, ℕ, List, [], Option}
+use Rattle.std.specs.FinMap as finite
+use Rattle.std.specs.List.{AllZip}
+use Rattle.permutations.specs.Permutation.{Permutation}
+use Rattle.file_plan.specs.Trees.{AreTreesIn}
+use Rattle.file_plan.specs.View.{plan_view}
+use Rattle.file_plan.specs.declared.tree.Tree.{Tree}
+use Rattle.transforms.specs.Config.{Settings}
+use Rattle.tk_io.specs.FilesData.{FilesData}
+use Rattle.tk_io.specs.Order.{text_cmp}
+use Rattle.build_plain.specs.Outcomes.{IsOutcome}
+use Rattle.build_plain.specs.inner.Making.{AllStand}
+use Rattle.build_plain.specs.declared.outcome.Outcome.{Outcome}
+use Rattle.rebuild_core.specs.declared.past.Past.{Past}
+use Rattle.rebuild_core.specs.declared.past.Shared.{Shared}
+use Rattle.rebuild_core.specs.Work.{IsUsed, IsKept, KeptOf, KeptPerm, named}
+
+abbrev pub outcome_of : Shared → Outcome
+outcome_of s = s.outcome.value
+
+-- permutations came to these, in their order
+abbrev pub CameTo : Settings → FilesData → List Permutation → List Shared → Type 0
+CameTo settings files perms outcomes = AllZip (λ p s. IsOutcome settings files p (outcome_of s)) perms outcomes
+
+-- What was made of files is what is compared with where so much is kept: its files in use, their trees, and what its
+-- permutations came to.
+pub record IsPast (before : Option FilesData) (past : Past) : Type 0 where
+  pub used : IsUsed before past.used
+  pub trees : AreTreesIn past.used past.trees
+  pub outcomes : CameTo past.config past.files (plan_view past.plan) past.outcomes.items
+  pub stand : AllStand past.files (plan_view past.plan)
+  pub kept : (name : List ℕ) (k : Option KeptPerm) → KeptOf past.config past.files (named name (plan_view past.plan)) k → IsKept before name k
+
+-- .. where there are no permutations
+pub record IsBare (files used : FilesData) (trees : finite.FinMap text_cmp Tree) (past : Past) : Type 0 where
+  pub files_are : past.files ≡ files
+  pub used_are : past.used ≡ used
+  pub trees_are : past.trees ≡ trees
+  pub no_plan : past.plan ≡ []
+  pub no_outcomes : past.outcomes.items ≡ []
