@@ -20,7 +20,8 @@ use Rattle.token_cli.specs.declared.stop.Stop.TheVariants as stop
 use Rattle.token_cli.specs.declared.status.Status.{Status}
 use Rattle.token_cli.specs.declared.status.Status.TheVariants as status
 use Rattle.token_cli.specs.declared.telling.Telling.{Telling}
-use Rattle.token_cli.proofs.Outcomes.{at_some, of_script, taken}
+use Rattle.token_cli.proofs.Outcomes.{of_script}
+use Rattle.token_cli.proofs.ScriptsRead.{at_some, taken}
 use Rattle.token_cli.proofs.Streams.{one_held}
 
 abbrev Ended : Type 0
@@ -28,7 +29,7 @@ Ended = Result Bool Stop
 
 -- what was written whole ends in what is held at its end
 ends_in : (told : Telling) (es : List EventData) (refused : Bool) (old new : Option (List ℕ)) → WroteWhole told es refused old new → EndsIn es refused
-ends_in told es refused old new (held, deltas, commits, count, ends, text) = (held, deltas, commits, count, ends)
+ends_in told es refused old new (held, deltas, works, commits, done, count, ends, text) = (held, deltas, commits, count, ends)
 
 -- all was written, and that is said
 whole_is : (c : Command) (script : List ℕ) (es : List EventData) (refused : Bool) → IsScript script es → EveryFits es → EndsIn (events_for c es) refused → IsStatusOf c script (status_of (Ok refused))

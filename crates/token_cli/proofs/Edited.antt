@@ -59,14 +59,15 @@ unfit_kind commit present made not = absurd (not tt)
 pub all_edited : (es : List EventData) (i : ℕ) (s : State) → length es ≤ i → Edited es i s → EveryFits es
 all_edited es i s h edited = (all_taken es i s.files s.made h edited.events).1
 
-pub edited_all : (es : List EventData) (i : ℕ) (s : State) → length es ≤ i → Edited es i s → s.held ≡ first_state.held → s.commits ≡ 0 → AreEdited es s
-edited_all es i s h edited held commits =
+pub edited_all : (es : List EventData) (i : ℕ) (s : State) → length es ≤ i → Edited es i s → s.held ≡ first_state.held → s.kept ≡ first_state.kept → s.commits ≡ 0 → AreEdited es s
+edited_all es i s h edited held kept commits =
     let (files, fits) = all_taken es i s.files s.made h edited.events in
     record {
       fits = fits;
       files = files;
       made = edited.events.made ∙ ap made_after (take_all i es h);
       held = held;
+      kept = kept;
       commits = commits;
     }
 

@@ -18,7 +18,8 @@ use Rattle.edit_script.proofs.Written.{front_of_part, part_after}
 use Rattle.file_plan.specs.Loading.{FitsFiles}
 use Rattle.token_cli.specs.inner.Edits.{AreEdited, EditsFail}
 use Rattle.token_cli.specs.inner.Ending.{Way, Writes, WroteSomeBy, each_commit, one_commit}
-use Rattle.token_cli.specs.Headline.{AreCommits, WroteUpTo, WroteWhole, WrotePart, is_refused}
+use Rattle.build_plain.specs.Work.{Work}
+use Rattle.token_cli.specs.Headline.{AreCommits, AreWorks, WroteUpTo, WroteWhole, WrotePart, is_refused}
 use Rattle.token_cli.specs.inner.Step.{State, IsCommitted, IsEdited, CommitFails, EditFails, Fails}
 use Rattle.token_cli.specs.Told.{commit_text, commits_so_far, head_line, whole_text}
 use Rattle.token_cli.specs.declared.telling.Telling.{Telling}
@@ -27,7 +28,7 @@ use Rattle.token_cli.specs.declared.stop.Stop.{Stop}
 use Rattle.token_cli.specs.declared.stop.Stop.TheVariants as stop
 use Rattle.token_cli.proofs.Edited.{Edited, edited_more, first_unfit_here, fit_commits, unfit_kind}
 use Rattle.file_plan.proofs.EventsTaken.{take_more}
-use Rattle.token_cli.proofs.Standing.{Stands, as_many, commit_kept, commits_more, no_commit, nothing_yet, one_committed, one_more_text, one_text, stands_as}
+use Rattle.token_cli.proofs.Standing.{Stands, as_many, commit_kept, commits_more, no_commit, no_work, nothing_yet, one_committed, one_text, one_work, stands_as, text_here, works_more}
 use Rattle.token_cli.proofs.Told.{some_last, text_is}
 
 next : {m n : ℕ} → (m < n) ⊎ (m ≡ n) → (suc m < suc n) ⊎ (suc m ≡ suc n)
@@ -47,26 +48,27 @@ less_than_all old new all first last front e some =
     (done, rest ++ last, e ∙ (ap (λ l. l ++ last) split ∙ append_assoc done rest last), omega (arith, some, length-append rest last), appended)
 
 -- a prefix of what some commits gave is a part of the stream
-pub part_is : (told : Telling) (es : List EventData) (held : List FilesData) (deltas : List Delta) (old new : Option (List ℕ)) → AreCommits es held deltas → AppendsFront old new (commits_so_far told deltas) → WrotePart told es old new
-part_is told es held deltas old new commits front =
+pub part_is : (told : Telling) (es : List EventData) (held : List FilesData) (deltas : List Delta) (works : List Work) (old new : Option (List ℕ)) → AreCommits es held deltas → AreWorks es held works → AppendsFront old new (commits_so_far told works deltas) → WrotePart told es old new
+part_is told es held deltas works old new commits done front =
     elim (le_split (length held) (commit_count es) commits.count) [
-      | inl h ↦ (held, deltas, commits, inl (h, front))
-      | inr h ↦ (held, deltas, commits, inr (h, less_than_all old new (whole_text told deltas) (commits_so_far told deltas) (line_text (Done (length deltas))) front (text_is told deltas) (some_last (length deltas))))
+      | inl h ↦ (held, deltas, works, commits, done, inl (h, front))
+      | inr h ↦
+          (held, deltas, works, commits, done, inr (h, less_than_all old new (whole_text told works deltas) (commits_so_far told works deltas) (line_text (Done (length deltas))) front (text_is told works deltas) (some_last (length deltas))))
     ]
 
 -- .. and of what is told of events in a way, where so many commits come before the first event that does not fit
-pub some_is : (way : Way) (es : List EventData) (held : List FilesData) (deltas : List Delta) (old new : Option (List ℕ)) → AreCommits way.told held deltas
-    → ((number : ℕ) → IsUnfit es number → length held ≤ way.before number) → AppendsFront old new (commits_so_far way.telling deltas) → WroteSomeBy way es old new
-some_is way es held deltas old new commits bound front =
+pub some_is : (way : Way) (es : List EventData) (held : List FilesData) (deltas : List Delta) (works : List Work) (old new : Option (List ℕ)) → AreCommits way.told held deltas → AreWorks way.told held works
+    → ((number : ℕ) → IsUnfit es number → length held ≤ way.before number) → AppendsFront old new (commits_so_far way.telling works deltas) → WroteSomeBy way es old new
+some_is way es held deltas works old new commits done bound front =
     elim (fits_or_not es) [
-      | inl fits ↦ inl (fits, part_is way.telling way.told held deltas old new commits front)
-      | inr (number, unfit) ↦ inr (number, unfit, (held, deltas, commits, bound number unfit, front))
+      | inl fits ↦ inl (fits, part_is way.telling way.told held deltas works old new commits done front)
+      | inr (number, unfit) ↦ inr (number, unfit, (held, deltas, works, commits, done, bound number unfit, front))
     ]
 
 -- a prefix of the header is a part
 pub some_first : (way : Way) (es : List EventData) (old new : Option (List ℕ)) → AppendsFront old new (line_text (head_line way.telling)) → WroteSomeBy way es old new
 some_first way es old new front =
-    some_is way es [] [] old new (no_commit way.told) (λ number unfit. omega arith)
+    some_is way es [] [] [] old new (no_commit way.told) (no_work way.told) (λ number unfit. omega arith)
     (subst (λ (l : List ℕ). AppendsFront old new l) (sym (nothing_yet way.telling)) front)
 
 -- nothing is a part
@@ -91,19 +93,19 @@ commits_below told es i s old now stands fits number unfit =
 -- what was written so far is a part
 pub some_standing : (told : Telling) (es : List EventData) (i : ℕ) (s : State) (old now : Option (List ℕ)) → Stands told es i s old now → EveryFits (take i es) → WroteSomeBy (each_commit told es) es old now
 some_standing told es i s old now stands fits =
-    let so_far = commits_so_far told stands.deltas in
-    some_is (each_commit told es) es stands.held stands.deltas old now stands.commits (commits_below told es i s old now stands fits) (so_far, [], sym (append-nil so_far), stands.text)
+    let so_far = commits_so_far told stands.works stands.deltas in
+    some_is (each_commit told es) es stands.held stands.deltas stands.works old now stands.commits stands.done (commits_below told es i s old now stands fits) (so_far, [], sym (append-nil so_far), stands.text)
 
 -- and so is what was written of the next commit
-pub some_commit : (told : Telling) (es : List EventData) (i : ℕ) (s : State) (old now new : Option (List ℕ)) (next : FilesData) (d : Delta) → (stands : Stands told es i s old now) → EveryFits (take (i + 1) es) → slice_get es i ≡ Some commit → IsCommitted s next d → AppendsPart now new (commit_text told (s.commits + 1) d) → WroteSomeBy (each_commit told es) es old new
-some_commit told es i s old now new next d stands fits here leads part =
+pub some_commit : (told : Telling) (es : List EventData) (i : ℕ) (s : State) (old now new : Option (List ℕ)) (next : FilesData) (w : Work) (d : Delta) → (stands : Stands told es i s old now) → EveryFits (take (i + 1) es) → slice_get es i ≡ Some commit → IsCommitted s next w d → AppendsPart now new (commit_text told (s.commits + 1) w d) → WroteSomeBy (each_commit told es) es old new
+some_commit told es i s old now new next w d stands fits here leads part =
     let ds = stands.deltas in
+    let ws = stands.works in
     let held = stands.held in
-    let text = one_more_text told ds d s.commits (sym (as_many map.empty held ds stands.commits.changes ∙ stands.length)) in
-    let all = text ∙ ap (λ l. commits_so_far told ds ++ l) (sym (append-nil (commit_text told (s.commits + 1) d))) in
-    some_is (each_commit told es) es (held ++ (next ∷ [])) (ds ++ (d ∷ [])) old new (commits_more told es i s old now next d stands here leads)
+    let all = text_here told es i s old now w d stands ∙ ap (λ l. commits_so_far told ws ds ++ l) (sym (append-nil (commit_text told (s.commits + 1) w d))) in
+    some_is (each_commit told es) es (held ++ (next ∷ [])) (ds ++ (d ∷ [])) (ws ++ (w ∷ [])) old new (commits_more told es i s old now next w d stands here leads) (works_more told es i s old now next w d stands here leads)
     (λ number unfit. omega (arith, length-append held (next ∷ []), stands.length, stands.count, ap commit_count (take_more es i commit here), count_parts (take i es) (commit ∷ []), fit_commits es (i + 1) number fits unfit))
-    (front_of_part old new (commits_so_far told (ds ++ (d ∷ []))) (part_after old now new (commits_so_far told (ds ++ (d ∷ []))) (commits_so_far told ds) (commit_text told (s.commits + 1) d) [] stands.text part all))
+    (front_of_part old new (commits_so_far told (ws ++ (w ∷ [])) (ds ++ (d ∷ []))) (part_after old now new (commits_so_far told (ws ++ (w ∷ [])) (ds ++ (d ∷ []))) (commits_so_far told ws ds) (commit_text told (s.commits + 1) w d) [] stands.text part all))
 
 -- an event that does not fit ends the replay once all before it is written
 unfit_at : (told : Telling) (es : List EventData) (i : ℕ) (e : EventData) (s : State) (old now : Option (List ℕ)) (number : ℕ) → slice_get es i ≡ Some e → Edited es i s → (stands : Stands told es i s old now) → ¬ (FitsFiles e s.files s.made) → number ≡ s.taken + 1
@@ -113,7 +115,7 @@ unfit_at told es i e s old now number at edited stands not is =
     let none = unfit_kind e (present_of e (map.get s.files)) s.made not in
     let count : commit_count (take i es) ≡ commit_count (take number es) =
     omega (arith, none, ap commit_count (take_more es i e at), count_parts (take i es) (e ∷ []), ap (λ n. commit_count (take n es)) here) in
-    (stands.held, stands.deltas, stands.commits, stands.length ∙ (stands.count ∙ count), stands.text)
+    (stands.held, stands.deltas, stands.works, stands.commits, stands.done, stands.length ∙ (stands.count ∙ count), stands.text)
 
 -- an event that isn't taken into the files ends the replay by its cause
 edit_ends : (told : Telling) (why : Stop) (es : List EventData) (i : ℕ) (e : EventData) (s : State) (old now new : Option (List ℕ)) (first after : ℕ) → slice_get es i ≡ Some e → Edited es i s → Stands told es i s old now → EditFails why e s → new ≡ now → Writes (Err why) (each_commit told es) es old new first after
@@ -134,8 +136,8 @@ commit_ends : (told : Telling) (why : Stop) (es : List EventData) (i : ℕ) (s :
     → Writes (Err why) (each_commit told es) es old new first after
 commit_ends told stop.NoMemory es i s old now new first before after at fits more stands later fails =
     subst (λ (x : Option (List ℕ)). WroteSomeBy (each_commit told es) es old x) (sym fails) (some_standing told es i s old now stands fits)
-commit_ends told stop.WriteFault es i s old now new first before after at fits more stands later (rose, (next, d, leads, part)) =
-    (omega (arith, later, rose), some_commit told es i s old now new next d stands more at leads part)
+commit_ends told stop.WriteFault es i s old now new first before after at fits more stands later (rose, (next, w, d, leads, part)) =
+    (omega (arith, later, rose), some_commit told es i s old now new next w d stands more at leads part)
 commit_ends told stop.Usage es i s old now new first before after at fits more stands later fails = absurd fails
 commit_ends told (stop.BadScript n) es i s old now new first before after at fits more stands later fails = absurd fails
 commit_ends told (stop.BadEvent n) es i s old now new first before after at fits more stands later fails = absurd fails
@@ -147,7 +149,7 @@ taken_ends : (told : Telling) (why : Stop) (es : List EventData) (i : ℕ) (s m 
     → Writes (Err why) (each_commit told es) es old new first after
 taken_ends told why es i s m old now new first before after at edited stands later edit fails =
     commit_ends told why es i m old now new first before after at edited.events.fits (edited_more es i commit s m at edited edit).events.fits
-    (stands_as told es i s m old now stands (commit_kept s m edit) edit.held edit.commits) later fails
+    (stands_as told es i s m old now stands (commit_kept s m edit) edit.held edit.kept edit.commits) later fails
 
 -- an event that isn't taken and told ends the replay by its cause
 pub ends_at : (told : Telling) (why : Stop) (es : List EventData) (i : ℕ) (e : EventData) (s : State) (old now new : Option (List ℕ)) (first before after : ℕ) → slice_get es i ≡ Some e → Edited es i s → Stands told es i s old now → first ≤ before → Fails told why e s now new before after
@@ -163,7 +165,7 @@ ends_at told why es i e s old now new first before after at edited stands later 
 pub all_end : (why : Stop) (es : List EventData) (old new : Option (List ℕ)) (first after : ℕ) → Appends old new (line_text (head_line Records)) → EditsFail why es → Writes (Err why) (one_commit es) es old new first after
 all_end stop.NoMemory es old new first after header fails = some_header (one_commit es) es old new header
 all_end (stop.BadEvent number) es old new first after header unfit =
-    (unfit, ([], [], no_commit (as_one_commit es), refl, subst (λ (l : List ℕ). Appends old new l) (sym (nothing_yet Records)) header))
+    (unfit, ([], [], [], no_commit (as_one_commit es), no_work (as_one_commit es), refl, subst (λ (l : List ℕ). Appends old new l) (sym (nothing_yet Records)) header))
 all_end stop.WriteFault es old new first after header fails = absurd fails
 all_end stop.Usage es old new first after header fails = absurd fails
 all_end (stop.BadScript n) es old new first after header fails = absurd fails
@@ -185,15 +187,15 @@ pub end_cut : (why : Stop) (es : List EventData) (s : State) (old now new : Opti
     → Writes (Err why) (one_commit es) es old new first after
 end_cut stop.NoMemory es s old now new first before after edited header later fails =
     subst (λ (x : Option (List ℕ)). WroteSomeBy (one_commit es) es old x) (sym fails) (some_header (one_commit es) es old now header)
-end_cut stop.WriteFault es s old now new first before after edited header later (rose, (next, d, leads, part)) =
-    let text = commit_text Records 1 d in
-    let first_part : AppendsPart now new text = subst (λ (n : ℕ). AppendsPart now new (commit_text Records (n + 1) d)) edited.commits part in
-    let all = one_text d ∙ ap (λ l. line_text (head_line Records) ++ l) (sym (append-nil text)) in (
+end_cut stop.WriteFault es s old now new first before after edited header later (rose, (next, w, d, leads, part)) =
+    let text = commit_text Records 1 w d in
+    let first_part : AppendsPart now new text = subst (λ (n : ℕ). AppendsPart now new (commit_text Records (n + 1) w d)) edited.commits part in
+    let all = one_text w d ∙ ap (λ l. line_text (head_line Records) ++ l) (sym (append-nil text)) in (
       omega (arith, later, rose),
       inl (
         edited.fits,
-        part_is Records (as_one_commit es) (next ∷ []) (d ∷ []) old new (one_committed es s next d edited leads)
-            (front_of_part old new (commits_so_far Records (d ∷ [])) (part_after old now new (commits_so_far Records (d ∷ [])) (line_text (head_line Records)) text [] header first_part all)),
+        part_is Records (as_one_commit es) (next ∷ []) (d ∷ []) (w ∷ []) old new (one_committed es s next w d edited leads) (one_work es s next w d edited leads)
+            (front_of_part old new (commits_so_far Records (w ∷ []) (d ∷ [])) (part_after old now new (commits_so_far Records (w ∷ []) (d ∷ [])) (line_text (head_line Records)) text [] header first_part all)),
       ),
     )
 end_cut stop.Usage es s old now new first before after edited header later fails = absurd fails
@@ -206,25 +208,28 @@ end_cut stop.TooLong es s old now new first before after edited header later fai
 all_taken : (told : Telling) (es : List EventData) (i : ℕ) (s : State) (old now : Option (List ℕ)) → length es ≤ i → (stands : Stands told es i s old now) → length stands.held ≡ commit_count es
 all_taken told es i s old now h stands = stands.length ∙ (stands.count ∙ ap commit_count (take_all i es h))
 
-text_ends : (told : Telling) (es : List EventData) (i : ℕ) (s : State) (old now : Option (List ℕ)) → (stands : Stands told es i s old now) → whole_text told stands.deltas ≡ commits_so_far told stands.deltas ++ line_text (Done s.commits)
+text_ends : (told : Telling) (es : List EventData) (i : ℕ) (s : State) (old now : Option (List ℕ)) → (stands : Stands told es i s old now) → whole_text told stands.works stands.deltas ≡ commits_so_far told stands.works stands.deltas ++ line_text (Done s.commits)
 text_ends told es i s old now stands =
     let number = as_many map.empty stands.held stands.deltas stands.commits.changes ∙ stands.length in
-    text_is told stands.deltas ∙ ap (λ n. commits_so_far told stands.deltas ++ line_text (Done n)) number
+    text_is told stands.works stands.deltas ∙ ap (λ n. commits_so_far told stands.works stands.deltas ++ line_text (Done n)) number
 
 pub ends_whole : (told : Telling) (es : List EventData) (i : ℕ) (s : State) (old now new : Option (List ℕ)) (refused : Bool) → length es ≤ i → Stands told es i s old now → Appends now new (line_text (Done s.commits)) → is_refused s.held ≡ refused → WroteWhole told es refused old new
 ends_whole told es i s old now new refused h stands last refusal =
     let P : List ℕ → Type 0 = λ l. Appends old new l in (
       stands.held,
       stands.deltas,
+      stands.works,
       stands.commits,
+      stands.done,
       all_taken told es i s old now h stands,
       sym (ap is_refused stands.last) ∙ refusal,
-      subst P (sym (text_ends told es i s old now stands)) (Appends-trans old now new (commits_so_far told stands.deltas) (line_text (Done s.commits)) stands.text last),
+      subst P (sym (text_ends told es i s old now stands)) (Appends-trans old now new (commits_so_far told stands.works stands.deltas) (line_text (Done s.commits)) stands.text last),
     )
 
 pub ends_cut : (told : Telling) (es : List EventData) (i : ℕ) (s : State) (old now new : Option (List ℕ)) → length es ≤ i → Stands told es i s old now → AppendsPart now new (line_text (Done s.commits)) → WrotePart told es old new
 ends_cut told es i s old now new h stands last =
     let ds = stands.deltas in
-    let whole : whole_text told ds ≡ commits_so_far told ds ++ (line_text (Done s.commits) ++ []) =
-    text_ends told es i s old now stands ∙ ap (λ l. commits_so_far told ds ++ l) (sym (append-nil (line_text (Done s.commits)))) in
-    (stands.held, ds, stands.commits, inr (all_taken told es i s old now h stands, part_after old now new (whole_text told ds) (commits_so_far told ds) (line_text (Done s.commits)) [] stands.text last whole))
+    let ws = stands.works in
+    let whole : whole_text told ws ds ≡ commits_so_far told ws ds ++ (line_text (Done s.commits) ++ []) =
+    text_ends told es i s old now stands ∙ ap (λ l. commits_so_far told ws ds ++ l) (sym (append-nil (line_text (Done s.commits)))) in
+    (stands.held, ds, ws, stands.commits, stands.done, inr (all_taken told es i s old now h stands, part_after old now new (whole_text told ws ds) (commits_so_far told ws ds) (line_text (Done s.commits)) [] stands.text last whole))

@@ -1,6 +1,6 @@
 -- How the main job ends, by what the calls in it answer.
-use Rattle.std.proofs.Common.{◌≡◌, ◌∙◌, ◌+◌, ◌≤◌, inl, inr, ℕ, Bool, true, List, ◌++◌, length, Option, Some, None, Result, Ok, Err, ap, sym, subst, refl, append-nil}
-use Rattle.std.specs.Prelude.{IsErrAnd, IsErrOf}
+use Rattle.std.proofs.Common.{◌≡◌, ◌+◌, ◌≤◌, inl, inr, ℕ, Bool, true, List, length, Option, Some, None, Result, Ok, Err, sym, subst, refl}
+use Rattle.std.specs.Prelude.{IsErrAnd}
 use Rattle.std.specs.Io.KnownBytes.{Consumes, IsAtEnd}
 use Rattle.tk_io.specs.Causes.{Rose}
 use Rattle.tk_io.specs.Reading.{TakesExactly}
@@ -12,8 +12,9 @@ use Rattle.command_words.specs.declared.command.WordStop.{WordStop}
 use Rattle.command_words.specs.declared.command.WordStop.TheVariants as words
 use Rattle.generated_script.specs.Script.{script_of}
 use Rattle.edit_script.specs.Script.{IsScriptStop}
-use Rattle.token_cli.specs.Headline.{IsLeftBy, OfBytes, OfSource, StopsAt, WroteEvents, WroteSome, most_bytes, reads_source}
+use Rattle.token_cli.specs.Headline.{IsLeftBy, OfBytes, StopsAt, WroteEvents, WroteSome, most_bytes, reads_source}
 use Rattle.token_cli.specs.inner.Causes.{of_read, of_words}
+use Rattle.token_cli.proofs.ScriptsRead.{of_source}
 use Rattle.token_cli.specs.Course.{Course, course}
 use Rattle.token_cli.specs.inner.Ending.{Ends, OfScript, Scripted}
 use Rattle.token_cli.specs.declared.stop.Stop.{Stop}
@@ -31,13 +32,6 @@ pub ends_err : (r : Ended) (x : Stop) (command : Option Command) (t : Course) �
 ends_err (Ok y) x command t h ends = absurd h
 ends_err (Err e) x command t h ends = subst (λ (s : Stop). Ends (Err s) command t) (sym h) ends
 
-pub not_long : {T : Type 0} (r : Ended) (s : ReadStop) → IsErrAnd r (λ e. e ≡ of_read s) → (r ≡ Err stop.TooLong → ⊥) → IsErrOf {T = T} (Err s) reading.TooLong → ⊥
-not_long (Ok y) s h not is = absurd h
-not_long {T} (Err e) s h not is = not (ap Err (h ∙ ap of_read (same s reading.TooLong is)))
-  where
-    same : (x y : ReadStop) → IsErrOf {T = T} (Err x) y → x ≡ y
-    same x y e = cc
-
 -- Reading that stopped.
 pub read_ends : (s : ReadStop) (command : Option Command) (left rest : Option (List ℕ)) (reads reads_now : ℕ) (out : Option (List ℕ)) (writes : ℕ)
     → (s ≡ reading.ReadFault → Rose reads reads_now) → (s ≡ reading.TooLong → TakesExactly (most_bytes + 1) left rest)
@@ -53,15 +47,6 @@ words_end words.Usage command left reads out writes none = none refl
 words_end words.NoMemory command left reads out writes none = inl refl
 
 -- A script that was read to its end.
-
--- what holds of its bytes holds of what the source had left
-of_source : (left rest : Option (List ℕ)) (script : List ℕ) (claim : List ℕ → Type 0) → Consumes left rest script → IsAtEnd rest → length script ≤ most_bytes → claim script
-    → OfSource left claim
-of_source None rest script claim all end short holds = tt
-of_source (Some xs) None script claim all end short holds = absurd all
-of_source (Some xs) (Some ys) script claim all end short holds =
-    let same : xs ≡ script = all ∙ (ap (λ l. script ++ l) end ∙ append-nil script) in
-    (subst (λ (l : List ℕ). length l ≤ most_bytes) (sym same) short, subst claim (sym same) holds)
 
 module _ (c : Command) (reads_it : reads_source c ≡ true) (left rest : Option (List ℕ)) (script : List ℕ) (all : Consumes left rest script) (end : IsAtEnd rest) (short : length script ≤ most_bytes) where
   left_by : (d : Command) → reads_source d ≡ true → IsLeftBy d left rest

@@ -1,3 +1,4 @@
+mod Commits
 mod Decided
 mod Edited
 mod Endings
@@ -10,6 +11,7 @@ mod Places
 mod Promises
 mod Records
 mod Refusals
+pub mod ScriptsRead
 mod Standing
 mod Stops
 mod Streams

@@ -1,8 +1,7 @@
 -- What a status says of the main job's answer.
-use Rattle.std.proofs.Common.{◌≡◌, ◌∙◌, ◌⊎◌, ◌≤◌, ℕ, Bool, true, false, List, length, Option, Some, None, Result, Ok, Err, ap, sym, subst, refl, inl, inr, arith, length-append}
+use Rattle.std.proofs.Common.{◌≡◌, ◌∙◌, ◌⊎◌, ◌≤◌, ℕ, Bool, true, false, List, length, Option, Some, None, Result, Ok, Err, ap, sym, subst, refl, inl, inr}
 use Rattle.std.specs.Prelude.{IfSome}
-use Rattle.std.proofs.lemmas.Option.{none-some, same_Some}
-use Rattle.tk_io.specs.Reading.{TakesExactly}
+use Rattle.std.proofs.lemmas.Option.{none-some}
 use Rattle.edit_script.specs.Script.{EventData, IsScript}
 use Rattle.edit_script.specs.Files.{EveryFits, IsUnfit}
 use Rattle.edit_script.proofs.Readings.{one_reading}
@@ -12,6 +11,7 @@ use Rattle.command_words.specs.declared.command.Command.TheVariants.{Build, Repl
 use Rattle.token_cli.specs.inner.Ending.{Scripted, place_of, status_of}
 use Rattle.token_cli.specs.Headline.{IsLeftBy, IsScriptOf, OfBytes, OfEvents, most_bytes, reads_source}
 use Rattle.token_cli.specs.Report.{whole_status}
+use Rattle.token_cli.proofs.ScriptsRead.{at_some}
 use Rattle.token_cli.specs.declared.stop.Stop.{Stop}
 use Rattle.token_cli.specs.declared.stop.Stop.TheVariants as stop
 use Rattle.token_cli.specs.declared.status.Status.{Status}
@@ -92,19 +92,9 @@ not_fit (Err stop.ReadFault) wrote read write long usage bad = absurd (read refl
 not_fit (Err stop.TooLong) wrote read write long usage bad = absurd (long refl)
 not_fit (Err (stop.BadEvent number)) wrote read write long usage bad = inl refl
 
--- what a source took that told what it had left
-pub taken : (n : ℕ) (script : List ℕ) (old new : Option (List ℕ)) → old ≡ Some script → TakesExactly n old new → n ≤ length script
-taken n script None new e t = absurd (none-some script e)
-taken n script (Some xs) None e t = absurd t.1
-taken n script (Some xs) (Some ys) e t = let same = same_Some xs script e in omega (arith, ap length t.1, length-append t.0 ys, t.2, ap length same)
-
 -- a claim about a script that isn't too long
 abbrev Short : (List ℕ → Type 0) → List ℕ → Type 0
 Short claim script = (length script ≤ most_bytes) × claim script
-
-pub at_some : {A : Type 0} (x : A) (o : Option A) (P : A → Type 0) → o ≡ Some x → IfSome o P → P x
-at_some x None P e h = absurd (none-some x e)
-at_some x (Some y) P e h = subst P (same_Some y x e) h
 
 -- what holds of the script that a command acts on
 of_bytes : (c : Command) (left : Option (List ℕ)) (claim : List ℕ → Type 0) (script : List ℕ) → IsScriptOf c left script → OfBytes c left claim → claim script

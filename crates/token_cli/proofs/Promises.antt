@@ -6,6 +6,7 @@ use Rattle.edit_script.specs.Files.{EveryFits, IsUnfit}
 use Rattle.edit_script.proofs.Readings.{one_reading}
 use Rattle.edit_script.proofs.UnfitEvents.{not_both}
 use Rattle.build_plain.specs.Laws.{OneBuild}
+use Rattle.rebuild_core.specs.Laws.{OneWorkFrom}
 use Rattle.command_words.specs.declared.command.Command.{Command}
 use Rattle.command_words.specs.declared.command.Command.TheVariants.{Gen}
 use Rattle.token_cli.specs.Course.{Course}
@@ -18,7 +19,8 @@ use Rattle.token_cli.specs.declared.stop.Stop.TheVariants as stop
 use Rattle.token_cli.specs.declared.status.Status.TheVariants as status
 use Rattle.token_cli.proofs.Decided.{decided_by}
 use Rattle.token_cli.proofs.JobEnds.{ends_as}
-use Rattle.token_cli.proofs.Outcomes.{Made, said_by, stopped_as, all_written, not_fit, not_read, too_many, taken, at_some, no_command, of_script, of_events, whole_said, no_stop, said}
+use Rattle.token_cli.proofs.ScriptsRead.{at_some, taken}
+use Rattle.token_cli.proofs.Outcomes.{Made, said_by, stopped_as, all_written, not_fit, not_read, too_many, no_command, of_script, of_events, whole_said, no_stop, said}
 use Rattle.token_cli.proofs.Once.{part_or_whole, none_or_whole, one_end}
 
 abbrev Ended : Type 0
@@ -36,9 +38,9 @@ abbrev StopsAtOf : Option (List ℕ) → Option (List ℕ) → ℕ → Command �
 StopsAtOf old new number c es = StopsAt c es number old new
 
 -- a part was not written where all was, since every event fits then
-some_or_whole : (one : OneBuild) (c : Command) (es : List EventData) (refused : Bool) (old new : Option (List ℕ)) (before : List ℕ) → old ≡ Some before → WroteSome c es old new → WroteEvents c es refused old new → ⊥
-some_or_whole one c es refused old new before holds (inl (fits, part)) wrote = part_or_whole (telling_of c) one (events_for c es) refused old new before holds part wrote.1
-some_or_whole one c es refused old new before holds (inr (number, unfit, front)) wrote = not_both es number wrote.0 unfit
+some_or_whole : (one : OneBuild) (once : OneWorkFrom) (c : Command) (es : List EventData) (refused : Bool) (old new : Option (List ℕ)) (before : List ℕ) → old ≡ Some before → WroteSome c es old new → WroteEvents c es refused old new → ⊥
+some_or_whole one once c es refused old new before holds (inl (fits, part)) wrote = part_or_whole (telling_of c) one once (events_for c es) refused old new before holds part wrote.1
+some_or_whole one once c es refused old new before holds (inr (number, unfit, front)) wrote = not_both es number wrote.0 unfit
 
 -- a script of no more than the limit is refused at this byte
 abbrev IsRefusedAt : ℕ → List ℕ → Type 0
@@ -62,13 +64,13 @@ of_left command t c script es number which given left reads made =
     let (some, (fs, is, (unfit, holds))) = of_script command t.left t.rest (StopsAtOf t.old t.new number) c script which given left made in
     subst (λ (l : List EventData). IsUnfit l number) (one_reading script fs es is reads) unfit
 
-pub promises_of : (one : OneBuild) (command : Option Command) (t : Course) (told told_now : Option (List ℕ)) (reports reports_now : ℕ) (r : Ended) → Ends r command t
+pub promises_of : (one : OneBuild) (once : OneWorkFrom) (command : Option Command) (t : Course) (told told_now : Option (List ℕ)) (reports reports_now : ℕ) (r : Ended) → Ends r command t
     → (command ≡ None → ((r ≡ Err stop.Usage) ⊎ (r ≡ Err stop.NoMemory)) × (t.new ≡ t.old))
     → ((seed size : ℕ) → command ≡ Some (Gen seed size) → ((at : ℕ) → r ≡ Err (stop.BadScript at) → ⊥) × (r ≡ Err stop.ReadFault → ⊥) × (r ≡ Err stop.TooLong → ⊥) × ((number : ℕ) → r ≡ Err (stop.BadEvent number) → ⊥))
     → ((r ≡ Err stop.TooLong → ⊥) → TakesAtMost most_bytes t.left t.rest)
     → Reports told told_now reports reports_now (error_text (status_of r) (place_of r))
     → Runs command t told told_now reports reports_now (status_of r)
-promises_of one command t told told_now reports reports_now r ends usage numbers takes report =
+promises_of one once command t told told_now reports reports_now r ends usage numbers takes report =
     let h = ends_as r command t ends in
     record {
       done = λ e. h (Ok false) (said_by r status.Done e);
@@ -79,7 +81,7 @@ promises_of one command t told told_now reports reports_now r ends usage numbers
           let written : (claim : Command → List EventData → Type 0) → Made command t.left t.rest claim → claim c es =
           λ claim m. of_events command t.left t.rest claim c script es which is reads m in
           let part : Made command t.left t.rest (WrotePartOf t.old t.new) → ⊥ =
-          λ m. some_or_whole one c es refusal t.old t.new before holds (written (WrotePartOf t.old t.new) m) wrote in
+          λ m. some_or_whole one once c es refusal t.old t.new before holds (written (WrotePartOf t.old t.new) m) wrote in
           whole_said r refusal
           (λ x e. one_end (telling_of c) one events x refusal t.old t.new (written (WroteAllOf t.old t.new x) (h (Ok x) e)).1 wrote.1)
           (no_stop r

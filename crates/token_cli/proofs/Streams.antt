@@ -1,5 +1,5 @@
 -- A script has one stream.
-use Rattle.std.proofs.Common.{◌≡◌, ◌∙◌, ℕ, suc, List, [], ◌∷◌, length, Some, ap, sym, subst, refl, arith}
+use Rattle.std.proofs.Common.{◌≡◌, ◌∙◌, ℕ, zero, suc, List, [], ◌∷◌, length, Option, None, Some, ap, sym, subst, refl, arith}
 use Rattle.std.specs.FinMap as map
 use Rattle.std.specs.List.{slice_get}
 use Rattle.edit_script.specs.Script.{EventData}
@@ -10,7 +10,10 @@ use Rattle.edit_script.proofs.Deltas.{one_delta}
 use Rattle.edit_script.proofs.Standing.{one_files}
 use Rattle.build_plain.specs.Out.{Builds}
 use Rattle.build_plain.specs.Laws.{OneBuild}
-use Rattle.token_cli.specs.Headline.{AreCommits, BuildsAt}
+use Rattle.build_plain.specs.Work.{Work}
+use Rattle.rebuild_core.specs.Laws.{OneWorkFrom}
+use Rattle.rebuild_core.specs.Work.{IsWorkFrom}
+use Rattle.token_cli.specs.Headline.{AreCommits, AreWorks, BuildsAt, IsKeptAt, IsWorkAt}
 
 one_built : (one : OneBuild) (es : List EventData) (k : ℕ) (a b : FilesData) → BuildsAt es k a → BuildsAt es k b → a ≡ b
 one_built one es k a b left right =
@@ -43,3 +46,21 @@ pub one_deltas : (one : OneBuild) (es : List EventData) (held others : List File
 one_deltas one es held others deltas changes left right size =
     let P : List FilesData → Type 0 = λ h. AreDeltas map.empty h changes in
     one_changes map.empty held deltas changes left.changes (subst P (sym (one_held one es held others deltas changes left right size)) right.changes)
+
+-- what is kept after so many commits
+one_kept : (es : List EventData) (n : ℕ) (a b : Option FilesData) → IsKeptAt es n a → IsKeptAt es n b → a ≡ b
+one_kept es zero a b left right = left ∙ sym right
+one_kept es (suc n) None b left right = absurd left
+one_kept es (suc n) (Some files) None left right = absurd right
+one_kept es (suc n) (Some files) (Some others) left right = ap Some (one_files (up_to (suc n) es) files others left right)
+
+one_done : (one : OneWorkFrom) (es : List EventData) (n : ℕ) (v w : Work) → IsWorkAt es n v → IsWorkAt es n w → v ≡ w
+one_done one es n v w (kept, files, before, stand, done) (kept_too, others, before_too, stand_too, done_too) =
+    let P : FilesData → Type 0 = λ f. IsWorkFrom kept f w in
+    let Q : Option FilesData → Type 0 = λ k. IsWorkFrom k others w in
+    let here : IsWorkFrom kept others w = subst Q (sym (one_kept es n kept kept_too before before_too)) done_too in
+    one kept files v w done (subst P (sym (one_files (up_to (suc n) es) files others stand stand_too)) here)
+
+pub one_works : (one : OneWorkFrom) (es : List EventData) (held others : List FilesData) (works counts : List Work) → AreWorks es held works → AreWorks es others counts → length held ≡ length others → works ≡ counts
+one_works one es held others works counts left right size =
+    same_items works counts (left.count ∙ (size ∙ sym right.count)) (λ n v w at_left at_right. one_done one es n v w (left.done n v at_left) (right.done n w at_right))

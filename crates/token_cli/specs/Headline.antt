@@ -1,6 +1,6 @@
 -- What is written for a script: commit after commit, the output files that a build from nothing of the files then present
--- would change, or how many they are.
-use Rattle.std.specs.Prelude.{◌≡◌, ◌<◌, ◌≤◌, ◌+◌, ◌⊎◌, ℕ, suc, Bool, true, false, ◌||◌, List, length, take, codes, map as map_list, Option, Some, IfSome}
+-- would change, or how many they are and how much was done for them.
+use Rattle.std.specs.Prelude.{◌≡◌, ◌<◌, ◌≤◌, ◌+◌, ◌⊎◌, ℕ, zero, suc, Bool, true, false, ◌||◌, List, length, take, codes, map as map_list, Option, None, Some, IfSome, IsSomeAnd}
 use Rattle.std.specs.FinMap as map
 use Rattle.std.specs.List.{ends_with, list_any, slice_get}
 use Rattle.std.specs.Bool.{nat_eq}
@@ -16,13 +16,15 @@ use Rattle.edit_script.specs.Script.{EventData, IsScript, IsScriptStop}
 use Rattle.edit_script.specs.Files.{AreFilesAt, EveryFits, IsUnfit, commit_count, as_one_commit}
 use Rattle.edit_script.specs.Delta.{Delta, AreDeltas, held_at}
 use Rattle.build_plain.specs.Out.{Builds}
+use Rattle.build_plain.specs.Work.{Work}
+use Rattle.rebuild_core.specs.Work.{IsWorkFrom}
 use Rattle.command_words.specs.Words.{command_of}
 use Rattle.command_words.specs.declared.command.Command.{Command}
 use Rattle.command_words.specs.declared.command.Command.TheVariants.{Build, Replay, Stats, Gen}
 use Rattle.generated_script.specs.Script.{script_of}
 use Rattle.token_cli.specs.Told.{commits_so_far, whole_text}
 use Rattle.token_cli.specs.declared.telling.Telling.{Telling}
-use Rattle.token_cli.specs.declared.telling.Telling.TheVariants.{Records, Counts}
+use Rattle.token_cli.specs.declared.telling.Telling.TheVariants.{Records, Numbers}
 
 -- how many bytes a script may have
 abbrev pub most_bytes : ℕ
@@ -36,8 +38,8 @@ asked_by words = command_of (map_list string_bytes words)
 abbrev pub telling_of : Command → Telling
 telling_of Build = Records
 telling_of Replay = Records
-telling_of Stats = Counts
-telling_of (Gen seed size) = Counts
+telling_of Stats = Numbers
+telling_of (Gen seed size) = Numbers
 
 -- the events that a command acts on: for `build` as if every commit were taken out and one stood at the end
 abbrev pub events_for : Command → List EventData → List EventData
@@ -57,6 +59,21 @@ pub record AreCommits (es : List EventData) (held : List FilesData) (deltas : Li
   pub built : (k : ℕ) → (out : FilesData) → slice_get held k ≡ Some out → BuildsAt es (suc k) out
   pub changes : AreDeltas map.empty held deltas
 
+-- the files of the last of the first n commits, which are kept; before the first none are
+abbrev pub IsKeptAt : List EventData → ℕ → Option FilesData → Type 0
+IsKeptAt es zero kept = kept ≡ None
+IsKeptAt es (suc n) kept = IsSomeAnd kept (AreFilesAt es (suc n))
+
+-- how much is done for the commit behind the first n: to come from the files that these leave kept to those that stand then
+abbrev pub IsWorkAt : List EventData → ℕ → Work → Type 0
+IsWorkAt es n work =
+    (kept : Option FilesData) × (files : FilesData) × IsKeptAt es n kept × AreFilesAt es (suc n) files × IsWorkFrom kept files work
+
+-- how much is done for each of the commits at which these outputs are held
+pub record AreWorks (es : List EventData) (held : List FilesData) (works : List Work) : Type 0 where
+  pub count : length works ≡ length held
+  pub done : (n : ℕ) → (work : Work) → slice_get works n ≡ Some work → IsWorkAt es n work
+
 -- what is held after the last of these commits
 abbrev pub last_held : List FilesData → FilesData
 last_held held = held_at map.empty held (length held)
@@ -72,15 +89,15 @@ is_refused held = list_any (λ output. is_refusal output.0) (map.entries held)
 -- all was written; `refused` says whether a refusal is held at the end
 abbrev pub WroteWhole : Telling → List EventData → Bool → Option (List ℕ) → Option (List ℕ) → Type 0
 WroteWhole told es refused old new =
-    (held : List FilesData) × (deltas : List Delta) × AreCommits es held deltas × (length held ≡ commit_count es)
-    × (is_refused (last_held held) ≡ refused) × Appends old new (whole_text told deltas)
+    (held : List FilesData) × (deltas : List Delta) × (works : List Work) × AreCommits es held deltas × AreWorks es held works
+    × (length held ≡ commit_count es) × (is_refused (last_held held) ≡ refused) × Appends old new (whole_text told works deltas)
 
 -- a part was written, and not all: a prefix of what some of the commits gave, or less than the whole of what all gave
 abbrev pub WrotePart : Telling → List EventData → Option (List ℕ) → Option (List ℕ) → Type 0
 WrotePart told es old new =
-    (held : List FilesData) × (deltas : List Delta) × AreCommits es held deltas
-    × (((length held < commit_count es) × AppendsFront old new (commits_so_far told deltas))
-    ⊎ ((length held ≡ commit_count es) × AppendsPart old new (whole_text told deltas)))
+    (held : List FilesData) × (deltas : List Delta) × (works : List Work) × AreCommits es held deltas × AreWorks es held works
+    × (((length held < commit_count es) × AppendsFront old new (commits_so_far told works deltas))
+    ⊎ ((length held ≡ commit_count es) × AppendsPart old new (whole_text told works deltas)))
 
 -- What is written of a script in which an event does not fit.
 
@@ -94,14 +111,14 @@ commits_before (Gen seed size) es number = commit_count (take number es)
 -- the first line and so many commits of these events were written
 abbrev pub WroteUpTo : Telling → List EventData → ℕ → Option (List ℕ) → Option (List ℕ) → Type 0
 WroteUpTo told es count old new =
-    (held : List FilesData) × (deltas : List Delta) × AreCommits es held deltas
-    × (length held ≡ count) × Appends old new (commits_so_far told deltas)
+    (held : List FilesData) × (deltas : List Delta) × (works : List Work) × AreCommits es held deltas × AreWorks es held works
+    × (length held ≡ count) × Appends old new (commits_so_far told works deltas)
 
 -- .. or a prefix of that
 abbrev pub WroteFrontUpTo : Telling → List EventData → ℕ → Option (List ℕ) → Option (List ℕ) → Type 0
 WroteFrontUpTo told es count old new =
-    (held : List FilesData) × (deltas : List Delta) × AreCommits es held deltas
-    × (length held ≤ count) × AppendsFront old new (commits_so_far told deltas)
+    (held : List FilesData) × (deltas : List Delta) × (works : List Work) × AreCommits es held deltas × AreWorks es held works
+    × (length held ≤ count) × AppendsFront old new (commits_so_far told works deltas)
 
 -- a part was written of what a command tells of these events: not all, and where an event does not fit nothing that comes
 -- after it

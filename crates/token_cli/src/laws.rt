@@ -5,14 +5,16 @@ ghost use Rattle.edit_script.specs.Script.{EventData};
 ghost use Rattle.tk_io.specs.FilesData.{FilesData};
 ghost use Rattle.edit_script.specs.Delta.{Delta};
 ghost use Rattle.command_words.specs.declared.command.Command.{Command};
-ghost use Rattle.token_cli.specs.Headline.{AreCommits};
+ghost use Rattle.build_plain.specs.Work.{Work};
+ghost use Rattle.token_cli.specs.Headline.{AreCommits, AreWorks};
 ghost use Rattle.token_cli.specs.Outcome.{IsStatusFor};
 ghost use Rattle.token_cli.specs.declared.status.Status.{Status};
 
 use build_plain::one_build;
+use rebuild_core::work_laws;
 
-/// The events of a script decide the outputs at each of its commits and the changes between them, and so the whole stream
-/// and the statistics.
+/// The events of a script decide the outputs at each of its commits, the changes between them and how much is done for
+/// them, and so the whole stream and the statistics.
 pub fn one_stream()
     ensures held { (es : List EventData) (held others : List FilesData)
         (deltas changes : List Delta)
@@ -22,8 +24,12 @@ pub fn one_stream()
         (deltas changes : List Delta)
         → AreCommits es held deltas → AreCommits es others changes → length held ≡ length others
         → deltas ≡ changes }
+    ensures works { (es : List EventData) (held others : List FilesData) (works counts : List Work)
+        → AreWorks es held works → AreWorks es others counts → length held ≡ length others
+        → works ≡ counts }
 {
     one_build();
+    work_laws();
 }
 
 /// A command and the bytes that a source has left have one status at most.

@@ -1,8 +1,9 @@
 //! The command line of tokc: its arguments, its script, its stream and statistics, and the call that does the whole job.
 #![tactic(auto)]
 
-mod building;
 mod clean;
+mod committing;
+mod editing;
 mod laws;
 mod numbered;
 mod reading;
@@ -16,7 +17,6 @@ mod telling;
 mod wiring;
 mod workspace;
 
-pub use building::build_files;
 pub use clean::run_clean;
 pub use command_words::{Command, WordStop, read_words};
 pub use generated_script::gen_script;
@@ -24,6 +24,8 @@ pub use laws::{one_status, one_stream};
 pub use numbered::run_numbered;
 pub use reading::read_events;
 pub use refusal::is_refused;
+pub use reporting::{report_event, report_script, report_stop};
 pub use running::run;
 pub use status::Status;
-pub use wiring::program;
+pub use stop::Stop;
+pub use wiring::{program, program_words};

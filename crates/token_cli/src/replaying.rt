@@ -23,7 +23,7 @@ fn head_line(telling: Telling) -> Line
 {
     match telling {
         Telling::Records => Line::StreamHead,
-        Telling::Counts => Line::StatsHead,
+        Telling::Numbers => Line::StatsHead,
     }
 }
 
@@ -46,7 +46,7 @@ fn tell_events<'s, K: Sink>(
         workspace.take(alloc, telling, event, arena, out)?;
     }
     write_line(out, &Line::Done(workspace.commits))?;
-    Ok(is_refused(&workspace.held))
+    Ok(is_refused(workspace.engine.held()))
 }
 
 // Tells each commit of the events, and says whether a refusal is held at their end.
@@ -98,7 +98,7 @@ fn tell_end<'s, K: Sink>(
     edit_all(events, arena, workspace)?;
     workspace.commit(alloc, Telling::Records, out)?;
     write_line(out, &Line::Done(workspace.commits))?;
-    Ok(is_refused(&workspace.held))
+    Ok(is_refused(workspace.engine.held()))
 }
 
 // Tells one commit at the end of the events, and says whether a refusal is held then.
@@ -136,6 +136,6 @@ pub fn write_events<'s, K: Sink>(
     match command {
         Command::Build => build_at_end(alloc, events, arena, out),
         Command::Replay => replay(alloc, Telling::Records, events, arena, out),
-        Command::Stats | Command::Gen(..) => replay(alloc, Telling::Counts, events, arena, out),
+        Command::Stats | Command::Gen(..) => replay(alloc, Telling::Numbers, events, arena, out),
     }
 }

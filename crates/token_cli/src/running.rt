@@ -18,6 +18,7 @@ use build_plain::one_build;
 use bumpalo::Bump;
 use command_words::{Command, read_words, words_of_commands};
 use generated_script::{gen_script, generated_events};
+use rebuild_core::work_laws;
 use std::alloc::Global;
 use tk_io::{Sink, Source, read_all};
 
@@ -117,8 +118,8 @@ fn main_job<S: Source, K: Sink>(
 ///
 /// They are `build`, `replay` or `stats`, for the script of the source, or `gen SEED SIZE`, for the script that is made
 /// of these two numbers. Commit after commit, the stream has exactly the output files that a build from nothing of
-/// the files then present would change, and the statistics say how many they are. `build` acts as if every commit were
-/// taken out and one stood at the end; `gen` writes statistics, and reads nothing.
+/// the files then present would change, and the statistics say how many they are, and how much was done for them. `build`
+/// acts as if every commit were taken out and one stood at the end; `gen` writes statistics, and reads nothing.
 pub fn run<S: Source, K: Sink, E: Sink>(
     alloc: Global,
     words: &[String],
@@ -137,6 +138,7 @@ pub fn run<S: Source, K: Sink, E: Sink>(
         → src.new ≡ src.old) }
 {
     one_build();
+    work_laws();
     let ended = main_job(alloc, words, src, out);
     report(err, ended);
     status_of(ended)

@@ -3,16 +3,17 @@
 ghost use Rattle.std.specs.Prelude.{◌≡◌};
 ghost use Rattle.token_cli.specs.declared.stop.Stop.TheVariants.{NoMemory as OutOfMemory};
 ghost use Rattle.token_cli.specs.declared.stop.Stop.TheVariants.{WriteFault as Faulted};
-ghost use Rattle.token_cli.specs.inner.Causes.{of_read, of_script, of_words};
+ghost use Rattle.token_cli.specs.inner.Causes.{of_load, of_read, of_script, of_words};
 
 use command_words::WordStop;
 use edit_script::ScriptStop;
+use file_plan::LoadStop;
 use tk_io::{Failed, NoMemory, ReadStop};
 
 /// Why a run ends before all is written.
 #[derive(Clone, Copy, Debug, PartialEq, Eq)]
 pub enum Stop {
-    /// The arguments are no command.
+    /// The arguments are none that the program has.
     Usage,
     /// The script has no reading; it is refused at this byte.
     BadScript(usize),
@@ -63,6 +64,17 @@ impl From<ScriptStop> for Stop {
         match stop {
             ScriptStop::BadScript(at) => Stop::BadScript(at),
             ScriptStop::NoMemory => Stop::NoMemory,
+        }
+    }
+}
+
+impl From<LoadStop> for Stop {
+    ghost from_gives = { λ s e. e ≡ of_load s };
+
+    fn from(stop: LoadStop) -> Stop {
+        match stop {
+            LoadStop::Unfit(number) => Stop::BadEvent(number),
+            LoadStop::NoMemory => Stop::NoMemory,
         }
     }
 }

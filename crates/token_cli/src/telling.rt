@@ -5,6 +5,6 @@
 pub enum Telling {
     /// By the records of what changed: the stream.
     Records,
-    /// By how many outputs were written and given up: the statistics.
-    Counts,
+    /// By how much was done, and how many outputs were written and given up: the statistics.
+    Numbers,
 }

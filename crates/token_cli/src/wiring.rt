@@ -12,38 +12,56 @@ use crate::stop::Stop;
 use std::env;
 use std::io::ErrorKind;
 use std::process::ExitCode;
-use tk_io::{NoMemory, StdSink, StdSource};
+use tk_io::{NoMemory, Sink, StdSink, StdSource};
 
-// The arguments behind the program's name. Where one of them is no text there are none, which is no
-// known list of arguments.
-fn words(rt: &HostRuntime) -> Result<Vec<String>, NoMemory> {
+/// The arguments behind the program's name; none where one of them is no text, which is no list of arguments that a
+/// program knows.
+///
+/// # Errors
+/// `NoMemory`.
+pub fn program_words(rt: &HostRuntime) -> Result<Option<Vec<String>>, NoMemory> {
     let mut words = Vec::new(rt.alloc());
     match env::args(rt) {
         Ok(args) => {
             for word in args.skip(1) {
                 words.push(word)?;
             }
+            Ok(Some(words))
         }
-        Err(error) if error.kind() == ErrorKind::OutOfMemory => return Err(NoMemory),
-        Err(_) => {}
+        Err(error) if error.kind() == ErrorKind::OutOfMemory => Err(NoMemory),
+        Err(_) => Ok(None),
     }
-    Ok(words)
 }
 
-// Runs the arguments over the standard streams, and answers the number of the status. Where they
-// found no memory, that is said, and nothing is read.
+// Says why the program stops, and answers the number of that.
+fn stopped<E: Sink>(err: &mut E, stop: Stop) -> u8
+    ensures { (status : StatusData) × (result ≡ status_number status) }
+{
+    let ended = Err(stop);
+    report(err, ended);
+    status_of(ended).number()
+}
+
+// Runs the arguments over the standard streams, and answers the number of the status.
+fn run_over(rt: &HostRuntime, words: &[String]) -> u8
+    ensures { (status : StatusData) × (result ≡ status_number status) }
+{
+    let mut src = StdSource::new(rt.stdin());
+    let mut out = StdSink::new(rt.stdout());
+    let mut err = StdSink::new(rt.stderr());
+    run_numbered(rt.alloc(), words, &mut src, &mut out, &mut err)
+}
+
+// Runs the arguments. Where they found no memory, or one is no text, that is said, and nothing is read.
 fn run_words(rt: &HostRuntime) -> u8
     ensures { (status : StatusData) × (result ≡ status_number status) }
 {
     let mut err = StdSink::new(rt.stderr());
-    let Ok(words) = words(rt) else {
-        let ended = Err(Stop::NoMemory);
-        report(&mut err, ended);
-        return status_of(ended).number();
-    };
-    let mut src = StdSource::new(rt.stdin());
-    let mut out = StdSink::new(rt.stdout());
-    run_numbered(rt.alloc(), words.as_slice(), &mut src, &mut out, &mut err)
+    match program_words(rt) {
+        Ok(Some(words)) => run_over(rt, words.as_slice()),
+        Ok(None) => stopped(&mut err, Stop::Usage),
+        Err(_) => stopped(&mut err, Stop::NoMemory),
+    }
 }
 
 /// Does what the arguments say: reads the script from standard input, writes the stream to standard

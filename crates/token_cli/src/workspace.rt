@@ -1,44 +1,44 @@
 //! What stands while a script is replayed, and what its events make of it.
 
-ghost use Rattle.std.specs.Prelude.{◌≡◌, ◌<◌, ◌≤◌, ◌^◌, ◌-◌, ℕ, Some, OnOk, OnErr, IfErr};
+ghost use Rattle.std.specs.Prelude.{◌≡◌, ◌<◌, ◌≤◌, ◌^◌, ◌-◌, ◌++◌, ℕ, Some, OnOk, OnErr, IfErr};
 ghost use Rattle.std.specs.List.{slice_get};
 ghost use Rattle.std.specs.Io.KnownBytes.{Appends};
 ghost use Rattle.tk_io.specs.Causes.{HasCause};
 ghost use Rattle.tk_io.specs.Writing.{AppendsPart};
 ghost use Rattle.edit_script.specs.Delta.{Delta, IsDelta};
 ghost use Rattle.edit_script.specs.Files.{most_patched};
+ghost use Rattle.edit_script.specs.Stats.{stats_line, without_lines};
+ghost use Rattle.edit_script.specs.Stream.{line_text};
 ghost use Rattle.edit_script.specs.View.{Lined, event_view, with_line};
+ghost use Rattle.edit_script.specs.declared.line.Line.TheVariants.{Commit as CommitLine};
 ghost use Rattle.token_cli.specs.inner.Step.{CommitFails, Cuts, EditFails, Fails};
 ghost use Rattle.token_cli.specs.inner.Step.{IsCommitTold, IsEdited, IsEventTold};
 ghost use Rattle.token_cli.specs.inner.Step.{changes_text, first_state, records_of};
 ghost use Rattle.token_cli.specs.Told.{commit_text};
+ghost use Rattle.rebuild_core.specs.Engine.{counts_view};
 ghost use Rattle.token_cli.specs.inner.View.{workspace_view};
 
-use crate::building::build_files;
+use crate::committing::commit_files;
+use crate::editing::take_event;
 use crate::stop::Stop;
 use crate::telling::Telling;
-use build_plain::Earlier;
 use bumpalo::Bump;
-use edit_script::{Changes, Event, Line, delta, short_line, write_change, write_line};
-use file_plan::Files;
+use edit_script::{Changes, Event, Line, delta, stats_line, write_change, write_line};
+use rebuild_core::{Commit, Counts, Engine};
 use std::alloc::Global;
 use tk_io::{Failed, Outputs, Sink};
 
 /// What stands while a script is replayed.
 #[derive(Drop)]
 pub struct Workspace<'s> {
-    /// The files that its events have left.
-    pub files: Files<'s>,
+    /// The files that its events have left, the outputs of the last commit, and what is kept of it.
+    pub engine: Engine<'s>,
     /// How many bytes the texts have that its patches made.
     pub made: u64,
     /// How many events were taken.
     pub taken: usize,
-    /// The outputs of the last commit; none before the first.
-    pub held: Outputs,
     /// How many commits there were.
     pub commits: u64,
-    /// What the tokens of the last commit came to.
-    pub earlier: Earlier<'s>,
 }
 
 // Writes the records of the changes.
@@ -62,53 +62,69 @@ fn write_records<K: Sink>(out: &mut K, number: u64, changes: &Changes<'_>) -> Re
     requires { (i : ℕ) → (change : Lined) → slice_get changes.now i ≡ Some change
         → change ≡ with_line change.0 }
     ensures whole { OnOk result (Appends (K.written out.old) (K.written out.new)
-        (changes_text Telling.Records number changes.now)) }
+        (line_text (CommitLine number) ++ records_of changes.now)) }
     ensures part { OnErr result (AppendsPart (K.written out.old) (K.written out.new)
-        (changes_text Telling.Records number changes.now)) }
+        (line_text (CommitLine number) ++ records_of changes.now)) }
     ensures cause { HasCause (K.faults out.old) (K.faults out.new) result }
 {
     write_line(out, &Line::Commit(number))?;
     write_changes(out, changes)
 }
 
-// Tells the changes of the commit with this number.
+// The line of the commit with this number in the statistics, for which so much was done.
+fn numbers_line(number: u64, counts: Counts, changes: &Changes<'_>) -> Line
+    ensures { result ≡ stats_line number counts.parsed counts.merged counts.evaluated
+        (without_lines changes.now) }
+{
+    let Counts {
+        parsed,
+        merged,
+        evaluated,
+    } = counts;
+    stats_line(number, parsed, merged, evaluated, changes)
+}
+
+// Tells the changes of the commit with this number, for which so much was done.
 fn tell<K: Sink>(
     out: &mut K,
     telling: Telling,
     number: u64,
+    counts: Counts,
     changes: &Changes<'_>,
 ) -> Result<(), Failed>
     requires { (i : ℕ) → (change : Lined) → slice_get changes.now i ≡ Some change
         → change ≡ with_line change.0 }
     ensures whole { OnOk result (Appends (K.written out.old) (K.written out.new)
-        (changes_text telling number changes.now)) }
+        (changes_text telling number (counts_view counts) changes.now)) }
     ensures part { OnErr result (AppendsPart (K.written out.old) (K.written out.new)
-        (changes_text telling number changes.now)) }
+        (changes_text telling number (counts_view counts) changes.now)) }
     ensures cause { HasCause (K.faults out.old) (K.faults out.new) result }
 {
     match telling {
         Telling::Records => write_records(out, number, changes),
-        Telling::Counts => write_line(out, &short_line(number, changes)),
+        Telling::Numbers => write_line(out, &numbers_line(number, counts, changes)),
     }
 }
 
-// Tells what changed from the old outputs to the new at the commit with this number.
+// Tells what the commit with this number did, after which these outputs are held.
 fn write_commit<K: Sink>(
     alloc: Global,
     telling: Telling,
     number: u64,
-    old: &Outputs,
-    new: &Outputs,
+    done: &Commit,
+    held: &Outputs,
     out: &mut K,
 ) -> Result<(), Stop>
-    ensures ok { OnOk result ((d : Delta) × IsDelta old.now new.now d
-        × Appends (K.written out.old) (K.written out.new) (commit_text telling number d)) }
-    ensures err { IfErr result (λ stop. Cuts telling stop old.now new.now number (K.written out.old)
-        (K.written out.new) (K.faults out.old) (K.faults out.new)) }
+    ensures ok { OnOk result ((d : Delta) × IsDelta done.now.before held.now d
+        × Appends (K.written out.old) (K.written out.new)
+        (commit_text telling number (counts_view done.now.counts) d)) }
+    ensures err { IfErr result (λ stop. Cuts telling stop done.now.before held.now number
+        (counts_view done.now.counts) (K.written out.old) (K.written out.new)
+        (K.faults out.old) (K.faults out.new)) }
     ensures later { K.faults out.old ≤ K.faults out.new }
 {
-    let changes = delta(alloc, old, new)?;
-    tell(out, telling, number, &changes)?;
+    let changes = delta(alloc, &done.before, held)?;
+    tell(out, telling, number, done.counts, &changes)?;
     Ok(())
 }
 
@@ -118,12 +134,10 @@ impl<'s> Workspace<'s> {
         ensures { workspace_view result ≡ first_state }
     {
         Workspace {
-            files: Files::new(alloc),
+            engine: Engine::new(alloc),
             made: 0,
             taken: 0,
-            held: Outputs::new(alloc),
             commits: 0,
-            earlier: Earlier::new(),
         }
     }
 
@@ -137,7 +151,7 @@ impl<'s> Workspace<'s> {
             (workspace_view self.old)) }
     {
         let number = self.taken + 1;
-        let Some(made) = self.files.take(event, self.made, arena)? else {
+        let Some(made) = take_event(&mut self.engine, event, self.made, arena)? else {
             return Err(Stop::BadEvent(number));
         };
         self.made = made;
@@ -160,10 +174,10 @@ impl<'s> Workspace<'s> {
             (K.faults out.old) (K.faults out.new)) }
         ensures later { K.faults out.old ≤ K.faults out.new }
     {
-        let outputs = build_files(alloc, &self.files, &mut self.earlier)?;
-        write_commit(alloc, telling, self.commits + 1, &self.held, &outputs, out)?;
-        self.commits += 1;
-        self.held = outputs;
+        let done = commit_files(alloc, &mut self.engine)?;
+        let number = self.commits + 1;
+        write_commit(alloc, telling, number, &done, self.engine.held(), out)?;
+        self.commits = number;
         Ok(())
     }
 

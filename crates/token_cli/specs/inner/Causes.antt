@@ -3,6 +3,8 @@ use Rattle.tk_io.specs.declared.source.ReadStop.{ReadStop}
 use Rattle.tk_io.specs.declared.source.ReadStop.TheVariants as reading
 use Rattle.edit_script.specs.declared.script.ScriptStop.{ScriptStop}
 use Rattle.edit_script.specs.declared.script.ScriptStop.TheVariants as script
+use Rattle.file_plan.specs.declared.loading.LoadStop.{LoadStop}
+use Rattle.file_plan.specs.declared.loading.LoadStop.TheVariants as load
 use Rattle.command_words.specs.declared.command.WordStop.{WordStop}
 use Rattle.command_words.specs.declared.command.WordStop.TheVariants as words
 use Rattle.token_cli.specs.declared.stop.Stop.{Stop}
@@ -16,6 +18,10 @@ of_read reading.NoMemory = stop.NoMemory
 abbrev pub of_script : ScriptStop → Stop
 of_script (script.BadScript at) = stop.BadScript at
 of_script script.NoMemory = stop.NoMemory
+
+abbrev pub of_load : LoadStop → Stop
+of_load (load.Unfit number) = stop.BadEvent number
+of_load load.NoMemory = stop.NoMemory
 
 abbrev pub of_words : WordStop → Stop
 of_words words.Usage = stop.Usage

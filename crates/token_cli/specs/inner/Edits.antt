@@ -12,6 +12,7 @@ pub record AreEdited (es : List EventData) (s : State) : Type 0 where
   pub files : AreFilesAfter es s.files
   pub made : s.made ≡ made_after es
   pub held : s.held ≡ first_state.held
+  pub kept : s.kept ≡ first_state.kept
   pub commits : s.commits ≡ 0
 
 -- why these events aren't all taken into the files

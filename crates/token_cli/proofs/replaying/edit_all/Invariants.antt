@@ -7,4 +7,4 @@ use Rattle.token_cli.proofs.replaying.edit_all.Given as goal
 abbrev pub invariant-loop-event : goal.invariant-loop-event
 invariant-loop-event l =
     Edited l.events l.event-index (workspace_view l.workspace)
-    × (l.workspace.held ≡ first_state.held) × (l.workspace.commits ≡ 0)
+    × (l.workspace.engine.held ≡ first_state.held) × (l.workspace.engine.kept ≡ first_state.kept) × (l.workspace.commits ≡ 0)

@@ -1,5 +1,6 @@
-use Rattle.std.proofs.Common.{inl, length, arith, sym}
+use Rattle.std.proofs.Common.{◌∙◌, inl, length, ap, arith, sym}
 use Rattle.edit_script.specs.Files.{as_one_commit}
+use Rattle.token_cli.specs.Headline.{is_refused}
 use Rattle.token_cli.specs.inner.Ending.{one_commit}
 use Rattle.token_cli.specs.inner.View.{workspace_view}
 use Rattle.token_cli.specs.declared.stop.Stop.TheVariants as stop
@@ -70,4 +71,4 @@ returns-clause-written g c =
     let edited = c.in_ok-edit_all.ensures.ok in
     let t = workspace_view c.commit.new.self in
     let stands = stands_end es (workspace_view c.edit_all.new.workspace) t old now told edited c.in_ok-write_line.ensures.whole c.in_ok-commit.ensures.ok in
-    (edited.fits, ends_whole Records fs (length fs) t old told (g.K.Sink.written c.write_line-2.new.out) c.is_refused.result (omega arith) stands c.in_ok-write_line-2.ensures.whole (sym c.is_refused.ensures))
+    (edited.fits, ends_whole Records fs (length fs) t old told (g.K.Sink.written c.write_line-2.new.out) c.is_refused.result (omega arith) stands c.in_ok-write_line-2.ensures.whole (ap is_refused (sym c.held.ensures) ∙ sym c.is_refused.ensures))

@@ -1,9 +1,10 @@
-use Rattle.std.proofs.Common.{inl, subst, arith, sym}
+use Rattle.std.proofs.Common.{◌∙◌, inl, ap, subst, arith, sym}
 use Rattle.std.specs.Io.KnownBytes.{Appends}
 use Rattle.tk_io.specs.Writing.{AppendsPart}
 use Rattle.edit_script.specs.View.{event_view}
 use Rattle.edit_script.specs.Stream.{line_text}
 use Rattle.edit_script.specs.declared.line.Line.{Line}
+use Rattle.token_cli.specs.Headline.{is_refused}
 use Rattle.token_cli.specs.inner.View.{workspace_view}
 use Rattle.token_cli.specs.declared.stop.Stop.TheVariants as stop
 use Rattle.token_cli.proofs.Places.{all_listed, read_listed}
@@ -41,7 +42,7 @@ take-requires-clause-commits g c =
     omega (arith, c.loop-event.invariant.1.count, count_taken es i, c.loop-event-test.true)
 
 pub take-requires-clause-made : goal.take-requires-clause-made
-take-requires-clause-made g c = taken_bound c.args.events.now c.loop-event.event-index c.loop-event.workspace.files c.loop-event.workspace.made c.loop-event.invariant.0.events
+take-requires-clause-made g c = taken_bound c.args.events.now c.loop-event.event-index c.loop-event.workspace.engine.files c.loop-event.workspace.made c.loop-event.invariant.0.events
 
 pub returns-in_err-take-clause-written : goal.returns-in_err-take-clause-written
 returns-in_err-take-clause-written g c =
@@ -89,5 +90,5 @@ returns-clause-written g c =
     let done = all_listed c.as_slice-event-items.result.now event_view es c.loop-event.event-index c.as_slice-event-items.ensures c.loop-event-test.false in (
       all_edited es c.loop-event.event-index (workspace_view c.loop-event.workspace) done c.loop-event.invariant.0,
       ends_whole told es c.loop-event.event-index (workspace_view c.loop-event.workspace) (g.K.Sink.written c.args.out.now) (g.K.Sink.written c.loop-event.out) (g.K.Sink.written c.write_line-2.new.out) c.is_refused.result done c.loop-event.invariant.1 c.in_ok-write_line-2.ensures.whole
-          (sym c.is_refused.ensures),
+          (ap is_refused (sym c.held.ensures) ∙ sym c.is_refused.ensures),
     )

@@ -17,7 +17,7 @@ returns-clause-runs g c =
     let reports = g.E.Sink.faults c.args.err.now in
     let reports_now = g.E.Sink.faults c.report.new.err in
     subst (λ (s : Status). Runs command t told told_now reports reports_now s) (sym c.status_of.ensures)
-    (promises_of c.one_build.ensures.outputs command t told told_now reports reports_now job.result job.ensures.ends
+    (promises_of c.one_build.ensures.outputs c.work_laws.ensures.one command t told told_now reports reports_now job.result job.ensures.ends
     (λ none. let (stopped, unread, unwritten) = job.ensures.words none in (stopped, unwritten))
     (λ seed size which. let (same, bad, read, long, unfit) = job.ensures.generated seed size which in (bad, read, long, unfit))
     job.ensures.taken c.report.ensures)

@@ -2,7 +2,8 @@ use Rattle.std.proofs.Common.{List, ℕ, Some, Err, ap, subst}
 use Rattle.token_cli.specs.inner.Causes.{of_read}
 use Rattle.token_cli.specs.Course.{course}
 use Rattle.token_cli.specs.inner.Ending.{Scripted}
-use Rattle.token_cli.proofs.JobEnds.{ends_err, not_long, read_ends, source_ends}
+use Rattle.token_cli.proofs.JobEnds.{ends_err, read_ends, source_ends}
+use Rattle.token_cli.proofs.ScriptsRead.{not_long}
 use Rattle.token_cli.proofs.running.tell_source.Goals as goal
 
 pub returns-in_err-script-clause-ends : goal.returns-in_err-script-clause-ends

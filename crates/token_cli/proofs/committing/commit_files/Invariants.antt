@@ -1,4 +1,4 @@
-use Rattle.token_cli.proofs.building.build_files.Given as goal
+use Rattle.token_cli.proofs.committing.commit_files.Given as goal
 
 abbrev pub ghosts-counted-L-Ledger : goal.ghosts-counted-L-Ledger
 ghosts-counted-L-Ledger a = record { name = a.parses.name; parts = a.parses.parts }
