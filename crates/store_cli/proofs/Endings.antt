@@ -1,7 +1,6 @@
 -- How a run ends, and what its status says.
-use Rattle.std.proofs.Common.{◌≡◌, ◌⊎◌, inl, inr, ◌+◌, ◌≤◌, ◌<◌, ◌∙◌, ℕ, Bool, true, false, List, ◌++◌, length, Option, Some, None, Result, Ok, Err, ap, sym, subst, refl, arith, append-nil, length-append}
-use Rattle.std.specs.Prelude.{IfSome, IsErrAnd, IsErrOf}
-use Rattle.std.proofs.lemmas.Option.{none-some, same_Some}
+use Rattle.std.proofs.Common.{◌≡◌, ◌⊎◌, inl, inr, ◌+◌, ◌≤◌, ◌<◌, ◌∙◌, ℕ, Bool, true, false, List, length, Option, Some, Result, Ok, Err, ap, sym, subst, refl}
+use Rattle.std.specs.Prelude.{IsErrAnd, IsErrOf}
 use Rattle.std.specs.Io.KnownBytes.{Consumes, IsAtEnd}
 use Rattle.tk_io.specs.Causes.{Rose}
 use Rattle.tk_io.specs.FilesData.{FilesData}
@@ -10,9 +9,8 @@ use Rattle.tk_io.specs.declared.source.ReadStop.{ReadStop}
 use Rattle.tk_io.specs.declared.source.ReadStop.TheVariants as reading
 use Rattle.edit_script.specs.Script.{EventData, IsScript, IsScriptStop}
 use Rattle.edit_script.specs.Files.{EveryFits, IsUnfit}
-use Rattle.edit_script.proofs.Readings.{one_reading}
-use Rattle.edit_script.proofs.UnfitEvents.{not_both}
-use Rattle.token_cli.specs.Headline.{OfSource, most_bytes}
+use Rattle.token_cli.specs.Headline.{most_bytes}
+use Rattle.token_cli.proofs.ScriptsRead.{every_fits, has_none, is_read, longer, of_source, one_unfit, too_long}
 use Rattle.store_cli.specs.Stored.{IsStored, StoredOf}
 use Rattle.store_cli.specs.inner.Ending.{Course, Ends, ReadScript, Scripted, course, of_read, place_of, status_of}
 use Rattle.store_cli.specs.declared.stop.Stop.{Stop}
@@ -48,13 +46,6 @@ read_ends reading.TooLong words left rest reads reads_now held faults rose long 
 read_ends reading.NoMemory words left rest reads reads_now held faults rose long = tt
 
 -- A script that was read to its end.
-of_source : (left rest : Option (List ℕ)) (script : List ℕ) (claim : List ℕ → Type 0) → Consumes left rest script → IsAtEnd rest → length script ≤ most_bytes → claim script → OfSource left claim
-of_source None rest script claim all end short holds = tt
-of_source (Some xs) None script claim all end short holds = absurd all
-of_source (Some xs) (Some ys) script claim all end short holds =
-    let same : xs ≡ script = all ∙ (ap (λ l. script ++ l) end ∙ append-nil script) in
-    (subst (λ (l : List ℕ). length l ≤ most_bytes) (sym same) short, subst claim (sym same) holds)
-
 module _ (left rest : Option (List ℕ)) (script : List ℕ) (all : Consumes left rest script) (end : IsAtEnd rest) (short : length script ≤ most_bytes) (words : ℕ) (one : words ≡ 1) (reads reads_now : ℕ) (old new : Option FilesData) (faults faults_now : ℕ) where
   read_script : (es : List EventData) × IsScript script es × EveryFits es → ReadScript left rest
   read_script made = (end, of_source left rest script (λ text. (es : List EventData) × IsScript text es × EveryFits es) all end short made)
@@ -103,33 +94,9 @@ said_by r s e = ended_back r ∙ ap (λ x. ended_of x (place_of r)) e
 pub ends_as : (r : Ended) (result s : StoreStatus) (words : ℕ) (t : Course) → Ends r words t → result ≡ status_of r → result ≡ s → Ends (ended_of s (place_of r)) words t
 ends_as r result s words t h e is = subst (λ (y : Ended). Ends y words t) (said_by r s (sym e ∙ is)) h
 
-at_some : {A : Type 0} (x : A) (o : Option A) (P : A → Type 0) → o ≡ Some x → IfSome o P → P x
-at_some x None P e h = absurd (none-some x e)
-at_some x (Some y) P e h = subst P (same_Some y x e) h
-
-taken : (n : ℕ) (script : List ℕ) (old new : Option (List ℕ)) → old ≡ Some script → TakesExactly n old new → n ≤ length script
-taken n script None new e t = absurd (none-some script e)
-taken n script (Some xs) None e t = absurd t.1
-taken n script (Some xs) (Some ys) e t = let same = same_Some xs script e in omega (arith, ap length t.1, length-append t.0 ys, t.2, ap length same)
-
 module _ (words : ℕ) (one : words ≡ 1) (left rest : Option (List ℕ)) (script : List ℕ) (told : left ≡ Some script) (reads reads_now : ℕ) (unread : Rose reads reads_now → ⊥) (old new : Option FilesData) (faults faults_now : ℕ) where
   abbrev there : Course
   there = course left rest reads reads_now old new faults faults_now
-
-  of_it : (claim : List ℕ → Type 0) → OfSource left claim → (length script ≤ most_bytes) × claim script
-  of_it claim h = at_some script left (λ text. (length text ≤ most_bytes) × claim text) told h
-
-  too_long : TakesExactly (most_bytes + 1) left rest → length script ≤ most_bytes → ⊥
-  too_long t short = let more = taken (most_bytes + 1) script left rest told t in absurd (omega (arith, more, short))
-
-  -- the event that is told is the first of the script's events that does not fit
-  unfit_of : (es : List EventData) (number : ℕ) → IsScript script es → OfSource left (λ text. (fs : List EventData) × IsScript text fs × IsUnfit fs number) → IsUnfit es number
-  unfit_of es number is h =
-      let (fs, is_too, unfit) = (of_it (λ text. (fs : List EventData) × IsScript text fs × IsUnfit fs number) h).1 in
-      subst (λ (l : List EventData). IsUnfit l number) (one_reading script fs es is_too is) unfit
-
-  no_unfit : (es : List EventData) (number : ℕ) → IsScript script es → IsUnfit es number → (fs : List EventData) × IsScript script fs × EveryFits fs → ⊥
-  no_unfit es number is unfit (fs, is_too, fits) = not_both es number (subst EveryFits (one_reading script fs es is_too is) fits) unfit
 
   pub completed : (r : Ended) → length script ≤ most_bytes → (es : List EventData) → IsScript script es → EveryFits es → (Rose faults faults_now → ⊥) → Ends r words there → IsStored (status_of r) ⊎ (status_of r ≡ status.BadManifest)
   completed (Ok false) short es is fits good h = inl (inl refl)
@@ -137,46 +104,41 @@ module _ (words : ℕ) (one : words ≡ 1) (left rest : Option (List ℕ)) (scri
   completed (Err stop.NoMemory) short es is fits good h = inl (inr (inr refl))
   completed (Err stop.BadManifest) short es is fits good h = inr refl
   completed (Err stop.Usage) short es is fits good h = absurd (h one)
-  completed (Err (stop.BadScript at)) short es is fits good h = absurd ((of_it (λ text. IsScriptStop text at) h.0.1).1.none es is)
+  completed (Err (stop.BadScript at)) short es is fits good h = is_read left rest script told es at is h.0.1
   completed (Err stop.ReadFault) short es is fits good h = absurd (unread h.0)
-  completed (Err stop.TooLong) short es is fits good h = absurd (too_long h.0 short)
+  completed (Err stop.TooLong) short es is fits good h = too_long left rest script told h.0 short
   completed (Err stop.StoreFault) short es is fits good h = absurd (good h.0)
-  completed (Err (stop.BadEvent number)) short es is fits good h = absurd (not_both es number fits (unfit_of es number is h.0.1))
+  completed (Err (stop.BadEvent number)) short es is fits good h = every_fits left rest script told es number is fits h.0.1
 
   pub refused_event : (r : Ended) → length script ≤ most_bytes → (es : List EventData) (number : ℕ) → IsScript script es → IsUnfit es number → Ends r words there → (status_of r ≡ status.BadEvent) ⊎ (status_of r ≡ status.NoMemory)
-  refused_event (Ok refused) short es number is unfit h =
-      let made = (of_it (λ text. (fs : List EventData) × IsScript text fs × StoredOf fs refused old new) h.1.1).1 in
-      absurd (no_unfit es number is unfit (made.0, made.1, made.2.0))
+  refused_event (Ok refused) short es number is unfit h = one_unfit left rest script told es number is unfit (λ fs. StoredOf fs refused old new) (λ fs made. made.0) h.1.1
   refused_event (Err stop.NoMemory) short es number is unfit h = inr refl
-  refused_event (Err stop.BadManifest) short es number is unfit h = absurd (no_unfit es number is unfit (of_it (λ text. (fs : List EventData) × IsScript text fs × EveryFits fs) h.1.1).1)
+  refused_event (Err stop.BadManifest) short es number is unfit h = one_unfit left rest script told es number is unfit EveryFits (λ fs fits. fits) h.1.1
   refused_event (Err stop.Usage) short es number is unfit h = absurd (h one)
-  refused_event (Err (stop.BadScript at)) short es number is unfit h = absurd ((of_it (λ text. IsScriptStop text at) h.0.1).1.none es is)
+  refused_event (Err (stop.BadScript at)) short es number is unfit h = is_read left rest script told es at is h.0.1
   refused_event (Err stop.ReadFault) short es number is unfit h = absurd (unread h.0)
-  refused_event (Err stop.TooLong) short es number is unfit h = absurd (too_long h.0 short)
-  refused_event (Err stop.StoreFault) short es number is unfit h = absurd (no_unfit es number is unfit (of_it (λ text. (fs : List EventData) × IsScript text fs × EveryFits fs) h.1.1).1)
+  refused_event (Err stop.TooLong) short es number is unfit h = too_long left rest script told h.0 short
+  refused_event (Err stop.StoreFault) short es number is unfit h = one_unfit left rest script told es number is unfit EveryFits (λ fs fits. fits) h.1.1
   refused_event (Err (stop.BadEvent n)) short es number is unfit h = inl refl
 
   pub unreadable : (r : Ended) → length script ≤ most_bytes → ((es : List EventData) → IsScript script es → ⊥) → Ends r words there → (status_of r ≡ status.BadScript) ⊎ (status_of r ≡ status.NoMemory)
-  unreadable (Ok refused) short none h = let made = (of_it (λ text. (es : List EventData) × IsScript text es × StoredOf es refused old new) h.1.1).1 in absurd (none made.0 made.1)
+  unreadable (Ok refused) short none h = has_none left rest script told none (λ es. StoredOf es refused old new) h.1.1
   unreadable (Err stop.NoMemory) short none h = inr refl
-  unreadable (Err stop.BadManifest) short none h = let made = (of_it (λ text. (es : List EventData) × IsScript text es × EveryFits es) h.1.1).1 in absurd (none made.0 made.1)
+  unreadable (Err stop.BadManifest) short none h = has_none left rest script told none EveryFits h.1.1
   unreadable (Err stop.Usage) short none h = absurd (h one)
   unreadable (Err (stop.BadScript at)) short none h = inl refl
   unreadable (Err stop.ReadFault) short none h = absurd (unread h.0)
-  unreadable (Err stop.TooLong) short none h = absurd (too_long h.0 short)
-  unreadable (Err stop.StoreFault) short none h = let made = (of_it (λ text. (es : List EventData) × IsScript text es × EveryFits es) h.1.1).1 in absurd (none made.0 made.1)
-  unreadable (Err (stop.BadEvent number)) short none h = let made = (of_it (λ text. (es : List EventData) × IsScript text es × IsUnfit es number) h.0.1).1 in absurd (none made.0 made.1)
-
-  longer : {P : Type 0} → most_bytes < length script → (claim : List ℕ → Type 0) → OfSource left claim → P
-  longer more claim h = absurd (omega (arith, more, (of_it claim h).0))
+  unreadable (Err stop.TooLong) short none h = too_long left rest script told h.0 short
+  unreadable (Err stop.StoreFault) short none h = has_none left rest script told none EveryFits h.1.1
+  unreadable (Err (stop.BadEvent number)) short none h = has_none left rest script told none (λ es. IsUnfit es number) h.0.1
 
   pub endless : (r : Ended) → most_bytes < length script → Ends r words there → (status_of r ≡ status.TooLong) ⊎ (status_of r ≡ status.NoMemory)
-  endless (Ok refused) more h = longer more (λ text. (es : List EventData) × IsScript text es × StoredOf es refused old new) h.1.1
+  endless (Ok refused) more h = longer left rest script told more (λ text. (es : List EventData) × IsScript text es × StoredOf es refused old new) h.1.1
   endless (Err stop.NoMemory) more h = inr refl
-  endless (Err stop.BadManifest) more h = longer more (λ text. (es : List EventData) × IsScript text es × EveryFits es) h.1.1
+  endless (Err stop.BadManifest) more h = longer left rest script told more (λ text. (es : List EventData) × IsScript text es × EveryFits es) h.1.1
   endless (Err stop.Usage) more h = absurd (h one)
-  endless (Err (stop.BadScript at)) more h = longer more (λ text. IsScriptStop text at) h.0.1
+  endless (Err (stop.BadScript at)) more h = longer left rest script told more (λ text. IsScriptStop text at) h.0.1
   endless (Err stop.ReadFault) more h = absurd (unread h.0)
   endless (Err stop.TooLong) more h = inl refl
-  endless (Err stop.StoreFault) more h = longer more (λ text. (es : List EventData) × IsScript text es × EveryFits es) h.1.1
-  endless (Err (stop.BadEvent number)) more h = longer more (λ text. (es : List EventData) × IsScript text es × IsUnfit es number) h.0.1
+  endless (Err stop.StoreFault) more h = longer left rest script told more (λ text. (es : List EventData) × IsScript text es × EveryFits es) h.1.1
+  endless (Err (stop.BadEvent number)) more h = longer left rest script told more (λ text. (es : List EventData) × IsScript text es × IsUnfit es number) h.0.1

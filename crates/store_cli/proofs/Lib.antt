@@ -1,6 +1,5 @@
 mod Endings
 mod OutputPaths
 mod PermutationNames
-mod Pieces
 mod ResolverNames
 mod Stopping

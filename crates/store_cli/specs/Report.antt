@@ -1,6 +1,6 @@
 -- How a run ends: the number of its status, and what is said on the error sink.
-use Rattle.std.specs.Prelude.{ℕ, List, [], ◌++◌, codes}
-use Rattle.std.specs.Fmt.{decimal}
+use Rattle.std.specs.Prelude.{ℕ, List, [], codes}
+use Rattle.token_cli.specs.Report.{bad_event_text, bad_script_text}
 use Rattle.store_cli.specs.declared.status.StoreStatus.{StoreStatus}
 use Rattle.store_cli.specs.declared.status.StoreStatus.TheVariants as status
 
@@ -9,13 +9,13 @@ abbrev pub error_text : StoreStatus → ℕ → List ℕ
 error_text status.Done at = []
 error_text status.Refused at = []
 error_text status.Usage at = codes "usage: tokc_store ROOT\n"
-error_text status.BadScript at = codes "tokc_store: bad script at byte " ++ decimal at ++ codes "\n"
+error_text status.BadScript at = bad_script_text (codes "tokc_store") at
 error_text status.ReadFault at = codes "tokc_store: read failed\n"
 error_text status.NoMemory at = codes "tokc_store: out of memory\n"
 error_text status.TooLong at = codes "tokc_store: script too long\n"
 error_text status.StoreFault at = codes "tokc_store: store failed\n"
 error_text status.BadManifest at = codes "tokc_store: bad manifest\n"
-error_text status.BadEvent at = codes "tokc_store: event " ++ decimal at ++ codes " does not fit\n"
+error_text status.BadEvent at = bad_event_text (codes "tokc_store") at
 
 -- the number that the program ends with
 abbrev pub status_number : StoreStatus → ℕ

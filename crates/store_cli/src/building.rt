@@ -1,6 +1,6 @@
 //! The outputs of a script's files.
 
-ghost use Rattle.std.specs.Prelude.{◌≡◌, ℕ, List, true, Err, IfOk};
+ghost use Rattle.std.specs.Prelude.{◌≡◌, ◌<◌, ℕ, List, true, Err, IfOk};
 ghost use Rattle.std.specs.FinMap as map;
 ghost use Rattle.std.specs.Str.{IsUtf8};
 ghost use Rattle.build_plain.specs.Out.{Builds};
@@ -10,20 +10,47 @@ ghost use Rattle.store_cli.specs.Fitting.{HaveUtf8Resolver};
 ghost use Rattle.store_cli.specs.Stored.{BuildsAfter};
 
 use crate::laws::outputs_fit;
-use build_plain::Earlier;
+use build_plain::{Earlier, build};
 use bumpalo::Bump;
 use edit_script::Events;
 use file_plan::{Files, LoadStop};
 use std::alloc::Global;
-use tk_io::{NoMemory, Outputs};
-use token_cli::build_files;
+use std::marker::Brand;
+use std::sync::ledger::{Blank, Ledger};
+use tk_io::{NoMemory, Outputs, Steps};
+
+// The counters are made here: a call that picks a ledger has no text in its signature.
+fn counted<'s, L: Ledger, M: Ledger, N: Ledger>(
+    alloc: Global,
+    files: &Files<'s>,
+    parses: Blank,
+    merges: Blank,
+    evals: Blank,
+) -> Result<Outputs, NoMemory>
+    requires parses { (parses.name ≡ L.name) × (parses.parts ≡ L.parts) × (0 < L.parts) }
+    requires merges { (merges.name ≡ M.name) × (merges.parts ≡ M.parts) × (0 < M.parts) }
+    requires evals { (evals.name ≡ N.name) × (evals.parts ≡ N.parts) × (0 < N.parts) }
+    ensures { IfOk result (λ outputs. Builds files.now outputs) }
+{
+    let mut earlier = Earlier::new();
+    let mut parses: Steps<L> = Steps::new(parses);
+    let mut merges: Steps<M> = Steps::new(merges);
+    let mut evals: Steps<N> = Steps::new(evals);
+    build(
+        alloc,
+        files,
+        &mut earlier,
+        &mut parses,
+        &mut merges,
+        &mut evals,
+    )
+}
 
 // The outputs of the files, from nothing.
 fn build_anew(alloc: Global, files: &Files<'_>) -> Result<Outputs, NoMemory>
     ensures { IfOk result (λ outputs. Builds files.now outputs) }
 {
-    let mut earlier = Earlier::new();
-    build_files(alloc, files, &mut earlier)
+    counted::<Brand, Brand, Brand>(alloc, files, Blank::new(1), Blank::new(1), Blank::new(1))
 }
 
 // A text is UTF-8.

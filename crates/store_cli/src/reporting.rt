@@ -1,7 +1,6 @@
 //! What is said on the error sink.
 
-ghost use Rattle.std.specs.Prelude.{◌++◌, codes, OnOk, OnErr};
-ghost use Rattle.std.specs.Fmt.{decimal};
+ghost use Rattle.std.specs.Prelude.{OnOk, OnErr};
 ghost use Rattle.std.specs.Io.KnownBytes.{Appends};
 ghost use Rattle.tk_io.specs.Causes.{HasCause};
 ghost use Rattle.tk_io.specs.Writing.{AppendsPart};
@@ -10,36 +9,8 @@ ghost use Rattle.store_cli.specs.Report.{error_text};
 ghost use Rattle.store_cli.specs.inner.Ending.{place_of, status_of, stop_text};
 
 use crate::stop::Stop;
-use itoa::Buffer;
 use tk_io::{Failed, Sink, write_all};
-
-// Says at which byte a script is refused.
-fn report_script<E: Sink>(err: &mut E, at: usize) -> Result<(), Failed>
-    ensures whole { OnOk result (Appends (E.written err.old) (E.written err.new)
-        (codes "tokc_store: bad script at byte " ++ decimal at ++ codes "\n")) }
-    ensures part { OnErr result (AppendsPart (E.written err.old) (E.written err.new)
-        (codes "tokc_store: bad script at byte " ++ decimal at ++ codes "\n")) }
-    ensures cause { HasCause (E.faults err.old) (E.faults err.new) result }
-{
-    let mut buffer = Buffer::new();
-    write_all(err, b"tokc_store: bad script at byte ")?;
-    write_all(err, buffer.format(at).as_bytes())?;
-    write_all(err, b"\n")
-}
-
-// Says which event does not fit.
-fn report_event<E: Sink>(err: &mut E, number: usize) -> Result<(), Failed>
-    ensures whole { OnOk result (Appends (E.written err.old) (E.written err.new)
-        (codes "tokc_store: event " ++ decimal number ++ codes " does not fit\n")) }
-    ensures part { OnErr result (AppendsPart (E.written err.old) (E.written err.new)
-        (codes "tokc_store: event " ++ decimal number ++ codes " does not fit\n")) }
-    ensures cause { HasCause (E.faults err.old) (E.faults err.new) result }
-{
-    let mut buffer = Buffer::new();
-    write_all(err, b"tokc_store: event ")?;
-    write_all(err, buffer.format(number).as_bytes())?;
-    write_all(err, b" does not fit\n")
-}
+use token_cli::{report_event, report_script};
 
 // Writes the text of a stop.
 fn write_text<E: Sink>(err: &mut E, stop: Stop) -> Result<(), Failed>
@@ -50,13 +21,13 @@ fn write_text<E: Sink>(err: &mut E, stop: Stop) -> Result<(), Failed>
 {
     match stop {
         Stop::Usage => write_all(err, b"usage: tokc_store ROOT\n"),
-        Stop::BadScript(at) => report_script(err, at),
+        Stop::BadScript(at) => report_script(err, "tokc_store", at),
         Stop::ReadFault => write_all(err, b"tokc_store: read failed\n"),
         Stop::NoMemory => write_all(err, b"tokc_store: out of memory\n"),
         Stop::TooLong => write_all(err, b"tokc_store: script too long\n"),
         Stop::StoreFault => write_all(err, b"tokc_store: store failed\n"),
         Stop::BadManifest => write_all(err, b"tokc_store: bad manifest\n"),
-        Stop::BadEvent(number) => report_event(err, number),
+        Stop::BadEvent(number) => report_event(err, "tokc_store", number),
     }
 }
 

@@ -10,26 +10,9 @@ use crate::running::run_store;
 use crate::status::{StoreStatus, status_of};
 use crate::stop::Stop;
 use out_store::DirStore;
-use std::env;
-use std::io::ErrorKind;
 use std::process::ExitCode;
-use tk_io::{NoMemory, StdSink, StdSource};
-
-// The arguments behind the program's name. Where one of them is no text there are none, which is no
-// known list of arguments.
-fn words(rt: &HostRuntime) -> Result<Vec<String>, NoMemory> {
-    let mut words = Vec::new(rt.alloc());
-    match env::args(rt) {
-        Ok(args) => {
-            for word in args.skip(1) {
-                words.push(word)?;
-            }
-        }
-        Err(error) if error.kind() == ErrorKind::OutOfMemory => return Err(NoMemory),
-        Err(_) => {}
-    }
-    Ok(words)
-}
+use tk_io::{StdSink, StdSource};
+use token_cli::program_words;
 
 // The first argument, or no text.
 fn root(words: &[String]) -> &str {
@@ -39,18 +22,29 @@ fn root(words: &[String]) -> &str {
     }
 }
 
-// Runs the argument over standard input and the folder that it names. Where the arguments found no
-// memory, that is said, and nothing is read or stored.
-fn run_words(rt: &HostRuntime) -> StoreStatus {
+// Says why the program stops before a run.
+fn stopped(rt: &HostRuntime, stop: Stop) -> StoreStatus {
     let mut err = StdSink::new(rt.stderr());
-    let Ok(words) = words(rt) else {
-        let ended = Err(Stop::NoMemory);
-        report(&mut err, ended);
-        return status_of(ended);
-    };
+    let ended = Err(stop);
+    report(&mut err, ended);
+    status_of(ended)
+}
+
+// Runs the arguments over standard input and the folder that the first names.
+fn run_over(rt: &HostRuntime, words: &[String]) -> StoreStatus {
     let mut src = StdSource::new(rt.stdin());
-    let mut store = DirStore::new(rt, root(words.as_slice()));
-    run_store(rt.alloc(), words.as_slice(), &mut src, &mut store, &mut err)
+    let mut err = StdSink::new(rt.stderr());
+    let mut store = DirStore::new(rt, root(words));
+    run_store(rt.alloc(), words, &mut src, &mut store, &mut err)
+}
+
+// Runs the arguments. Where they found no memory, or one is no text, that is said, and nothing is read or stored.
+fn run_words(rt: &HostRuntime) -> StoreStatus {
+    match program_words(rt) {
+        Ok(Some(words)) => run_over(rt, words.as_slice()),
+        Ok(None) => stopped(rt, Stop::Usage),
+        Err(_) => stopped(rt, Stop::NoMemory),
+    }
 }
 
 /// Brings the folder of the one argument to the outputs of the script on standard input, writes a line about a failure to
