@@ -81,7 +81,7 @@ fn a_read_that_fails_ends_the_run(rt: HostRuntime) {
 static GENERATED: Case = Case {
     words: "gen 7 12",
     script: b"",
-    written: "tokc-stats 1\ncommit 1 written 16 gone 0\ncommit 2 written 16 gone 0\ncommit 3 written 16 gone 0\ncommit 4 written 16 gone 0\ncommit 5 written 16 gone 0\ncommit 6 written 16 gone 0\ncommit 7 written 16 gone 0\ncommit 8 written 16 gone 0\ncommit 9 written 16 gone 0\ncommit 10 written 16 gone 0\ncommit 11 written 16 gone 0\ncommit 12 written 16 gone 0\ncommit 13 written 16 gone 0\ncommit 14 written 16 gone 0\ncommit 15 written 16 gone 0\ncommit 16 written 16 gone 0\ncommit 17 written 16 gone 0\ncommit 18 written 16 gone 0\ncommit 19 written 16 gone 0\ncommit 20 written 16 gone 0\ncommit 21 written 16 gone 0\ndone 21\n",
+    written: "tokc-stats 1\ncommit 1 parsed 6 merged 4 evaluated 56 written 16 gone 0\ncommit 2 parsed 1 merged 4 evaluated 40 written 16 gone 0\ncommit 3 parsed 1 merged 4 evaluated 8 written 16 gone 0\ncommit 4 parsed 1 merged 4 evaluated 40 written 16 gone 0\ncommit 5 parsed 1 merged 4 evaluated 8 written 16 gone 0\ncommit 6 parsed 1 merged 4 evaluated 40 written 16 gone 0\ncommit 7 parsed 1 merged 4 evaluated 8 written 16 gone 0\ncommit 8 parsed 1 merged 4 evaluated 40 written 16 gone 0\ncommit 9 parsed 1 merged 4 evaluated 8 written 16 gone 0\ncommit 10 parsed 1 merged 4 evaluated 40 written 16 gone 0\ncommit 11 parsed 1 merged 4 evaluated 8 written 16 gone 0\ncommit 12 parsed 1 merged 4 evaluated 40 written 16 gone 0\ncommit 13 parsed 1 merged 4 evaluated 8 written 16 gone 0\ncommit 14 parsed 1 merged 4 evaluated 40 written 16 gone 0\ncommit 15 parsed 1 merged 4 evaluated 8 written 16 gone 0\ncommit 16 parsed 1 merged 4 evaluated 40 written 16 gone 0\ncommit 17 parsed 1 merged 4 evaluated 8 written 16 gone 0\ncommit 18 parsed 1 merged 4 evaluated 40 written 16 gone 0\ncommit 19 parsed 1 merged 4 evaluated 8 written 16 gone 0\ncommit 20 parsed 1 merged 4 evaluated 40 written 16 gone 0\ncommit 21 parsed 1 merged 4 evaluated 8 written 16 gone 0\ndone 21\n",
     said: "",
     status: Status::Done,
 };
@@ -143,8 +143,14 @@ static PIECES: [(u64, &str); 23] = [
 /// The pieces of its statistics.
 static STATS_PIECES: [(u64, &str); 4] = [
     (1, "tokc-stats 1\n"),
-    (2, "commit 1 written 4 gone 0\n"),
-    (3, "commit 2 written 1 gone 4\n"),
+    (
+        2,
+        "commit 1 parsed 1 merged 1 evaluated 0 written 4 gone 0\n",
+    ),
+    (
+        3,
+        "commit 2 parsed 0 merged 0 evaluated 0 written 1 gone 4\n",
+    ),
     (4, "done 2\n"),
 ];
 

@@ -8,7 +8,7 @@ use crate::checks::{check, check_at};
 use bumpalo::Bump;
 use edit_script::{
     Change, Changes, Event, Events, Line, Outcome, ScriptStop, delta, effect, made_length,
-    read_script, short_line, write_change, write_line,
+    read_script, stats_line, write_change, write_line,
 };
 use std::alloc::Global;
 use tk_io::{Bytes, MemSink, NoMemory, Outputs};
@@ -421,48 +421,51 @@ fn writes_lines_and_records(rt: HostRuntime) {
 }
 
 // The line of the first commit, from the old outputs to the new.
-fn short_of(alloc: Global, old: &Outputs, new: &Outputs) -> Option<Line> {
+fn stats_of(alloc: Global, old: &Outputs, new: &Outputs) -> Option<Line> {
     match delta(alloc, old, new) {
-        Ok(changes) => Some(short_line(1, &changes)),
+        Ok(changes) => Some(stats_line(1, 3, 4, 5, &changes)),
         Err(_) => None,
     }
 }
 
-fn few_short(alloc: Global) -> Option<Line> {
+fn few_numbers(alloc: Global) -> Option<Line> {
     let Ok(old) = outputs_of(alloc, FEW) else {
         return None;
     };
     let Ok(new) = outputs_of(alloc, FEW_LATER) else {
         return None;
     };
-    short_of(alloc, &old, &new)
+    stats_of(alloc, &old, &new)
 }
 
 fn writes_statistics(first: &Line) -> bool {
-    let most = Line::Short {
+    let most = Line::Stats {
         commit: 18446744073709551615,
+        parsed: 18446744073709551615,
+        merged: 18446744073709551615,
+        evaluated: 18446744073709551615,
         written: 18446744073709551615,
-        gone: 0,
+        gone: 18446744073709551615,
     };
-    let mut room = [0u8; 200];
+    let mut room = [0u8; 300];
     let mut out = MemSink::new(&[], 7, &mut room);
     let done = writes(&mut out, &Line::StatsHead)
         && writes(&mut out, first)
         && writes(&mut out, &most);
     let lines =
-        "tokc-stats 1\ncommit 1 written 2 gone 1\ncommit 18446744073709551615 written 18446744073709551615 gone 0\n";
+        "tokc-stats 1\ncommit 1 parsed 3 merged 4 evaluated 5 written 2 gone 1\ncommit 18446744073709551615 parsed 18446744073709551615 merged 18446744073709551615 evaluated 18446744073709551615 written 18446744073709551615 gone 18446744073709551615\n";
     done && out.written() == lines.as_bytes()
 }
 
 fn few_statistics_are_written(alloc: Global) -> bool {
-    match few_short(alloc) {
+    match few_numbers(alloc) {
         Some(first) => writes_statistics(&first),
         None => false,
     }
 }
 
 #[test]
-fn writes_the_short_statistics(rt: HostRuntime) {
+fn writes_the_statistics(rt: HostRuntime) {
     assert!(rt; few_statistics_are_written(rt.alloc()));
 }
 

@@ -582,7 +582,7 @@ put tokens.json 86
 {"a":{"$type":"number","$value":1,"$description":"x","$extensions":{"k": 1},"$foo":2}}
 commit
 "#,
-        written: "tokc-stats 1\ncommit 1 written 4 gone 0\ncommit 2 written 0 gone 0\ndone 2\n",
+        written: "tokc-stats 1\ncommit 1 parsed 1 merged 1 evaluated 1 written 4 gone 0\ncommit 2 parsed 0 merged 0 evaluated 0 written 0 gone 0\ndone 2\n",
         said: "",
         status: Status::Done,
     },
@@ -666,7 +666,7 @@ put dark.json 7
 {"a":1}
 commit
 "##,
-        written: "tokc-stats 1\ncommit 1 written 8 gone 0\ncommit 2 written 1 gone 4\ndone 2\n",
+        written: "tokc-stats 1\ncommit 1 parsed 2 merged 2 evaluated 0 written 8 gone 0\ncommit 2 parsed 1 merged 0 evaluated 0 written 1 gone 4\ndone 2\n",
         said: "",
         status: Status::Refused,
     },
@@ -685,7 +685,7 @@ put dark.json 2
 {}
 commit
 "##,
-        written: "tokc-stats 1\ncommit 1 written 8 gone 0\ncommit 2 written 1 gone 4\ncommit 3 written 4 gone 1\ndone 3\n",
+        written: "tokc-stats 1\ncommit 1 parsed 2 merged 2 evaluated 0 written 8 gone 0\ncommit 2 parsed 1 merged 0 evaluated 0 written 1 gone 4\ncommit 3 parsed 1 merged 1 evaluated 0 written 4 gone 1\ndone 3\n",
         said: "",
         status: Status::Done,
     },
@@ -714,14 +714,14 @@ commit
 commit
 commit
 "#,
-        written: "tokc-stats 1\ncommit 1 written 4 gone 0\ncommit 2 written 0 gone 0\ncommit 3 written 0 gone 0\ncommit 4 written 0 gone 0\ncommit 5 written 0 gone 0\ncommit 6 written 0 gone 0\ncommit 7 written 0 gone 0\ncommit 8 written 0 gone 0\ncommit 9 written 0 gone 0\ncommit 10 written 0 gone 0\ncommit 11 written 0 gone 0\ncommit 12 written 0 gone 0\ndone 12\n",
+        written: "tokc-stats 1\ncommit 1 parsed 1 merged 1 evaluated 1 written 4 gone 0\ncommit 2 parsed 0 merged 0 evaluated 0 written 0 gone 0\ncommit 3 parsed 0 merged 0 evaluated 0 written 0 gone 0\ncommit 4 parsed 0 merged 0 evaluated 0 written 0 gone 0\ncommit 5 parsed 0 merged 0 evaluated 0 written 0 gone 0\ncommit 6 parsed 0 merged 0 evaluated 0 written 0 gone 0\ncommit 7 parsed 0 merged 0 evaluated 0 written 0 gone 0\ncommit 8 parsed 0 merged 0 evaluated 0 written 0 gone 0\ncommit 9 parsed 0 merged 0 evaluated 0 written 0 gone 0\ncommit 10 parsed 0 merged 0 evaluated 0 written 0 gone 0\ncommit 11 parsed 0 merged 0 evaluated 0 written 0 gone 0\ncommit 12 parsed 0 merged 0 evaluated 0 written 0 gone 0\ndone 12\n",
         said: "",
         status: Status::Done,
     },
     Case {
         words: "gen 7 12",
         script: b"tokc-script 1\n",
-        written: "tokc-stats 1\ncommit 1 written 16 gone 0\ncommit 2 written 16 gone 0\ncommit 3 written 16 gone 0\ncommit 4 written 16 gone 0\ncommit 5 written 16 gone 0\ncommit 6 written 16 gone 0\ncommit 7 written 16 gone 0\ncommit 8 written 16 gone 0\ncommit 9 written 16 gone 0\ncommit 10 written 16 gone 0\ncommit 11 written 16 gone 0\ncommit 12 written 16 gone 0\ncommit 13 written 16 gone 0\ncommit 14 written 16 gone 0\ncommit 15 written 16 gone 0\ncommit 16 written 16 gone 0\ncommit 17 written 16 gone 0\ncommit 18 written 16 gone 0\ncommit 19 written 16 gone 0\ncommit 20 written 16 gone 0\ncommit 21 written 16 gone 0\ndone 21\n",
+        written: "tokc-stats 1\ncommit 1 parsed 6 merged 4 evaluated 56 written 16 gone 0\ncommit 2 parsed 1 merged 4 evaluated 40 written 16 gone 0\ncommit 3 parsed 1 merged 4 evaluated 8 written 16 gone 0\ncommit 4 parsed 1 merged 4 evaluated 40 written 16 gone 0\ncommit 5 parsed 1 merged 4 evaluated 8 written 16 gone 0\ncommit 6 parsed 1 merged 4 evaluated 40 written 16 gone 0\ncommit 7 parsed 1 merged 4 evaluated 8 written 16 gone 0\ncommit 8 parsed 1 merged 4 evaluated 40 written 16 gone 0\ncommit 9 parsed 1 merged 4 evaluated 8 written 16 gone 0\ncommit 10 parsed 1 merged 4 evaluated 40 written 16 gone 0\ncommit 11 parsed 1 merged 4 evaluated 8 written 16 gone 0\ncommit 12 parsed 1 merged 4 evaluated 40 written 16 gone 0\ncommit 13 parsed 1 merged 4 evaluated 8 written 16 gone 0\ncommit 14 parsed 1 merged 4 evaluated 40 written 16 gone 0\ncommit 15 parsed 1 merged 4 evaluated 8 written 16 gone 0\ncommit 16 parsed 1 merged 4 evaluated 40 written 16 gone 0\ncommit 17 parsed 1 merged 4 evaluated 8 written 16 gone 0\ncommit 18 parsed 1 merged 4 evaluated 40 written 16 gone 0\ncommit 19 parsed 1 merged 4 evaluated 8 written 16 gone 0\ncommit 20 parsed 1 merged 4 evaluated 40 written 16 gone 0\ncommit 21 parsed 1 merged 4 evaluated 8 written 16 gone 0\ndone 21\n",
         said: "",
         status: Status::Done,
     },
