@@ -206,8 +206,11 @@ def long_key(size):
 
 
 def generated():
-    """The script that is generated of 7 and 4000: an independent compiler writes 16 files at each of its 21 commits."""
-    return Recipe(), text("tokc-stats 1\n").each(1, 21, f"commit {HOLE} written 16 gone 0\n").text("done 21\n")
+    """The script that is generated of 7 and 4000: an independent compiler writes 16 files at each of its 21 commits. At the first it
+    reads 6 files and evaluates 4,002 tokens in each of 4 permutations, and at each other one file and 10 tokens."""
+    first, other = "commit 1 parsed 6 merged 4 evaluated 16008", f"commit {HOLE} parsed 1 merged 4 evaluated 40"
+    written = " written 16 gone 0\n"
+    return Recipe(), text("tokc-stats 1\n" + first + written).each(2, 21, other + written).text("done 21\n")
 
 
 def cases():

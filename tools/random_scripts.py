@@ -266,7 +266,7 @@ def commits(seed, most=4):
 
 # How often an event is one of version 2, and how often such a one has places or a path of any kind.
 SECOND, ANY = 0.7, 0.1
-WORDS = ("replay", "build")
+WORDS = ("replay", "build", "stats")
 SECONDS = 300
 
 
@@ -340,7 +340,7 @@ def main(words):
         return 2
     found, counts = [], {}
     for seed in range(int(words[2]), int(words[3]) + 1):
-        script, word = events(seed), WORDS[seed // 3 % 2]
+        script, word = events(seed), WORDS[seed // 3 % len(WORDS)]
         first, second = (answer(program, word, script) for program in words[:2])
         counts[first[0]] = counts.get(first[0], 0) + 1
         if first != second:

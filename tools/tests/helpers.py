@@ -2,6 +2,7 @@
 import importlib.machinery
 import importlib.util
 import os
+import shutil
 import subprocess
 import sys
 import tempfile
@@ -13,8 +14,6 @@ TOKC = os.path.join(TOP, "tokc")
 TOKC_DIR = os.path.join(TOP, "tools", "tokc-dir")
 SECONDS = 60
 
-# The program that is proved, and the one that is compiled without a check of its proof.
-PROGRAMS = [os.path.join(TOP, "crates", "tokc", "out", *parts) for parts in (("tokc",), ("unproved", "tokc"))]
 FIRST = os.path.join(TOP, "examples", "first.script")
 
 # Keeps the script that it is given, and answers with what stands in the folder to which `now` leads when it starts.
@@ -26,14 +25,15 @@ cd "${0%/*}" && cd now && cat >../script && cat stream && cat said >&2 && exit "
 def make_program():
     """Compiles the programs, which takes minutes, where no `rt ci` went before."""
     with tempfile.TemporaryDirectory() as room:
-        for words in (["build"], ["store", room]):
+        for words in (["build"], ["store", room], ["check"]):
             with open(FIRST, "rb") as first:
                 subprocess.run([TOKC, *words], stdin=first, stdout=subprocess.DEVNULL, check=True)
 
 
-def program():
-    """The program that was made last."""
-    return max(filter(os.path.exists, PROGRAMS), key=os.path.getmtime)
+def program(name="tokc"):
+    """The program of this name that was made last: the one that is proved, or the one that is compiled without a check of its proof."""
+    made = [os.path.join(TOP, "crates", name, "out", *parts) for parts in ((name,), ("unproved", name))]
+    return max(filter(os.path.exists, made), key=os.path.getmtime)
 
 
 def load_tool(name):
@@ -152,3 +152,24 @@ class Room(unittest.TestCase):
     def outputs(self):
         """The files below `out` but for the lists of what was written."""
         return outputs_in(self.out)
+
+
+class Beside(Room):
+    """A test with tokc-dir as it is installed, over programs that stand in for those beside it."""
+
+    def setUp(self):
+        super().setUp()
+        shutil.copytree(os.path.join(TOP, "tools", "tokcdir"), self.at("lib", "tokcdir"), ignore=shutil.ignore_patterns("__pycache__"))
+        shutil.copy(TOKC_DIR, self.at("lib", "tokc-dir"))
+
+    def put_beside(self, name, text):
+        """Puts a program beside tokc-dir."""
+        write(self.at("lib", name), text, 0o755)
+
+    def put_tokc(self, stream, status=0):
+        """Puts a tokc beside it that answers so."""
+        self.put_beside("tokc", f'#!/bin/sh\nexec "{self.stand_in(stream, status)}" "$@"\n')
+
+    def installed(self, *words, tokc=None):
+        """Runs tokc-dir in the room."""
+        return run([sys.executable, self.at("lib", "tokc-dir"), *words], tokc=tokc, at=self.room)

@@ -19,7 +19,7 @@ echo "$*" >>"$kit/calls"
 case $1 in
 doc) echo "$kit/START-HERE.md" ;;
 try)
-    case $5 in build | */site) way=$(cat "$kit/way") ;; esac
+    case $5 in build | */site | '') way=$(cat "$kit/way") ;; esac
     case $way in
     module)
         mkdir -p "$TMPDIR/native" && head -c 1000000 /dev/zero >"$TMPDIR/native/module.bc" && : >"$TMPDIR/native/module-1.o.tmp"
@@ -169,45 +169,50 @@ class Proved(Made):
         self.assertRegex(err, rf"tokc: a proof failed, or tokc could not be built; {re.escape(log)} ends with:\nprove-below: proves low\nit is not proved\nprove-below: low took .*\n\Z")
 
 
-class Both(Made):
-    """With tokc_store beside tokc."""
+class Beside(Made):
+    """With tokc_store and tokc_check beside tokc."""
 
     def setUp(self):
         super().setUp()
-        write(self.at("crates.txt"), "low:\nstore: low\ntokc: low\ntokc_store: store low\n")
-        for name in ("store", "tokc_store"):
+        write(self.at("crates.txt"), "low:\nstore: low\ntokc: low\ntokc_store: store low\ntokc_check: low\n")
+        for name in ("store", "tokc_store", "tokc_check"):
             write(self.at("crates", name, "src/main.rt"), "")
 
-    def test_both_are_compiled_side_by_side(self):
-        compiles = COMPILES.replace("compiles tokc,", "compiles tokc and tokc_store,")
-        self.assertEqual(self.tokc("store", "a b"), (0, "compiled a b\n", compiles + "tokc: tokc and tokc_store are compiled, in N s\n"))
+    def test_all_are_compiled_side_by_side(self):
+        compiles = COMPILES.replace("compiles tokc,", "compiles tokc, tokc_store and tokc_check,")
+        self.assertEqual(self.tokc("store", "a b"), (0, "compiled a b\n", compiles + "tokc: tokc, tokc_store and tokc_check are compiled, in N s\n"))
         self.assertEqual(self.tokc("build"), (0, "compiled build\n", ""))
+        self.assertEqual(self.tokc("check"), (0, "compiled\n", ""))
         os.remove(self.at("crates/tokc/out/unproved/tokc"))
         self.assertEqual(self.tokc("store", "a b"), (0, "compiled a b\n", ""))
         self.assertEqual(self.tokc("build"), (0, "compiled build\n", COMPILES + COMPILED))
 
-    def test_a_folder_needs_a_program(self):
+    def test_what_is_beside_is_not_tried(self):
         self.way("none")
-        status, out, err = self.tokc("store", "a")
-        self.assertEqual((status, out), (126, ""))
-        self.assertRegex(err, "`rt try` left no module of tokc(_store)?\n\\Z")
+        for words in (["store", "a"], ["check"]):
+            with self.subTest(words=words):
+                status, out, err = self.tokc(*words)
+                self.assertEqual((status, out), (126, ""))
+                self.assertRegex(err, "`rt try` left no module of tokc(_store|_check)?\n\\Z")
 
-    def test_both_are_proved(self):
+    def test_all_are_proved(self):
         self.tokc("build")
         status, out, err = self.tokc("prove")
         self.assertEqual((status, out), (0, ""))
         lines = [re.sub("[0-9]+ s so far", "N s so far", it) for it in err.splitlines()]
-        self.assertEqual(lines[0], "tokc: proves 4 crates and builds tokc and tokc_store: about fifty minutes on four processors where nothing is kept")
-        self.assertEqual(lines[-1], "tokc: all 4 crates are proved and the programs are built, in N s; ./tokc takes these programs")
+        self.assertEqual(lines[0], "tokc: proves 5 crates and builds tokc, tokc_store and tokc_check: about fifty minutes on four processors where nothing is kept")
+        self.assertEqual(lines[-1], "tokc: all 5 crates are proved and the programs are built, in N s; ./tokc takes these programs")
         self.assertIn("tokc: 1 of 2 crates are proved; tokc_store under way; N s so far", lines)
         self.assertEqual(self.tokc("store", "a"), (0, "proved a\n", ""))
+        self.assertEqual(self.tokc("check"), (0, "proved\n", ""))
         self.assertEqual(self.tokc("prove"), (0, "", "tokc: all is proved and built already\n"))
 
-    def test_both_are_installed(self):
+    def test_all_are_installed(self):
         prefix = self.at("prefix")
         self.assertEqual(self.tokc("install", prefix)[0], 0)
         self.assertEqual(run([os.path.join(prefix, "bin", "tokc_store"), "x"]), (0, "compiled x\n", ""))
-        told = f"tokc is {BUILD.UNPROVED_WORD}\ntokc_store is {BUILD.UNPROVED_WORD}\n"
+        self.assertEqual(run([os.path.join(prefix, "bin", "tokc_check")]), (0, "compiled\n", ""))
+        told = "".join(f"{name} is {BUILD.UNPROVED_WORD}\n" for name in ("tokc", "tokc_store", "tokc_check"))
         self.assertEqual(run([os.path.join(prefix, "bin", "tokc-dir"), "--version"]), (0, "tokc-dir\n" + told, ""))
 
 

@@ -94,7 +94,7 @@ class Table(unittest.TestCase):
         self.assertTrue(any(b"commit 4\n" in row.stream for row in self.rows))
 
     def test_the_size(self):
-        self.assertLess(len(read(MAKE.TABLE)), 3_000_000)
+        self.assertLess(len(read(MAKE.TABLE)), 3_400_000)
         self.assertLess(max(len(row.stream) for row in self.rows), 100_000)
 
     def test_streams_and_statuses_agree(self):

@@ -164,16 +164,17 @@ help: put a token file named `tokens.json` right into the folder
         ran = self.build(stream, 1)
         self.assertEqual(ran.status, 1)
         self.assertEqual(ran.err, """
-tokens/dark.json:1:3: json-syntax: no JSON text goes on like this
-  1 | {}}
-    |   ^
-note: in theme=dark
-help: take `}` away: each bracket before it is closed
 tokens/core.json:1:6: shape-member: a member of a group is an object: a token or a group
   1 | {"a":1}
     |      ^
 note: in theme=grey, theme=light
 help: write it as a token: `"a": { "$value": 1 }`
+tokens/dark.json:1:3: json-syntax: no JSON text goes on like this
+  1 | {}}
+    |   ^
+note: in theme=dark
+help: take `}` away: each bracket before it is closed
+2 mistakes
 """[1:])
         self.assertEqual(ran.out.splitlines()[-1].split(";")[0], "4 outputs, 3 of them REFUSED")
 

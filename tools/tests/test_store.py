@@ -10,13 +10,12 @@ import sys
 import tempfile
 import unittest
 
-from helpers import TOKC, TOP, make_program, outputs_in, run, tree, write
+from helpers import TOKC, TOP, make_program, outputs_in, program, run, tree, write
 
 sys.path.insert(0, os.path.join(TOP, "tools"))
 
 from tokcdir.program import outputs_of, script_of
 
-PROGRAMS = [os.path.join(TOP, "crates", "tokc_store", "out", *parts) for parts in (("tokc_store",), ("unproved", "tokc_store"))]
 PROGRAM = None
 TRACE_ME, TO_NEXT_CALL = 0, 24
 STEP = 5
@@ -26,7 +25,7 @@ DONE, REFUSED, USAGE, FAULT, BAD = 0, 1, 2, 10, 11
 def setUpModule():
     global PROGRAM
     make_program()
-    PROGRAM = max(filter(os.path.exists, PROGRAMS), key=os.path.getmtime)
+    PROGRAM = program("tokc_store")
 
 
 def themes(names, value):

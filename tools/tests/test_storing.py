@@ -1,10 +1,8 @@
 """How tokc-dir writes by tokc_store, over programs that stand in for both, as they are installed."""
 import os
-import shutil
-import sys
 import unittest
 
-from helpers import TOP, Room, read, run, stream_of, write
+from helpers import Beside, read, stream_of, write
 
 CSS, OTHER = b":root {\n  --a: 1px;\n}\n", b":root {\n  --a: 2px;\n}\n"
 ONE, TWO = stream_of([("default/tokens.css", CSS)]), stream_of([("default/tokens.css", OTHER)])
@@ -14,19 +12,17 @@ SCRIPT = b"tokc-script 1\nput tokens.json 2\n{}\ncommit\n"
 STORE = '#!/bin/sh\ncd "${0%/*}" && cat >stored && echo "$*" >>called && exit "$(cat status)"\n'
 
 
-class Storing(Room):
+class Storing(Beside):
     def setUp(self):
         super().setUp()
-        shutil.copytree(os.path.join(TOP, "tools", "tokcdir"), self.at("lib", "tokcdir"), ignore=shutil.ignore_patterns("__pycache__"))
-        shutil.copy(os.path.join(TOP, "tools", "tokc-dir"), self.at("lib", "tokc-dir"))
-        write(self.at("lib", "tokc"), f'#!/bin/sh\nexec "{self.stand_in(ONE)}" "$@"\n', 0o755)
-        write(self.at("lib", "tokc_store"), STORE, 0o755)
+        self.put_tokc(ONE)
+        self.put_beside("tokc_store", STORE)
         self.put({"tokens.json": "{}"})
 
     def built(self, status=0, command="build", tokc=None):
         """Builds where tokc_store ends so, and gives how that ended and the calls of tokc_store so far."""
         write(self.at("lib", "status"), str(status))
-        ran = run([sys.executable, self.at("lib", "tokc-dir"), command, "tokens", "out"], tokc=tokc, at=self.room)
+        ran = self.installed(command, "tokens", "out", tokc=tokc)
         called = self.at("lib", "called")
         return ran, read(called).decode().splitlines() if os.path.exists(called) else []
 
@@ -51,7 +47,7 @@ class Storing(Room):
         write(self.at("out/.tokc/0"), "default/tokens.css\ngone/tokens.css\n")
         write(self.at("out/.tokc/0.ok"), "")
         write(self.at("out/gone/tokens.css"), CSS)
-        write(self.at("lib", "tokc_store"), STORE.replace("&& exit", "&& rm ../out/gone/tokens.css && exit"), 0o755)
+        self.put_beside("tokc_store", STORE.replace("&& exit", "&& rm ../out/gone/tokens.css && exit"))
         ran, _ = self.built()
         self.assertEqual(ran.out.splitlines()[:2], ["wrote default/tokens.css", "removed gone/tokens.css"])
         self.assertFalse(os.path.exists(self.at("out/gone")))
@@ -72,9 +68,9 @@ class Storing(Room):
                 self.assertEqual(self.built(status)[0], (3, "", line + "\n"))
 
     def test_it_holds_the_folder_where_the_tool_is_killed(self):
-        write(self.at("lib", "tokc_store"), STORE.replace("&& exit", '&& kill -9 $PPID && sleep 1 && touch ended && exit'), 0o755)
+        self.put_beside("tokc_store", STORE.replace("&& exit", '&& kill -9 $PPID && sleep 1 && touch ended && exit'))
         self.assertEqual(self.built()[0].status, -9)
-        write(self.at("lib", "tokc_store"), STORE.replace("&& exit", '&& cp ended was && exit'), 0o755)
+        self.put_beside("tokc_store", STORE.replace("&& exit", '&& cp ended was && exit'))
         self.assertEqual(self.built()[0].status, 0)
         self.assertTrue(os.path.exists(self.at("lib", "was")))
 

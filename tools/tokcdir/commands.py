@@ -6,14 +6,14 @@ import sys
 import time
 
 from . import preview
-from .building import Build, Options, build_of, messages_of, tell
+from .building import Options, build_of, build_with, tell
 from .folder import is_inside, read_folder
 from .outputs import told_differences, write_outputs
 from .program import HERE, outputs_of, script_of, writer_of
 from .stop import FAILED, REFUSED_STATUS, WRONG_USE, Stop, say
 from .watching import watch
 
-FLAGS = {"--json": "is_json", "--quiet": "is_quiet", "--omitted": "lists_omitted"}
+FLAGS = {"--json": "is_json", "--quiet": "is_quiet", "--omitted": "lists_omitted", "--all": "tells_all"}
 INTERRUPTED = 130
 
 
@@ -46,7 +46,7 @@ def files_of(tokens, out, options):
 def do_build(options, tokens, out):
     folders_apart(tokens, out)
     files, start = files_of(tokens, out, options), time.monotonic()
-    build = build_of(tokens, files, options.is_quiet)
+    build = build_of(tokens, files, options.is_quiet, most=options.most())
     changes = write_outputs(out, build.outputs, writer_of(script_of(files)))
     tell(build, changes, f"; {len(changes)} changed", start, options)
     return build.status()
@@ -58,7 +58,7 @@ def do_check(options, tokens, out=None):
     if out is not None:
         folders_apart(tokens, out)
     files, start = files_of(tokens, out, options), time.monotonic()
-    build = build_of(tokens, files, options.is_quiet)
+    build = build_of(tokens, files, options.is_quiet, most=options.most())
     found = told_differences(out, build.outputs) if out is not None else []
     for it in found if options.is_json else ():
         print(json.dumps({"output": it.path, "state": it.word}), flush=True)
@@ -97,14 +97,14 @@ def do_unpack(options, out):
         say(["tokc-dir: waiting for a stream on standard input"])
     start = time.monotonic()
     outputs = outputs_of(sys.stdin.buffer.read())
-    build = Build(outputs, messages_of(outputs, "", None))
+    build = build_with(outputs, "", None)
     changes = write_outputs(out, outputs)
     tell(build, changes, f"; {len(changes)} changed", start, options)
     return build.status()
 
 
 # Each command with what it does, how many arguments may follow it, and its flags.
-SPEECH, ALL = ("--quiet",), ("--json", "--quiet", "--omitted")
+SPEECH, ALL = ("--quiet",), ("--json", "--quiet", "--omitted", "--all")
 WORDS = {
     "build": (do_build, (2,), ALL), "check": (do_check, (1, 2), ALL), "watch": (do_watch, (2, 3), ("--quiet", "--omitted")),
     "preview": (do_preview, (2,), SPEECH), "pack": (do_pack, (1,), SPEECH), "unpack": (do_unpack, (1,), SPEECH),
@@ -117,7 +117,7 @@ def version():
         with open(os.path.join(HERE, "PROOF"), encoding="utf-8") as file:
             return f"tokc-dir\n{file.read().strip()}"
     except OSError:
-        return "tokc-dir\ntokc and tokc_store are those of the repository, which ./tokc compiles, and ./tokc prove proves"
+        return "tokc-dir\ntokc, tokc_store and tokc_check are those of the repository, which ./tokc compiles, and ./tokc prove proves"
 
 
 def parsed(words):

@@ -34,18 +34,19 @@ def program():
     return os.environ.get("TOKC") or (beside if os.path.exists(beside) else os.path.join(os.path.dirname(HERE), "tokc"))
 
 
-def store_words(out):
-    """The command that brings a folder to the outputs of a script. Where another program is named than ours, there is none."""
-    beside = os.path.join(HERE, "tokc_store")
+def words_of(name, word, *rest):
+    """The command that runs a program beside tokc: itself where it is installed, and by tokc's own word in the repository. Where another
+    program is named than our tokc, there is none."""
+    beside = os.path.join(HERE, name)
     if os.path.exists(beside):
-        return None if os.environ.get("TOKC") else [beside, out]
-    return None if program() != os.path.join(os.path.dirname(HERE), "tokc") else [program(), "store", out]
+        return None if os.environ.get("TOKC") else [beside, *rest]
+    return None if program() != os.path.join(os.path.dirname(HERE), "tokc") else [program(), word, *rest]
 
 
 def store_status(out, script, lock):
     """How tokc_store ends over a folder and a script. It holds the lock too, so that the folder stays its own where this run is
     cut off. What is said of a program that is not proved was said of tokc."""
-    words = store_words(out)
+    words = words_of("tokc_store", "store", out)
     if words is None:
         return NO_PROGRAM
     env = {**os.environ, QUIET: "1"}
@@ -131,3 +132,13 @@ def run_tokc(script, is_quiet=False, is_silent=False):
     if ran.returncode not in (0, REFUSED_STATUS):
         raise Stop(FAILED, STOPS.get(ran.returncode, f"tokc ended with status {ran.returncode}"))
     return outputs_of(ran.stdout)
+
+
+def run_check(script):
+    """What tokc_check tells of a script, or None where it can't be had or tells nothing. What is said of a program that is not proved
+    was said of tokc."""
+    words = words_of("tokc_check", "check")
+    if words is None:
+        return None
+    ran = subprocess.run(words, input=script, stdout=subprocess.PIPE, stderr=subprocess.DEVNULL, env={**os.environ, QUIET: "1"}, check=False)
+    return ran.stdout if ran.returncode == REFUSED_STATUS else None

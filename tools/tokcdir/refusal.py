@@ -89,6 +89,15 @@ def read_refusal(text):
     return Refusal(rule.decode(), os.fsdecode(file), *map(int, numbers), further)
 
 
+BREAK_TEXT = re.compile(rb'((?:in "[^\n]*"\n)*)(.*)', re.S)
+
+
+def read_breaks(text):
+    """What tokc_check tells: each break with the permutations that have it."""
+    found = [BREAK_TEXT.fullmatch(it + b"\n").groups() for it in text.rstrip(b"\n").split(b"\n\n")]
+    return [(read_refusal(told), [json.loads(it[3:]) for it in names.splitlines()]) for names, told in found]
+
+
 def plain(text):
     """A text of a further line: a JSON string as what it stands for, where that can be printed on one line."""
     try:
