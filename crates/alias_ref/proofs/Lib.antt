@@ -29,6 +29,7 @@ mod BreaksAreReal
 mod LimitsAreReal
 mod PlacesAreThere
 mod VisitsAreSound
+mod VisitsInTurn
 mod ContentsOfValues
 mod IndexedItems
 mod SoundValues

@@ -19,8 +19,9 @@ use Rattle.group_inherit.specs.Flattening.{Flattened}
 use Rattle.alias_ref.specs.References.{alias_named, place_named}
 use Rattle.alias_ref.specs.Written.{Step, refers, misspelled, WrittenPlaces, whole, is_reference, is_misspelled, is_written, Role, written_as, written_at, written_in}
 use Rattle.alias_ref.specs.Meaning.{Leads, Settles, Means}
-use Rattle.alias_ref.specs.Visits.{Visit, visit, RefBreak, most_on_branch, most_visits, walked, walk_break}
+use Rattle.alias_ref.specs.Visits.{Visit, visit, RefBreak, most_on_branch, most_visits, first_break, walked, walk_break}
 use Rattle.alias_ref.specs.Asking.{Manner, Chain, Differ, Lacks, IsRingOfPlaces, IsVisited}
+use Rattle.alias_ref.specs.Turns.{Asked, AsksInTurn, visits_of, visits_in_turn}
 use Rattle.alias_ref.specs.Kinds.{Kinds, KindOf, LinksAt, IsLink, own_in, group_in}
 use Rattle.alias_ref.specs.PlainParts.{plain_at, Below}
 use Rattle.alias_ref.specs.Depth.{LinkDepth}
@@ -62,6 +63,16 @@ RingsAreReal = (T : WrittenPlaces) (token : List Step) (p : Place) (ring : List 
 abbrev pub VisitsAreVisited : Type 0
 VisitsAreVisited = (T : WrittenPlaces) (token : List Step) (before after : List Visit) (b : List Place) (p : Place) → walked T [] (whole token) ≡ before ++ visit b p ∷ after
     → (m : Manner) × IsVisited T token b m p
+
+-- Where the visits of a place have no break, they are the place itself and then those of what visiting it asks for, each once and in that order,
+-- below a branch that is longer by the place.
+pub record ComeInTurn (T : WrittenPlaces) (b : List Place) (m : Manner) (p : Place) : Type 0 where
+  pub asked : List Asked
+  pub asks : AsksInTurn T m p asked
+  pub visits : visits_of T b m p ≡ visit b p ∷ visits_in_turn T (b ++ p ∷ []) asked
+
+abbrev pub VisitsInTurn : Type 0
+VisitsInTurn = (T : WrittenPlaces) (b : List Place) (m : Manner) (p : Place) (n : ℕ) → is_written (T p) ≡ true → first_break T n (visits_of T b m p) ≡ None → ComeInTurn T b m p
 
 -- the walk visits the place below as many places as may stand on a branch, or more: they differ, each asks for the next, and the last for this one
 pub record IsTooDeep (T : WrittenPlaces) (token : List Step) (p : Place) : Type 0 where

@@ -17,9 +17,10 @@
 --   its value, in written order (`evaluate`, `evaluate_entry`: `resolved`)
 -- * a refused token is told its first break: that of its walk, else that nothing gives it a kind; a
 --   cycle that is told is real: its places differ, each asks for the next, and the last for the
---   first; so are a branch that is too long and visits that are too many; each call is one step,
---   whatever it answers (`evaluate`, `evaluate_entry`: `broken`, `ring`, `step`; `breaks_are_real`,
---   `visits_are_visited`)
+--   first; so are a branch that is too long and visits that are too many; visits come as they are
+--   asked for, each once; each call is one step, whatever it answers (`evaluate`,
+--   `evaluate_entry`: `broken`, `ring`, `step`; `breaks_are_real`, `visits_are_visited`,
+--   `visits_in_turn`)
 -- * the answer is decided by the flat tree and the path; a token without a break means something,
 --   and whatever its walk visits is new on its branch, spelled well and leads somewhere
 --   (`one_answer`, `unbroken_tokens`)
@@ -41,6 +42,7 @@ pub mod Meaning
 pub mod Visits
 pub mod Remembered
 pub mod Asking
+pub mod Turns
 pub mod Kinds
 pub mod Refs
 pub mod Span

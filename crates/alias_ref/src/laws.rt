@@ -5,7 +5,7 @@ ghost use Rattle.alias_ref.specs.Span.{SpansStand};
 ghost use Rattle.alias_ref.specs.Unchanged.{DifferDecides};
 ghost use Rattle.alias_ref.specs.Laws.{AliasesNamed, PointersNamed, OneLead, OneEnd, OneMeaning};
 ghost use Rattle.alias_ref.specs.Laws.{OneKind, OneLinks, RingsAreReal, BreaksAreReal};
-ghost use Rattle.alias_ref.specs.Laws.{PlacesAreThere, VisitsAreVisited};
+ghost use Rattle.alias_ref.specs.Laws.{PlacesAreThere, VisitsAreVisited, VisitsInTurn};
 ghost use Rattle.alias_ref.specs.Laws.{UnbrokenMeans, UnbrokenIsSound, UnbrokenDepth};
 ghost use Rattle.alias_ref.specs.Laws.{UnbrokenHasKind, UnbrokenHasLinks, MeaningsFit, PartsMean};
 ghost use Rattle.alias_ref.specs.Laws.{LinksAreReal, LinksAreAll, SourceDecides, RefsOfSource};
@@ -38,6 +38,12 @@ pub fn one_meaning()
 /// that the last place of the branch asks for.
 pub fn visits_are_visited()
     ensures { VisitsAreVisited }
+{}
+
+/// The visits of a place that come to no break are the place itself, and then those of what it asks for: the parts of an array or
+/// an object as they are written; of a reference what its steps pass, and then its target. Each comes once, in that order.
+pub fn visits_in_turn()
+    ensures { VisitsInTurn }
 {}
 
 /// What is told of a break holds: a ring is one, a wrong spelling stands where it is told, a reference whose target is

@@ -29,6 +29,7 @@ pub use laws::{
     breaks_are_real, differ_decides, links_are_real, meanings_fit, one_answer, one_meaning,
     parts_mean, references_named, refs_are_written, refs_in_order, remembered_walks,
     source_decides, spans_stand, unbroken_tokens, unchanged_is_alike, visits_are_visited,
+    visits_in_turn,
 };
 pub use refs::refs_of;
 pub use resolved::{Resolved, evaluate, evaluate_entry};
