@@ -60,7 +60,7 @@ tree_reported first (fault.TooHigh n) some e = no_report _ _ e
 tree_reported first fault.NoMemory some e = some refl
 
 -- what holds of all holds of each
-each_of : (holds : Permutation → Type 0) (ps : List Permutation) (p : Permutation) → AllByRecursion holds ps → In p ps → holds p
+pub each_of : (holds : Permutation → Type 0) (ps : List Permutation) (p : Permutation) → AllByRecursion holds ps → In p ps → holds p
 each_of holds [] p all i = absurd i
 each_of holds (q ∷ qs) p all (inl same) = subst holds (sym same) all.0
 each_of holds (q ∷ qs) p all (inr i) = each_of holds qs p all.1 i

@@ -18,3 +18,7 @@ mod PrintedSpans
 mod SpansInText
 mod SpansOfDocuments
 mod SpansOfShapes
+mod PermutationNames
+mod ResolverNames
+mod PlanNames
+pub mod NamedTree

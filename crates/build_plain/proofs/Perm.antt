@@ -57,7 +57,7 @@ module _ (files : FilesData) (home : HomeAt) (p : PlanPerm) (is_home : home ≡ 
       (subst (λ (s : List PlanSource). AreKnown files shapes (plan_sources_view s) → IsMergedOf files home (plan_sources_view s) m) same (comes files) known)
 
   -- what is found in the sources under the home of the files
-  at_home : (k : Merged) → m ≡ k → IsMergedOf files (home_of files) (plan_sources_view p.sources) k
+  pub at_home : (k : Merged) → m ≡ k → IsMergedOf files (home_of files) (plan_sources_view p.sources) k
   at_home k is = subst (λ (h : HomeAt). IsMergedOf files h (plan_sources_view p.sources) k) is_home (merged k is)
 
   pub perm_tree : (settings : Settings) (g : GroupCode) → m ≡ Tree g → (o : Outcome) → IsTreeOutcome settings (group_view g) o → IsOutcome settings files (plan_perm_view p) o

@@ -47,6 +47,8 @@ pub mod Out
 pub mod Work
 pub mod Parts
 pub mod Outcomes
+pub mod OneTree
+pub mod Names
 pub mod Denotes
 pub mod Printed
 pub mod Laws

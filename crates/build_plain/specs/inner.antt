@@ -1,3 +1,4 @@
 pub mod Keeping
 pub mod Making
+pub mod OneTree
 pub mod Outcomes

@@ -1,12 +1,14 @@
 //! Laws over the definitions alone.
 
 ghost use Rattle.build_plain.specs.Denotes.{EachIsAnswered, NeverBoth, NoOtherStands};
-ghost use Rattle.build_plain.specs.Laws.{EachBuilds, EachWorks, OneBuild, OneWork};
+ghost use Rattle.build_plain.specs.Laws.{EachBuilds, EachWorks, OneBuild, OneFinding, OneWork};
+ghost use Rattle.build_plain.specs.Names.{PermutationsAreNamed};
+ghost use Rattle.build_plain.specs.OneTree.{OneOfName};
 ghost use Rattle.build_plain.specs.Printed.{BreaksLieInFiles, LinesAreOfFiles, PlacesLieInTokens};
 
 use file_plan::{each_plan, file_plan_laws, refusal_laws};
 use group_inherit::each_tree_answers;
-use json_span::json_laws;
+use json_span::{json_laws, plain_laws};
 use permutations::source_laws;
 use source_trees::{each_merge, merged_tokens, one_merge};
 use token_cells::{breaks_are_real, each_cell, one_cells, other_sheets_denote, sheets_denote};
@@ -67,4 +69,24 @@ pub fn printed_spans()
     file_plan_laws();
     merged_tokens();
     breaks_are_real();
+}
+
+/// A permutation has one list of breaks, and so one first; and files say one thing of a name: that their plan is refused, that
+/// no permutation has it, that its permutation has no flat tree, or which one.
+pub fn one_verdict()
+    ensures found { OneFinding }
+    ensures name { OneOfName }
+{
+    file_plan_laws();
+    group_inherit::one_answer();
+    one_merge();
+    one_cells();
+}
+
+/// The permutations of files whose resolver document is UTF-8 have names of letters, digits, `_`, `-`, `%`, `=` and `+`, which
+/// are not empty.
+pub fn permutation_names()
+    ensures { PermutationsAreNamed }
+{
+    plain_laws::<usize>();
 }

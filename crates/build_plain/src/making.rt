@@ -119,8 +119,8 @@ fn make_perms<'s, T: Made<'s>, M: Ledger, N: Ledger>(
     Ok(made)
 }
 
-// The shapes of all files that the plan names, each of which is read once.
-fn read_shapes<'s, L: Ledger>(
+/// The shapes of all files that the plan names, each of which is read once.
+pub(crate) fn read_shapes<'s, L: Ledger>(
     alloc: Global,
     files: &Files<'s>,
     plan: &[PlanPerm<'s>],
@@ -173,8 +173,8 @@ fn make_planned<'s, T: Made<'s>, L: Ledger, M: Ledger, N: Ledger>(
     )
 }
 
-// The tree of the resolver document, where it is there.
-fn read_resolver<'s, L: Ledger>(
+/// The tree of the resolver document, where it is there.
+pub(crate) fn read_resolver<'s, L: Ledger>(
     alloc: Global,
     files: &Files<'s>,
     parses: &mut Steps<L>,

@@ -1,9 +1,11 @@
 //! Where the sources of permutations are named.
 
 ghost use Rattle.std.specs.Prelude.{◌≡◌};
+ghost use Rattle.std.specs.Str.{IsUtf8};
 ghost use Rattle.file_plan.specs.View.{plan_sources_view};
 ghost use Rattle.source_trees.specs.View.{home_view};
 ghost use Rattle.build_plain.specs.Breaks.{home_of, first_file, source_rule};
+ghost use Rattle.build_plain.specs.Names.{HaveUtf8Resolver};
 
 use file_plan::{Files, PlanSource};
 use refusals::{Rule, file_text};
@@ -27,6 +29,20 @@ pub fn home_of<'s>(files: &Files<'s>) -> Home<'s>
             file: TOKENS,
             text: file_text(files, TOKENS),
         },
+    }
+}
+
+// A text is UTF-8.
+fn is_utf8(_text: &str)
+    ensures { IsUtf8 _text.now }
+{}
+
+/// The resolver document is UTF-8, as each text is.
+pub fn resolver_is_utf8(files: &Files<'_>)
+    ensures { HaveUtf8Resolver files.now }
+{
+    if let Some(text) = files.get(RESOLVER) {
+        is_utf8(text);
     }
 }
 

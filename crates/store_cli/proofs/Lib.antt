@@ -1,5 +1,3 @@
 mod Endings
 mod OutputPaths
-mod PermutationNames
-mod ResolverNames
 mod Stopping

@@ -2,66 +2,23 @@
 use Rattle.std.proofs.Common.{◌≡◌, inl, inr, ℕ, Bool, true, false, cond, List, [], ◌∷◌, ◌++◌, length, codes, Option, Some, None, Result, Ok, Err, is_some, ap, sym, subst, refl, ◌∙◌, arith}
 use Rattle.std.specs.Cmp.Lexicographic.{nat_list_cmp_total}
 use Rattle.std.specs.FinMap as finite
-use Rattle.std.specs.List.{AllByRecursion}
 use Rattle.std.specs.Ordering.{eq_by_cmp}
-use Rattle.std.specs.Prelude.{IfSome}
-use Rattle.std.specs.Str.{IsUtf8}
 use Rattle.ring.specs.Lists.{In}
 use Rattle.tk_io.specs.FilesData.{FilesData}
 use Rattle.tk_io.specs.Order.{text_cmp}
-use Rattle.json_span.specs.Answer.{Answer, IsAnswer, shows, flawed, stops}
-use Rattle.json_span.specs.FitsIn.{SaidFits}
-use Rattle.json_span.specs.Laws.{ShowsSay}
-use Rattle.json_span.specs.Says.{plain_of}
-use Rattle.json_span.specs.Tree.{Placed}
 use Rattle.permutations.specs.Permutation.{Permutation}
 use Rattle.file_plan.specs.InUse.{resolver_path}
-use Rattle.file_plan.specs.Plan.{Planned, planned, refused, OfAnswer, OfDocument, broken, default_plan, listed, long, many, Plans}
+use Rattle.file_plan.specs.Plan.{Planned, planned, refused, Plans}
 use Rattle.transforms.specs.Config.{Settings}
 use Rattle.transforms.specs.declared.config.ConfigFault.{ConfigFault}
 use Rattle.refusals.specs.Planning.{plan_report}
 use Rattle.refusals.specs.Refusal.{Report, file_text, report_text}
 use Rattle.build_plain.specs.Denotes.{IsOfOne, NoOtherStands, names_by}
+use Rattle.build_plain.specs.Names.{HaveUtf8Resolver, PermutationsAreNamed}
 use Rattle.build_plain.specs.Out.{Builds, BuildsUnder, OfPlan, config_path, config_reports, one_output, refused_config, settings_of}
 use Rattle.out_store.specs.Paths.{IsFileOf, IsOutputPath, is_name}
 use Rattle.out_store.proofs.Places.{same_key}
-use Rattle.store_cli.specs.Fitting.{HaveUtf8Resolver, OutputsFit}
-use Rattle.store_cli.proofs.ResolverNames.{Fits, no_number, permutations_named}
-
-abbrev IsNamed : Permutation → Type 0
-IsNamed p = is_name p.name ≡ true
-
--- The permutations of a plan have names.
-
-abbrev AreNamed : Planned → Type 0
-AreNamed (planned perms) = AllByRecursion IsNamed perms
-AreNamed (refused told) = Unit {0}
-
-default_named : AreNamed (planned default_plan)
-default_named = (refl, tt)
-
-document_named : (n : ℕ) (root : Placed) (p : Planned) → Fits n root → OfDocument root p → AreNamed p
-document_named n root p fits (broken told ring is) = tt
-document_named n root p fits (many k is m) = tt
-document_named n root p fits (long k is m) = tt
-document_named n root p fits (listed is within) = permutations_named n root fits
-
-module _ (say : ShowsSay ℕ) (said : SaidFits ℕ) where
-  answer_named : (text : List ℕ) (answer : Answer) (p : Planned) → IsUtf8 text → IsAnswer text answer → OfAnswer answer p → AreNamed p
-  answer_named text (shows root) p utf8 is of =
-      let all : length text ≡ length text = refl in
-      document_named (length text) root p (said no_number text (plain_of no_number root) (length text) utf8 (omega (arith, all)) (say no_number text root is.0)) of
-  answer_named text (flawed f) p utf8 is of = subst AreNamed (sym of) tt
-  answer_named text (stops at) p utf8 is of = subst AreNamed (sym of) tt
-
-  plan_named : (text : Option (List ℕ)) (p : Planned) → IfSome text IsUtf8 → Plans text p → AreNamed p
-  plan_named None p utf8 plans = subst AreNamed (sym plans) default_named
-  plan_named (Some text) p utf8 plans = answer_named text plans.0 p utf8 plans.1 plans.2
-
-one_of : {X : Type 0} (P : X → Type 0) (xs : List X) (x : X) → In x xs → AllByRecursion P xs → P x
-one_of P [] x i h = absurd i
-one_of P (y ∷ ys) x (inl same) h = subst P (sym same) h.0
-one_of P (y ∷ ys) x (inr i) h = one_of P ys x i h.1
+use Rattle.store_cli.specs.Fitting.{OutputsFit}
 
 -- The files of a permutation.
 
@@ -97,19 +54,14 @@ held_bytes : (o : Option (List ℕ)) → is_some o ≡ true → (bytes : List �
 held_bytes None h = cc
 held_bytes (Some bytes) h = (bytes, refl)
 
-in_option : (o : Option (List ℕ)) → ((text : List ℕ) → o ≡ Some text → IsUtf8 text) → IfSome o IsUtf8
-in_option None h = tt
-in_option (Some text) h = h text refl
-
-module _ (say : ShowsSay ℕ) (said : SaidFits ℕ) (others : NoOtherStands) (files out : FilesData) (utf8 : HaveUtf8Resolver files) (builds : Builds files out) (path : List ℕ) (held : finite.contains_key out path ≡ true) where
-  of_one : (perms : List Permutation) (settings : Settings) → AllByRecursion IsNamed perms → IsOfOne settings files perms path → IsOutputPath path
-  of_one perms settings named one = ending_fits one.perm.name path (one_of IsNamed perms one.perm one.among named) one.own.breaks one.own.ending one.own.among one.own.joined
+module _ (named : PermutationsAreNamed) (others : NoOtherStands) (files out : FilesData) (utf8 : HaveUtf8Resolver files) (builds : Builds files out) (path : List ℕ) (held : finite.contains_key out path ≡ true) where
+  of_one : (perms : List Permutation) (settings : Settings) → Plans (finite.get files resolver_path) (planned perms) → IsOfOne settings files perms path → IsOutputPath path
+  of_one perms settings plan one = ending_fits one.perm.name path (named files perms utf8 plan one.perm one.among) one.own.breaks one.own.ending one.own.among one.own.joined
 
   of_plan : (settings : Settings) (p : Planned) → settings_of files ≡ Ok settings → Plans (finite.get files resolver_path) p → OfPlan settings files p out → IsOutputPath path
   of_plan settings (planned perms) configured plan made =
       let bytes = held_bytes (finite.get out path) held in
-      let named = plan_named say said (finite.get files resolver_path) (planned perms) (in_option (finite.get files resolver_path) utf8) plan in
-      of_one perms settings named (others files settings perms out (record { configured = configured; plan = plan; outputs = builds }) path bytes.0 bytes.1)
+      of_one perms settings plan (others files settings perms out (record { configured = configured; plan = plan; outputs = builds }) path bytes.0 bytes.1)
   of_plan settings (refused told) configured plan made = inl (alone (codes "REFUSED") (report_text files (plan_report told)) path out made held)
 
   of_config : (rs : List Report) → refused_config files rs out → IsOutputPath path
@@ -120,5 +72,5 @@ module _ (say : ShowsSay ℕ) (said : SaidFits ℕ) (others : NoOtherStands) (fi
   of_settings (Ok settings) is made = of_plan settings made.0 is made.1 made.2
   of_settings (Err told) is made = of_config (config_reports (length (file_text files config_path)) told) made
 
-pub outputs_fit : ShowsSay ℕ → SaidFits ℕ → NoOtherStands → OutputsFit
-outputs_fit say said others files out utf8 builds path held = of_settings say said others files out utf8 builds path held (settings_of files) refl builds
+pub outputs_fit : PermutationsAreNamed → NoOtherStands → OutputsFit
+outputs_fit named others files out utf8 builds path held = of_settings named others files out utf8 builds path held (settings_of files) refl builds

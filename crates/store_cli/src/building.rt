@@ -2,15 +2,13 @@
 
 ghost use Rattle.std.specs.Prelude.{◌≡◌, ◌<◌, ℕ, List, true, Err, IfOk};
 ghost use Rattle.std.specs.FinMap as map;
-ghost use Rattle.std.specs.Str.{IsUtf8};
 ghost use Rattle.build_plain.specs.Out.{Builds};
 ghost use Rattle.edit_script.specs.Files.{EveryFits, IsUnfit};
 ghost use Rattle.out_store.specs.Paths.{IsOutputPath};
-ghost use Rattle.store_cli.specs.Fitting.{HaveUtf8Resolver};
 ghost use Rattle.store_cli.specs.Stored.{BuildsAfter};
 
 use crate::laws::outputs_fit;
-use build_plain::{Earlier, build};
+use build_plain::{Earlier, build, resolver_is_utf8};
 use bumpalo::Bump;
 use edit_script::Events;
 use file_plan::{Files, LoadStop};
@@ -51,20 +49,6 @@ fn build_anew(alloc: Global, files: &Files<'_>) -> Result<Outputs, NoMemory>
     ensures { IfOk result (λ outputs. Builds files.now outputs) }
 {
     counted::<Brand, Brand, Brand>(alloc, files, Blank::new(1), Blank::new(1), Blank::new(1))
-}
-
-// A text is UTF-8.
-fn is_utf8(_text: &str)
-    ensures { IsUtf8 _text.now }
-{}
-
-// The resolver document is UTF-8, as each text is.
-fn resolver_is_utf8(files: &Files<'_>)
-    ensures { HaveUtf8Resolver files.now }
-{
-    if let Some(text) = files.get("resolver.json") {
-        is_utf8(text);
-    }
 }
 
 /// The outputs of the files after all events, which stand at paths that a store can hold. Patched texts are made in the

@@ -2,8 +2,7 @@
 
 ghost use Rattle.store_cli.specs.Fitting.{OutputsFit};
 
-use build_plain::outputs_denote;
-use json_span::plain_laws;
+use build_plain::{outputs_denote, permutation_names};
 
 /// The outputs of files whose resolver document is UTF-8 stand at paths that a store can hold: the names of permutations
 /// are letters, digits, `_`, `-`, `%`, `=` and `+`.
@@ -11,5 +10,5 @@ pub fn outputs_fit()
     ensures { OutputsFit }
 {
     outputs_denote();
-    plain_laws::<usize>();
+    permutation_names();
 }

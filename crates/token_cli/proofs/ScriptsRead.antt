@@ -16,9 +16,9 @@ use Rattle.token_cli.specs.declared.stop.Stop.{Stop}
 use Rattle.token_cli.specs.declared.stop.Stop.TheVariants as stop
 
 -- a run that did not stop since the script is too long read no more than the limit
-pub not_long : {T : Type 0} (r : Result Bool Stop) (s : ReadStop) → IsErrAnd r (λ e. e ≡ of_read s) → (r ≡ Err stop.TooLong → ⊥) → IsErrOf {T = T} (Err s) reading.TooLong → ⊥
+pub not_long : {X T : Type 0} (r : Result X Stop) (s : ReadStop) → IsErrAnd r (λ e. e ≡ of_read s) → (r ≡ Err stop.TooLong → ⊥) → IsErrOf {T = T} (Err s) reading.TooLong → ⊥
 not_long (Ok y) s h not is = absurd h
-not_long {T} (Err e) s h not is = not (ap Err (h ∙ ap of_read (same s reading.TooLong is)))
+not_long {X} {T} (Err e) s h not is = not (ap Err (h ∙ ap of_read (same s reading.TooLong is)))
   where
     same : (x y : ReadStop) → IsErrOf {T = T} (Err x) y → x ≡ y
     same x y e = cc

@@ -6,7 +6,7 @@ use Rattle.std.specs.List.{AllByRecursion, list_all}
 use Rattle.std.specs.Prelude.{◌==◌, not, nat_lt, if◌then◌else◌}
 use Rattle.json_span.specs.Spelling.{are_bytes}
 use Rattle.permutations.specs.Name.{Choice, escaped_byte, escaped_name, is_unescaped, label, name_of, upper_digit}
-use Rattle.out_store.specs.Paths.{is_name, is_name_byte}
+use Rattle.build_plain.specs.Names.{is_name, is_name_byte}
 
 split : (a b : Bool) → (a && b) ≡ true → (a ≡ true) × (b ≡ true)
 split true b h = (refl, h)

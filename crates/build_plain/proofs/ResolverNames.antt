@@ -11,8 +11,8 @@ use Rattle.json_span.proofs.Utf8.{utf8_bytes}
 use Rattle.resolver_doc.specs.Document.{ItemData, set_item, modifier_item, SetData, elements_at, text_at, section, modifier_entries, order_items, modifier_number, set_number, name_in, member_entries, member_text, context_of, modifier_of, named_modifier, named_item, own_name, own_item, item_by, order_item, resolver_of, sources_in, set_entries}
 use Rattle.resolver_doc.specs.Form.{context_entries, entries_at, is_reserved, unreserved}
 use Rattle.permutations.specs.Permutation.{Permutation, Pick, choices, context_pick, permutation, permutations, picks}
-use Rattle.out_store.specs.Paths.{is_name}
-use Rattle.store_cli.proofs.PermutationNames.{IsOfBytes, name_fits}
+use Rattle.build_plain.specs.Names.{is_name}
+use Rattle.build_plain.proofs.PermutationNames.{IsOfBytes, name_fits}
 
 -- What holds of all elements of a list holds of all that is made of them.
 
