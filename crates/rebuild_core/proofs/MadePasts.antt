@@ -11,12 +11,16 @@ use Rattle.file_plan.specs.declared.source.PlanPerm.{PlanPerm}
 use Rattle.file_plan.specs.declared.tree.Tree.{Tree}
 use Rattle.transforms.specs.Config.{Settings}
 use Rattle.transforms.specs.declared.config.ConfigFault.{ConfigFault}
-use Rattle.build_plain.specs.Out.{settings_of}
+use Rattle.build_plain.specs.Out.{BuildsUnder, GivesFrom, settings_of}
 use Rattle.build_plain.specs.inner.Making.{AllStand}
 use Rattle.rebuild_core.specs.Work.{UsedUnder, IsUsed, KeptPerm, KeptOf, KeptUnder, IsKept, named}
 use Rattle.rebuild_core.specs.declared.past.Past.{Past}
 use Rattle.rebuild_core.specs.declared.past.Shared.{Shared}
-use Rattle.rebuild_core.specs.inner.Past.{CameTo, IsBare, IsPast}
+use Rattle.rebuild_core.specs.declared.reading.InUse.{InUse}
+use Rattle.rebuild_core.specs.declared.renewing.Renewed.{Renewed}
+use Rattle.rebuild_core.specs.inner.Past.{CameTo, IsBare, IsMadeOf, IsPast}
+use Rattle.rebuild_core.specs.inner.Reading.{AreInUse}
+use Rattle.rebuild_core.specs.inner.Renewing.{IsRenewed}
 
 no_trees : (used : FilesData) (trees : finite.FinMap text_cmp Tree) → used ≡ finite.empty → trees ≡ finite.empty → AreTreesIn used trees
 no_trees used trees none bare q =
@@ -64,6 +68,14 @@ unplanned_past files settings broken past is plans used trees plan outcomes =
     without_plan (Some files) past plan outcomes (λ name. subst (λ (r : Result Settings ConfigFault). KeptUnder files name r None) (sym is) (refused broken, plans, refl))
     (subst (λ (r : Result Settings ConfigFault). UsedUnder files r past.used) (sym is) (refused broken, plans, used)) trees
 
+pub unplanned_renewed : (files : FilesData) (settings : Settings) (broken : PlanBreak) (now : InUse) → Plans (finite.get files resolver_path) (refused broken) → AreInUse files [] now
+    → (r : Renewed) → IsBare files now.used now.trees r.past → BuildsUnder files (Ok settings) r.outputs → IsRenewed files (Ok settings) r
+unplanned_renewed files settings broken now plans are r bare builds = record {
+  files_are = bare.files_are;
+  past = λ is. unplanned_past files settings broken r.past is plans (bare.used_are ∙ are.used) (bare_trees bare are.trees) bare.no_plan bare.no_outcomes;
+  outputs = builds;
+}
+
 -- the plan has these permutations
 pub planned_past : (files : FilesData) (settings : Settings) (past : Past) → settings_of files ≡ Ok settings → Plans (finite.get files resolver_path) (planned (plan_view past.plan))
     → past.used ≡ files_in_use files (plan_view past.plan) → AreTreesIn past.used past.trees → past.config ≡ settings → past.files ≡ files
@@ -82,3 +94,37 @@ planned_past files settings past is plans used trees config same came stand = re
             (subst (λ (f : FilesData). KeptOf past.config f (named name (plan_view past.plan)) k) same of),
       );
 }
+
+-- .. and it has these parts
+module _ (files : FilesData) (settings : Settings) (plan : List PlanPerm) (now : InUse) (outcomes : List Shared) (past : Past) (made : IsMadeOf files settings plan now outcomes past)
+    (came : CameTo settings files (plan_view plan) outcomes) where
+  came_there : CameTo settings files (plan_view past.plan) past.outcomes.items
+  came_there =
+      subst (λ (l : List PlanPerm). CameTo settings files (plan_view l) past.outcomes.items) (sym made.plan_is)
+      (subst (λ (l : List Shared). CameTo settings files (plan_view plan) l) (sym made.outcomes_are) came)
+
+  pub made_came : CameTo past.config past.files (plan_view past.plan) past.outcomes.items
+  made_came =
+      subst (λ (s : Settings). CameTo s past.files (plan_view past.plan) past.outcomes.items) (sym made.config_is)
+      (subst (λ (f : FilesData). CameTo settings f (plan_view past.plan) past.outcomes.items) (sym made.files_are) came_there)
+
+  made_past : Plans (finite.get files resolver_path) (planned (plan_view plan)) → AreInUse files (plan_view plan) now → AllStand files (plan_view plan) → settings_of files ≡ Ok settings → IsPast (Some files) past
+  made_past plans are stand is =
+      planned_past files settings past is (subst (λ (l : List PlanPerm). Plans (finite.get files resolver_path) (planned (plan_view l))) (sym made.plan_is) plans)
+      (made.used_are ∙ (are.used ∙ ap (λ (l : List PlanPerm). files_in_use files (plan_view l)) (sym made.plan_is)))
+      (subst (λ (m : FilesData). AreTreesIn m past.trees) (sym made.used_are) (subst (λ (t : finite.FinMap text_cmp Tree). AreTreesIn now.used t) (sym made.trees_are) are.trees))
+      made.config_is made.files_are came_there (subst (λ (l : List PlanPerm). AllStand files (plan_view l)) (sym made.plan_is) stand)
+
+  gives_there : (out : FilesData) → GivesFrom past.config past.files (plan_view past.plan) finite.empty out → GivesFrom settings files (plan_view plan) finite.empty out
+  gives_there out gives =
+      subst (λ (l : List PlanPerm). GivesFrom settings files (plan_view l) finite.empty out) made.plan_is
+      (subst (λ (f : FilesData). GivesFrom settings f (plan_view past.plan) finite.empty out) made.files_are
+      (subst (λ (s : Settings). GivesFrom s past.files (plan_view past.plan) finite.empty out) made.config_is gives))
+
+  pub made_renewed : Plans (finite.get files resolver_path) (planned (plan_view plan)) → AreInUse files (plan_view plan) now → AllStand files (plan_view plan) → (r : Renewed) → r.past ≡ past
+      → GivesFrom past.config past.files (plan_view past.plan) finite.empty r.outputs → IsRenewed files (Ok settings) r
+  made_renewed plans are stand r same gives = record {
+    files_are = ap (λ (p : Past). p.files) same ∙ made.files_are;
+    past = λ is. subst (λ (p : Past). IsPast (Some files) p) (sym same) (made_past plans are stand is);
+    outputs = (planned (plan_view plan), plans, gives_there r.outputs gives);
+  }

@@ -1,9 +1,9 @@
 -- What two commits of an engine leave, by what each of them answers.
-use Rattle.std.proofs.Common.{◌≡◌, ◌∙◌, Option, Some, None, Result, Ok, Err, IfOk, OnOk, OnErr, ap, refl, subst, sym}
+use Rattle.std.proofs.Common.{◌≡◌, ◌∙◌, Option, Some, None, Result, Ok, Err, IfOk, OnOk, OnErr, ap, subst, sym}
 use Rattle.tk_io.specs.FilesData.{FilesData}
 use Rattle.tk_io.specs.declared.faults.NoMemory.{NoMemory}
 use Rattle.build_plain.specs.Out.{Builds}
-use Rattle.build_plain.specs.Work.{Work, work}
+use Rattle.build_plain.specs.Work.{work}
 use Rattle.rebuild_core.specs.Engine.{EngineState, counts_view, state, with_files}
 use Rattle.rebuild_core.specs.Laws.{FromTheSame}
 use Rattle.rebuild_core.specs.Work.{IsWorkFrom}

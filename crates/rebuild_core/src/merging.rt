@@ -15,7 +15,7 @@ ghost use Rattle.build_plain.specs.Outcomes.{HoldsCells, IsOutcome, IsTreeOutcom
 ghost use Rattle.build_plain.specs.Work.{RiseWithin, added, work};
 ghost use Rattle.rebuild_core.specs.Work.{HasSources, KeptPerm, contents_of};
 ghost use Rattle.rebuild_core.specs.inner.Evaluating.{AreCellsOf};
-ghost use Rattle.rebuild_core.specs.inner.Merging.{AllReached, EvalsOf, IsKeptAgain, IsTreeUnder, WorkBeside, done_view, flat_of};
+ghost use Rattle.rebuild_core.specs.inner.Merging.{AllReached, EvalsOf, IsKeptAgain, IsMergedDone, IsTreeUnder, WorkBeside, done_view, flat_of};
 ghost use Rattle.rebuild_core.specs.inner.Past.{outcome_of};
 
 use crate::below::laws_below;
@@ -25,7 +25,7 @@ use crate::past::Shared;
 use alias_ref::differ_decides;
 use build_plain::{Outcome, home_of};
 use file_plan::{Files, PlanPerm};
-use source_trees::{Merge, Merged, Shapes, merge_of, merged_sources};
+use source_trees::{Merge, Merged, Shapes, SourceBreak, merge_of, merged_sources};
 use std::alloc::Global;
 use std::sync::ledger::Ledger;
 use tk_io::{NoMemory, Steps};
@@ -84,6 +84,49 @@ fn merged_tree<'s, M: Ledger, N: Ledger>(
     }
 }
 
+// What a permutation comes to whose sources come to this tree, which is merged for it.
+fn tree_done<'s, M: Ledger, N: Ledger>(
+    alloc: Global,
+    cfg: &Config,
+    tree: &Group<'s>,
+    old: Option<&Evaluated<'s>>,
+    last: Option<&Evaluated<'s>>,
+    merges: &mut Steps<M>,
+    evals: &mut Steps<N>,
+) -> Result<Done<'s>, NoMemory>
+    requires old { IfSome old (λ tree. AreCellsOf cfg.now tree.now) }
+    requires last { IfSome last (λ tree. AreCellsOf cfg.now tree.now) }
+    ensures outcome { IfOk result (λ done.
+        IsTreeOutcome cfg.now (group_view tree.now) (outcome_of done.shared)) }
+    ensures count { IfOk result (λ done.
+        IsMergedDone (option_map (λ tree. tree.now.tokens) old.entry) done) }
+    ensures merge { merges.new ≡ merges.old + 1 }
+    ensures steps { IfOk result (λ done. evals.new ≡ evals.old + done.evaluated) }
+    ensures at_most { (m : MergeData) (n : ℕ) → IsMergeOf (group_view tree.now) m
+        → EvalsOf (option_map (λ tree. tree.now.tokens) old.entry) m n → evals.new ≤ evals.old + n }
+{
+    let made = merged_tree(alloc, cfg, tree, old, last, merges, evals)?;
+    let shared = Shared::new(alloc, made.0)?;
+    Ok(Done {
+        shared,
+        merged: 1,
+        evaluated: made.1,
+    })
+}
+
+// What a permutation comes to of which a source has this break: nothing is merged for it.
+fn broken_done<'s>(alloc: Global, found: SourceBreak<'s>) -> Result<Done<'s>, NoMemory>
+    ensures outcome { IfOk result (λ done. outcome_of done.shared ≡ Outcome.SourceBreak found.entry) }
+    ensures nothing { IfOk result (λ done. done_view done ≡ work 0 0 0) }
+{
+    let shared = Shared::new(alloc, Outcome::SourceBreak(found))?;
+    Ok(Done {
+        shared,
+        merged: 0,
+        evaluated: 0,
+    })
+}
+
 /// What the permutation comes to, where its sources hold other than before. `old` is its tree before, and `last` that of
 /// another permutation, under this configuration.
 pub(crate) fn merged_anew<'s, M: Ledger, N: Ledger>(
@@ -120,23 +163,8 @@ pub(crate) fn merged_anew<'s, M: Ledger, N: Ledger>(
     let home = home_of(files);
     let sources = perm.sources.as_slice();
     match merged_sources(alloc, shapes, home, sources)? {
-        Merged::Tree(tree) => {
-            let made = merged_tree(alloc, cfg, &tree, old, last, merges, evals)?;
-            let shared = Shared::new(alloc, made.0)?;
-            Ok(Done {
-                shared,
-                merged: 1,
-                evaluated: made.1,
-            })
-        }
-        Merged::Broken(found) => {
-            let shared = Shared::new(alloc, Outcome::SourceBreak(found))?;
-            Ok(Done {
-                shared,
-                merged: 0,
-                evaluated: 0,
-            })
-        }
+        Merged::Tree(tree) => tree_done(alloc, cfg, &tree, old, last, merges, evals),
+        Merged::Broken(found) => broken_done(alloc, found),
     }
 }
 

@@ -3,26 +3,26 @@
 ghost use Rattle.std.specs.Prelude.{◌≡◌, ◌+◌, ℕ, List, Some, Option, Ok, Err, IfOk};
 ghost use Rattle.std.specs.FinMap as map;
 ghost use Rattle.tk_io.specs.FilesData.{FilesData};
-ghost use Rattle.file_plan.specs.InUse.{resolver_in, resolver_path};
+ghost use Rattle.file_plan.specs.InUse.{files_in_use, resolver_in, resolver_path};
 ghost use Rattle.file_plan.specs.Plan.{Plans, planned};
 ghost use Rattle.file_plan.specs.Trees.{AreTreesIn};
 ghost use Rattle.file_plan.specs.View.{IsPlanRefusal, plan_view};
-ghost use Rattle.build_plain.specs.Out.{Builds, IsConfigFault, settings_of};
+ghost use Rattle.build_plain.specs.Out.{Builds, GivesFrom, IsConfigFault, settings_of};
 ghost use Rattle.build_plain.specs.Work.{RiseWithin, added, work};
 ghost use Rattle.rebuild_core.specs.Engine.{counts_view};
-ghost use Rattle.rebuild_core.specs.Work.{IsWorkFrom, WorkUnderFrom};
-ghost use Rattle.rebuild_core.specs.inner.Past.{IsBare, IsPast};
-ghost use Rattle.rebuild_core.specs.inner.Reading.{ReadsFirst};
+ghost use Rattle.rebuild_core.specs.Work.{IsWorkFrom, PermsWorkFrom, WorkUnderFrom};
+ghost use Rattle.rebuild_core.specs.inner.Past.{CameTo, IsBare, IsMadeOf, IsPast};
+ghost use Rattle.rebuild_core.specs.inner.Reading.{AreInUse, ReadsFirst};
 ghost use Rattle.rebuild_core.specs.inner.Renewing.{IsRenewed, all_view};
 
 use crate::below::laws_below;
 use crate::commit::Counts;
-use crate::past::{Past, UsedTexts};
-use crate::plan_perms::{outputs_of, renewed_perms};
+use crate::past::{Past, Shared, UsedTexts};
+use crate::plan_perms::{AllDone, outputs_of, renewed_perms};
 use crate::reading::{InUse, in_use, resolver_tree};
 use crate::used::RESOLVER;
 use build_plain::{config_of, refused_config, refused_plan};
-use file_plan::{Files, Plan, PlanRefusal, Trees, file_plan_laws, plan_of};
+use file_plan::{Files, Plan, PlanPerm, PlanRefusal, Trees, file_plan_laws, plan_of};
 use source_trees::{shapes_known, shapes_of};
 use std::alloc::Global;
 use std::sync::ledger::Ledger;
@@ -79,6 +79,110 @@ fn bare_past<'s>(
     })
 }
 
+// What is kept of files with this plan.
+fn planned_past<'s>(
+    files: &Files<'s>,
+    config: Config,
+    plan: Plan<'s>,
+    now: InUse<'s>,
+    outcomes: Vec<Shared<'s>>,
+) -> Result<Past<'s>, NoMemory>
+    ensures { IfOk result (IsMadeOf files.now config plan.entry now.entry outcomes.entry.items) }
+{
+    let files = files.copy()?;
+    let InUse {
+        used,
+        trees,
+        read: _,
+    } = now;
+    Ok(Past {
+        files,
+        used,
+        trees,
+        config,
+        plan,
+        outcomes,
+    })
+}
+
+// What was made of files, with their outputs.
+fn with_outputs<'s>(alloc: Global, past: Past<'s>, counts: Counts) -> Result<Renewed<'s>, NoMemory>
+    requires { CameTo past.config past.files (plan_view past.plan) past.outcomes.items }
+    ensures past { IfOk result (λ r. r.past ≡ past.entry) }
+    ensures outputs { IfOk result (λ r.
+        GivesFrom past.entry.config past.entry.files (plan_view past.entry.plan) map.empty r.outputs) }
+    ensures counts { IfOk result (λ r. r.counts ≡ counts) }
+{
+    let plan = past.plan.as_slice();
+    let outcomes = past.outcomes.as_slice();
+    let outputs = outputs_of(alloc, &past.files, &past.config, plan, outcomes)?;
+    Ok(Renewed {
+        past,
+        outputs,
+        counts,
+    })
+}
+
+// Files with this plan, when its permutations came to these. So many texts were read: `first` of the resolver document, and
+// `others` of the other files.
+fn renewed_by<'s>(
+    alloc: Global,
+    files: &Files<'s>,
+    cfg: Config,
+    plan: Plan<'s>,
+    now: InUse<'s>,
+    all: AllDone<'s>,
+    first: usize,
+    others: usize,
+) -> Result<Renewed<'s>, NoMemory>
+    requires plan { Plans (map.get files.now resolver_path) (planned (plan_view plan)) }
+    requires now { AreInUse files.now (plan_view plan) now }
+    requires all { CameTo cfg files.now (plan_view plan) all.outcomes.items }
+    ensures renewed { IfOk result (IsRenewed files.now (Ok cfg)) }
+    ensures counts { IfOk result (λ r. counts_view r.counts
+        ≡ work (first + others) all.entry.merged all.entry.evaluated) }
+{
+    file_plan_laws();
+    let AllDone {
+        outcomes,
+        merged,
+        evaluated,
+    } = all;
+    let counts = counts_of(first, others, merged, evaluated)?;
+    let past = planned_past(files, cfg, plan, now, outcomes)?;
+    with_outputs(alloc, past, counts)
+}
+
+// What the permutations of a plan come to, where these are the trees of the files in use.
+fn perms_under<'s, M: Ledger, N: Ledger>(
+    alloc: Global,
+    files: &Files<'s>,
+    cfg: &Config,
+    past: &Past<'s>,
+    plan: &[PlanPerm<'s>],
+    trees: &Trees<'s>,
+    merges: &mut Steps<M>,
+    evals: &mut Steps<N>,
+) -> Result<AllDone<'s>, NoMemory>
+    requires past { (before : Option FilesData) × IsPast before past.now }
+    requires plan { Plans (map.get files.now resolver_path) (planned (plan_view plan.now)) }
+    requires trees { AreTreesIn (files_in_use files.now (plan_view plan.now)) trees.now }
+    ensures outcomes { IfOk result (λ all.
+        CameTo cfg.now files.now (plan_view plan.now) all.outcomes.items) }
+    ensures work { (before : Option FilesData) → IsPast before past.now → IfOk result (λ all.
+        PermsWorkFrom before cfg.now files.now (plan_view plan.now) (all_view all)) }
+    ensures counted { IfOk result (λ all. work 0 merges.new evals.new
+        ≡ added (work 0 merges.old evals.old) (all_view all)) }
+    ensures at_most { (before : Option FilesData) → IsPast before past.now
+        → RiseWithin (PermsWorkFrom before cfg.now files.now (plan_view plan.now))
+        (work 0 merges.old evals.old) (work 0 merges.new evals.new) }
+{
+    file_plan_laws();
+    shapes_known();
+    let shapes = shapes_of(alloc, files, trees)?;
+    renewed_perms(alloc, files, cfg, &shapes, past, plan, merges, evals)
+}
+
 // Files with this plan, of which the resolver document is read.
 fn renewed_plan<'s, L: Ledger, M: Ledger, N: Ledger>(
     alloc: Global,
@@ -106,24 +210,30 @@ fn renewed_plan<'s, L: Ledger, M: Ledger, N: Ledger>(
         → parses.old ≡ start + first → RiseWithin (WorkUnderFrom before files.now (Ok cfg))
         (work start merges.old evals.old) (work parses.new merges.new evals.new) }
 {
-    file_plan_laws();
-    shapes_known();
     laws_below();
     let list = plan.as_slice();
     let now = in_use(alloc, files, past, list, trees, parses)?;
-    let shapes = shapes_of(alloc, files, &now.trees)?;
-    let all = renewed_perms(alloc, files, &cfg, &shapes, past, list, merges, evals)?;
-    let outputs = outputs_of(alloc, files, &cfg, list, all.outcomes.as_slice())?;
-    let counts = counts_of(first, now.read, all.merged, all.evaluated)?;
-    let files = files.copy()?;
-    let past = Past {
-        files,
-        used: now.used,
-        trees: now.trees,
-        config: cfg,
-        plan,
-        outcomes: all.outcomes,
-    };
+    let others = now.read;
+    let all = perms_under(alloc, files, &cfg, past, list, &now.trees, merges, evals)?;
+    renewed_by(alloc, files, cfg, plan, now, all, first, others)
+}
+
+// Files without permutations, whose outputs are these.
+fn bare_renewed<'s>(
+    alloc: Global,
+    files: &Files<'s>,
+    cfg: Config,
+    now: InUse<'s>,
+    outputs: Outputs,
+    first: usize,
+) -> Result<Renewed<'s>, NoMemory>
+    ensures past { IfOk result (λ r. IsBare files.now now.entry.used now.entry.trees r.past) }
+    ensures outputs { IfOk result (λ r. r.outputs ≡ outputs) }
+    ensures counts { IfOk result (λ r. counts_view r.counts ≡ work (first + now.entry.read) 0 0) }
+{
+    let InUse { used, trees, read } = now;
+    let counts = counts_of(first, read, 0, 0)?;
+    let past = bare_past(alloc, files, cfg, used, trees)?;
     Ok(Renewed {
         past,
         outputs,
@@ -158,14 +268,8 @@ fn unplanned<'s, L: Ledger>(
     laws_below();
     let outputs = refused_plan(alloc, files, refusal)?;
     let none = Plan::new(alloc);
-    let InUse { used, trees, read } = in_use(alloc, files, past, none.as_slice(), trees, parses)?;
-    let counts = counts_of(first, read, 0, 0)?;
-    let past = bare_past(alloc, files, cfg, used, trees)?;
-    Ok(Renewed {
-        past,
-        outputs,
-        counts,
-    })
+    let now = in_use(alloc, files, past, none.as_slice(), trees, parses)?;
+    bare_renewed(alloc, files, cfg, now, outputs, first)
 }
 
 // Files whose configuration is refused.

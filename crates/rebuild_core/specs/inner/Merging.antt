@@ -15,6 +15,7 @@ use Rattle.build_plain.specs.Outcomes.{IsOutcome, merge_in}
 use Rattle.rebuild_core.specs.Work.{IsMerge, KeptPerm, HasSources, SourcesWork, contents_of, flat_in, named}
 use Rattle.rebuild_core.specs.declared.merging.Done.{Done}
 use Rattle.rebuild_core.specs.inner.Evaluating.{AreReached}
+use Rattle.rebuild_core.specs.inner.Past.{outcome_of}
 
 -- of a permutation, where this is kept of it
 abbrev pub WorkBeside : Option KeptPerm → Settings → FilesData → Permutation → Work → Type 0
@@ -50,6 +51,13 @@ pub record IsKeptAgain (files : FilesData) (p : Permutation) (settings : Setting
 -- the numbers of a permutation
 abbrev pub done_view : Done → Work
 done_view d = work 0 d.merged d.evaluated
+
+-- what one came to whose tree was merged: so many of its tokens are reached since the flat tree
+pub record IsMergedDone (old : Option Flat) (d : Done) : Type 0 where
+  pub merged : d.merged ≡ 1
+  pub made : Merge
+  pub is : merge_in (outcome_of d.shared) ≡ Some made
+  pub evals : EvalsOf old made d.evaluated
 
 -- the permutation of the name stands at this place of the plan
 pub record IsNamedAt (plan : List PlanPerm) (name : List ℕ) (i : ℕ) : Type 0 where

@@ -5,6 +5,7 @@ use Rattle.std.specs.List.{AllZip}
 use Rattle.permutations.specs.Permutation.{Permutation}
 use Rattle.file_plan.specs.Trees.{AreTreesIn}
 use Rattle.file_plan.specs.View.{plan_view}
+use Rattle.file_plan.specs.declared.source.PlanPerm.{PlanPerm}
 use Rattle.file_plan.specs.declared.tree.Tree.{Tree}
 use Rattle.transforms.specs.Config.{Settings}
 use Rattle.tk_io.specs.FilesData.{FilesData}
@@ -14,6 +15,7 @@ use Rattle.build_plain.specs.inner.Making.{AllStand}
 use Rattle.build_plain.specs.declared.outcome.Outcome.{Outcome}
 use Rattle.rebuild_core.specs.declared.past.Past.{Past}
 use Rattle.rebuild_core.specs.declared.past.Shared.{Shared}
+use Rattle.rebuild_core.specs.declared.reading.InUse.{InUse}
 use Rattle.rebuild_core.specs.Work.{IsUsed, IsKept, KeptOf, KeptPerm, named}
 
 abbrev pub outcome_of : Shared → Outcome
@@ -31,6 +33,15 @@ pub record IsPast (before : Option FilesData) (past : Past) : Type 0 where
   pub outcomes : CameTo past.config past.files (plan_view past.plan) past.outcomes.items
   pub stand : AllStand past.files (plan_view past.plan)
   pub kept : (name : List ℕ) (k : Option KeptPerm) → KeptOf past.config past.files (named name (plan_view past.plan)) k → IsKept before name k
+
+-- it has these parts
+pub record IsMadeOf (files : FilesData) (config : Settings) (plan : List PlanPerm) (now : InUse) (outcomes : List Shared) (past : Past) : Type 0 where
+  pub files_are : past.files ≡ files
+  pub used_are : past.used ≡ now.used
+  pub trees_are : past.trees ≡ now.trees
+  pub config_is : past.config ≡ config
+  pub plan_is : past.plan ≡ plan
+  pub outcomes_are : past.outcomes.items ≡ outcomes
 
 -- .. where there are no permutations
 pub record IsBare (files used : FilesData) (trees : finite.FinMap text_cmp Tree) (past : Past) : Type 0 where

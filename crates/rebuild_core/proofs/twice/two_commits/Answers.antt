@@ -1,4 +1,3 @@
-use Rattle.std.proofs.Common.{◌≡◌}
 use Rattle.std.specs.FinMap as map
 use Rattle.rebuild_core.proofs.TwoCommits.{all_done, files_are, first_does, first_stays, held_before, nothing_done, nothing_kept, second_holds, second_keeps}
 use Rattle.rebuild_core.proofs.twice.two_commits.Goals as goal
