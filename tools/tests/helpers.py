@@ -12,7 +12,7 @@ from typing import NamedTuple
 TOP = os.path.dirname(os.path.dirname(os.path.dirname(os.path.abspath(__file__))))
 TOKC = os.path.join(TOP, "tokc")
 TOKC_DIR = os.path.join(TOP, "tools", "tokc-dir")
-SECONDS = 60
+SECONDS = 300
 
 FIRST = os.path.join(TOP, "examples", "first.script")
 
