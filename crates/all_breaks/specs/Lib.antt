@@ -6,8 +6,8 @@
 -- What is promised, with the calls and clauses that carry it:
 -- * what is told of files is the one break of a configuration or a plan that breaks a rule, or for
 --   each permutation of the plan all its breaks, in this order: of each source the first, or of the
---   merged tree the first, or of each token in path order the first, or each pair of tokens that
---   have one name, on CSS, Android and Swift; breaks that read the same are told once, with the
+--   merged tree the first, or of each token in path order the first and then each pair of tokens
+--   that have one name, on CSS, Android and Swift; breaks that read the same are told once, with the
 --   names of their permutations (`all_breaks`: `ok`)
 -- * each file in use is read once, each merged tree is made flat once, and each token evaluated
 --   once, as a build does it; no more where memory runs out (`all_breaks`: `work`, `at_most`)

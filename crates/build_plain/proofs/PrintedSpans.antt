@@ -1,8 +1,7 @@
 -- Each break of files lies in the text of the file that is named.
-use Rattle.std.proofs.Common.{arith, ◌≡◌, ◌⊎◌, ◌≤◌, ℕ, zero, suc, ◌+◌, Bool, true, false, List, [], ◌∷◌, ◌++◌, map, Option, Some, None, Ok, Err, MatchOption, if◌then◌else◌, option_map, unwrap_or, length, codes, inl, inr, refl, sym, ap, ap₂, subst, ◌∙◌}
+use Rattle.std.proofs.Common.{arith, ◌≡◌, ◌⊎◌, ◌≤◌, ℕ, ◌+◌, Bool, true, false, List, [], ◌∷◌, ◌++◌, map, Option, Some, None, Ok, Err, MatchOption, if◌then◌else◌, option_map, unwrap_or, length, codes, inl, inr, refl, sym, ap, ap₂, subst, ◌∙◌}
 use Rattle.std.proofs.lemmas.Cmp.{lists_total}
 use Rattle.std.specs.Cmp.Lexicographic.{nat_list_cmp_total}
-use Rattle.std.specs.Fmt.{decimal}
 use Rattle.std.specs.FinMap as finite
 use Rattle.std.specs.FinMap.{slice_cmp-IsAntisymmetric, nat_cmp-IsAntisymmetric}
 use Rattle.std.specs.List.{AllZip, AllByRecursion, flat_map, zip}
@@ -10,26 +9,24 @@ use Rattle.std.specs.Str.{bytes_eq}
 use Rattle.ring.specs.Lists.{In}
 use Rattle.ring.proofs.Ends.{in_cases}
 use Rattle.json_span.specs.Answer.{Answer, IsAnswer, shows, flawed, stops}
-use Rattle.json_span.specs.Flaw.{Flaw, equal_names, too_deep, most_open}
+use Rattle.json_span.specs.Flaw.{Flaw, equal_names, too_deep}
 use Rattle.json_span.specs.FlawLaws.{FirstIsLeast}
 use Rattle.json_span.specs.Parts.{moved}
 use Rattle.json_span.specs.Reading.{Shows}
-use Rattle.json_span.specs.Tree.{a_null, a_boolean, a_number, a_string, an_array, an_object, Placed, placed, Elements, no_elements, an_element, Members, no_members, a_member, Entry, tree_of, start_of, end_of, elements_in, entries_in, value_of_name}
+use Rattle.json_span.specs.Tree.{a_null, a_boolean, a_number, a_string, an_array, an_object, Placed, placed, Entry, tree_of, start_of, end_of, elements_in, entries_in, value_of_name}
 use Rattle.name_path.specs.declared.place.Place.{Place}
-use Rattle.resolver_doc.specs.Document.{resolver_of}
 use Rattle.resolver_doc.specs.Form.{entries_at}
 use Rattle.permutations.specs.Laws.{IsNamedBy, FilesAreNamed}
 use Rattle.permutations.specs.Permutation as perm
 use Rattle.permutations.specs.Permutation.{TokenSource, Permutation, permutations}
 use Rattle.file_plan.specs.InUse.{resolver_path}
-use Rattle.file_plan.specs.Laws.{InlinesStand, IsTold, told_stop, told_flaw, told_rule, told_many, told_long, RefusalsTell, IsPlanned, PlannedBreakNone}
-use Rattle.file_plan.specs.Plan.{PlanBreak, stopped, has_flaw, planned, refused, default_plan, order_start, order_end, Plans}
-use Rattle.token_tree.specs.Promise.{IsDefinition, StandsIn, moved_def}
+use Rattle.file_plan.specs.Laws.{InlinesStand, IsTold, told_stop, told_flaw, told_rule, told_many, told_long, RefusalsTell, PlannedBreakNone}
+use Rattle.file_plan.specs.Plan.{PlanBreak, planned, refused, default_plan, order_start, order_end, Plans}
+use Rattle.token_tree.specs.Promise.{IsDefinition, StandsIn}
 use Rattle.token_tree.specs.Shape as shape
-use Rattle.token_tree.specs.Shape.{shape_breaks, shape_of, token_value, def_of, extension_at, target_in}
+use Rattle.token_tree.specs.Shape.{shape_breaks, shape_of, token_value, extension_at, target_in}
 use Rattle.token_tree.specs.Tree.{Definition, Extension, Group}
 use Rattle.group_inherit.specs.Answer.{IsTreeBreak}
-use Rattle.group_inherit.specs.Extension.{ring_extension}
 use Rattle.group_inherit.specs.Flattening.{Flattened, TokenAt}
 use Rattle.group_inherit.specs.Merging.{merged_over, empty_group}
 use Rattle.group_inherit.specs.Span.{Span, span_at, span_of}
@@ -44,9 +41,9 @@ use Rattle.tk_io.specs.FilesData.{FilesData}
 use Rattle.source_trees.specs.MergedTokens.{IsFlatOf, IsTextOfFile, TokensAreDefinitions, TokensStandInFiles}
 use Rattle.source_trees.specs.Merging.{InlineStands, AllInlineStand}
 use Rattle.source_trees.specs.Sources.{HomeAt, BreakAt, break_at, shape_break, flaw_break, answer_breaks, answer_trees, FoundIn, SourceFound, SourcesFound}
-use Rattle.source_trees.specs.declared.source.SourceFault.TheVariants.{Missing, Syntax, Duplicate, Depth, Shape}
+use Rattle.source_trees.specs.declared.source.SourceFault.TheVariants.{Missing, Syntax, Shape}
 use Rattle.transforms.specs.Clash.{Taken, first_taken}
-use Rattle.transforms.specs.Config.{Settings, config_of}
+use Rattle.transforms.specs.Config.{Settings}
 use Rattle.transforms.specs.declared.config.ConfigFault.{ConfigFault}
 use Rattle.transforms.specs.declared.config.ConfigFault.TheVariants as config
 use Rattle.transforms.specs.declared.platform.Platform.{Platform}
@@ -54,11 +51,11 @@ use Rattle.transforms.specs.declared.platform.Platform.TheVariants.{Css, Android
 use Rattle.refusals.specs.Planning.{flaw_report, plan_report}
 use Rattle.refusals.specs.Refusal.{Report, report, file_text, refusal_text, detail_lines, report_text, of_key}
 use Rattle.refusals.specs.declared.rule.Rule.TheVariants as rule
-use Rattle.token_cells.specs.Breaks.{place_in, place_span, token_report, Celled, cell_reports, names_on, clash_report, clash_reports, taken_behind, clashes_from, clashes_on, name_clashes, or_others, token_reports}
-use Rattle.token_cells.specs.Cell.{TokenPath, TokenBreak, token_break, IsCell, AreCells}
+use Rattle.token_cells.specs.Breaks.{place_in, place_span, token_report, Celled, cell_reports, names_on, clash_report, clash_reports, taken_behind, clashes_from, clashes_on, name_clashes}
+use Rattle.token_cells.specs.Cell.{TokenPath, token_break, IsCell}
 use Rattle.token_cells.specs.Laws.{BreaksHavePlaces}
 use Rattle.token_cells.specs.TokenCell.{TokenCell, Refused, Made}
-use Rattle.build_plain.specs.Breaks.{tokens_path, home_by, home_of, source_rule, source_report, first_file, tree_reports, InTokens, InTree, InTrees, Finds}
+use Rattle.build_plain.specs.Breaks.{tokens_path, home_by, home_of, source_report, first_file, tree_reports, InTokens, InTree, InTrees, Finds}
 use Rattle.build_plain.specs.Out.{config_path, config_reports, settings_by, settings_of}
 use Rattle.build_plain.specs.inner.Making.{AllStand}
 use Rattle.build_plain.specs.Printed.{SpanLies, ReportLies, LacksTokens, IsBreakOf, of_config, of_plan, of_permutation, BreaksLieInFiles, LinesAreOfFiles, LiesInToken, PlacesLieInTokens}
@@ -549,13 +546,9 @@ module _ (files : FilesData) where
               first (inl j) = on_lies Css es all r j
               first (inr j) = second (in_cases (clashes_on Android es) (clashes_on Swift es) r j)
 
-          or_either : (xs ys : List Report) (r : Report) → In r (or_others xs ys) → In r xs ⊎ In r ys
-          or_either [] ys r i = inr i
-          or_either (x ∷ xs) ys r i = inl i
-
           tokens_lie : (cells : List TokenCell) (breaks : List Report) → InTokens settings flat cells breaks → (r : Report) → In r breaks → ReportLies files r
           tokens_lie cells breaks (are, same) r i =
-              go (or_either (flat_map (cell_reports flat) (zip (finite.entries flat) cells)) (name_clashes (zip (finite.entries flat) cells)) r (subst (λ (rs : List Report). In r rs) same i))
+              go (in_cases (flat_map (cell_reports flat) (zip (finite.entries flat) cells)) (name_clashes (zip (finite.entries flat) cells)) r (subst (λ (rs : List Report). In r rs) same i))
             where
               of_cell : (e : Celled) × In e (zip (finite.entries flat) cells) × In r (cell_reports flat e) → ReportLies files r
               of_cell (e, j, k) = (let z = zipped (finite.entries flat) cells are e j in cell_lies e.0 e.1 z.0 z.1 r k)

@@ -5,7 +5,7 @@ use Rattle.transforms.specs.Clash.{Taken, NamedToken, AllAdded, first_taken, wit
 use Rattle.transforms.specs.declared.platform.Platform.{Platform}
 use Rattle.transforms.specs.declared.platform.Platform.TheVariants.{Css, Android, Swift}
 use Rattle.ring.specs.Lists.{In}
-use Rattle.token_cells.specs.Breaks.{Celled, clash_reports, clashes_from, taken_behind, clashes_on, name_clashes, or_others}
+use Rattle.token_cells.specs.Breaks.{Celled, clash_reports, clashes_from, taken_behind, clashes_on, name_clashes}
 use Rattle.refusals.specs.Refusal.{Report}
 use Rattle.token_cells.specs.TokenCell.{TokenCell}
 
@@ -53,26 +53,18 @@ nil_left : {A : Type 0} (xs ys : List A) → xs ++ ys ≡ [] → xs ≡ []
 nil_left [] ys e = refl
 nil_left (x ∷ xs) ys e = absurd (nil_cons x (xs ++ ys) e)
 
-nil_first : (xs ys : List Report) → or_others xs ys ≡ [] → xs ≡ []
-nil_first [] ys e = refl
-nil_first (x ∷ xs) ys e = absurd (nil_cons x xs e)
-
-nil_second : (xs ys : List Report) → or_others xs ys ≡ [] → ys ≡ []
-nil_second [] ys e = e
-nil_second (x ∷ xs) ys e = absurd (nil_cons x xs e)
-
 pub record AreClean (reports : List Report) (es : List Celled) : Type 0 where
   pub cells : reports ≡ []
   pub css : clashes_on Css es ≡ []
   pub android : clashes_on Android es ≡ []
   pub swift : clashes_on Swift es ≡ []
 
-pub name_clashes_none : (reports : List Report) (es : List Celled) → or_others reports (name_clashes es) ≡ [] → AreClean reports es
+pub name_clashes_none : (reports : List Report) (es : List Celled) → reports ++ name_clashes es ≡ [] → AreClean reports es
 name_clashes_none reports es none =
-    let all = nil_second reports (name_clashes es) none in
+    let all = nil_right reports (name_clashes es) none in
     let others = nil_right (clashes_on Css es) (clashes_on Android es ++ clashes_on Swift es) all in
     record {
-      cells = nil_first reports (name_clashes es) none;
+      cells = nil_left reports (name_clashes es) none;
       css = nil_left (clashes_on Css es) (clashes_on Android es ++ clashes_on Swift es) all;
       android = nil_left (clashes_on Android es) (clashes_on Swift es) others;
       swift = nil_right (clashes_on Android es) (clashes_on Swift es) others;

@@ -40,9 +40,8 @@ use Rattle.ring.specs.Lists.{In, Each}
 use Rattle.css_out.specs.Sheets.{Cell, css_frame, cell_name, cell_text, cell_names, sheet_bytes, sheet_values, LeadsTo, LinksLead, no_links, link_leads, IsSheet}
 use Rattle.css_out.specs.Sources.{HasRoom}
 use Rattle.css_out.specs.Rounds.{Denotes}
-use Rattle.refusals.specs.Refusal.{Report}
 use Rattle.token_cells.specs.Cell.{IsValueOf, AreCells}
-use Rattle.token_cells.specs.Breaks.{Celled, cell_reports, names_on, clashes_on, name_clashes, clashes_from, clash_reports, taken_behind, or_others, token_reports}
+use Rattle.token_cells.specs.Breaks.{Celled, cell_reports, names_on, clashes_on, name_clashes, clashes_from, clash_reports, taken_behind, token_reports}
 use Rattle.token_cells.specs.Denotes.{SheetDenotes}
 use Rattle.token_cells.specs.Sheets.{bodies_for, sheet_for}
 use Rattle.token_cells.specs.TokenCell.{TokenCell, Refused, Made}
@@ -73,14 +72,6 @@ nil_left (x ∷ xs) ys e = absurd (nil_cons x (xs ++ ys) e)
 nil_right : {A : Type 0} (xs ys : List A) → xs ++ ys ≡ [] → ys ≡ []
 nil_right [] ys e = e
 nil_right (x ∷ xs) ys e = absurd (nil_cons x (xs ++ ys) e)
-
-nil_first : (xs ys : List Report) → or_others xs ys ≡ [] → xs ≡ []
-nil_first [] ys e = refl
-nil_first (x ∷ xs) ys e = absurd (nil_cons x xs e)
-
-nil_second : (xs ys : List Report) → or_others xs ys ≡ [] → ys ≡ []
-nil_second [] ys e = e
-nil_second (x ∷ xs) ys e = absurd (nil_cons x xs e)
 
 -- a token and what it has
 
@@ -282,8 +273,8 @@ pub sheet_denotes : (laws : Laws) (flat : Flat) (settings : Settings) (cells : L
     → SheetDenotes flat settings (sheet_for Form.Css cells)
 sheet_denotes laws flat settings cells found none paths =
     let es = zip (finite.entries flat) cells in
-    let made = are_made flat settings (finite.entries flat) cells found (nil_first (flat_map (cell_reports flat) es) (name_clashes es) none) in
-    let (after, all) = added finite.empty es (nil_left (clashes_on Css es) (clashes_on Android es ++ clashes_on Swift es) (nil_second (flat_map (cell_reports flat) es) (name_clashes es) none)) in
+    let made = are_made flat settings (finite.entries flat) cells found (nil_left (flat_map (cell_reports flat) es) (name_clashes es) none) in
+    let (after, all) = added finite.empty es (nil_left (clashes_on Css es) (clashes_on Android es ++ clashes_on Swift es) (nil_right (flat_map (cell_reports flat) es) (name_clashes es) none)) in
     let apart = subst (λ ns. AllPairs ShareNoName ns) made.names (laws.apart (map named_of es) after all) in
     let sheet = is_sheet laws flat settings made.sheet made.have paths apart in
     let bytes : sheet_bytes settings made.sheet ≡ sheet_for Form.Css cells = ap (sheet_text css_frame) (sym made.bodies) in

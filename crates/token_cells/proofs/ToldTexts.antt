@@ -1,8 +1,7 @@
 -- What is printed of breaks, one after another: what is there so far, and what is still to come.
-use Rattle.std.proofs.Common.{◌≡◌, ℕ, List, [], ◌∷◌, ◌++◌, map, refl, sym, ap, subst, ◌∙◌}
+use Rattle.std.proofs.Common.{◌≡◌, ℕ, List, [], ◌++◌, map, refl, sym, ap, ◌∙◌}
 use Rattle.std.proofs.lemmas.List.{append-nil, append_assoc, map-append}
 use Rattle.refusals.specs.Refusal.{Report}
-use Rattle.token_cells.specs.Breaks.{or_others}
 
 module _ (f : Report → List ℕ) where
   -- the next ones are added
@@ -18,13 +17,3 @@ module _ (f : Report → List ℕ) where
   pub both_told : (a b c : List (List ℕ)) (xs ys : List Report) → b ≡ a ++ map f xs → c ≡ b ++ map f ys → c ≡ a ++ map f (xs ++ ys)
   both_told a b c xs ys first second = sym (append-nil c) ∙ more_told b c (a ++ map f (xs ++ ys)) ys [] second
       (ap (λ rs. b ++ map f rs) (append-nil ys) ∙ more_told a b (a ++ map f (xs ++ ys)) xs ys first refl)
-
-  -- the first ones, where there are any
-  pub some_told : (texts : List (List ℕ)) (xs ys : List Report) → texts ≡ map f xs → (texts ≡ [] → ⊥) → texts ≡ map f (or_others xs ys)
-  some_told texts [] ys is some = absurd (some is)
-  some_told texts (x ∷ xs) ys is some = is
-
-  -- .. else the others
-  pub others_told : (texts : List (List ℕ)) (xs ys : List Report) → [] ≡ map f xs → texts ≡ map f ys → texts ≡ map f (or_others xs ys)
-  others_told texts [] ys none is = is
-  others_told texts (x ∷ xs) ys none is = cc

@@ -75,14 +75,9 @@ clashes_on platform es = clashes_from platform (names_on platform) finite.empty 
 abbrev pub name_clashes : List Celled → List Report
 name_clashes es = clashes_on Css es ++ (clashes_on Android es ++ clashes_on Swift es)
 
--- the first ones, where there are any, else the others
-abbrev pub or_others : List Report → List Report → List Report
-or_others [] others = others
-or_others (r ∷ rs) others = r ∷ rs
-
--- Names are looked at where each token has a value.
+-- what each token breaks, in path order, and then each pair of equal names
 abbrev pub token_reports : Flat → List Celled → List Report
-token_reports flat es = or_others (flat_map (cell_reports flat) es) (name_clashes es)
+token_reports flat es = flat_map (cell_reports flat) es ++ name_clashes es
 
 -- The verdict is the first break.
 

@@ -148,8 +148,8 @@ fn add_name_clashes<'s>(
     add_clashes(alloc, files, Platform::Swift, tokens, pages, rows, texts)
 }
 
-/// What is printed of all breaks of tokens: of each that breaks a rule, in path order, or else of each that has a name of an
-/// earlier one, on CSS, then on Android, then in Swift.
+/// What is printed of all breaks of tokens: of each that breaks a rule, in path order, and then of each that has a name of
+/// an earlier one, on CSS, then on Android, then in Swift.
 pub fn break_texts<'s>(
     alloc: Global,
     files: &Files<'s>,
@@ -163,8 +163,6 @@ pub fn break_texts<'s>(
     let (rows, pages) = cells.parts();
     let mut texts = BreakTexts::new(alloc);
     add_all_refused(alloc, files, flat, tokens, pages, rows, &mut texts)?;
-    if texts.is_empty() {
-        add_name_clashes(alloc, files, tokens, pages, rows, &mut texts)?;
-    }
+    add_name_clashes(alloc, files, tokens, pages, rows, &mut texts)?;
     Ok(texts)
 }
