@@ -178,9 +178,13 @@ impl<'s> Earlier<'s> {
         ensures err { OnErr result (self.new ≡ None) }
     {
         self.known = None;
-        let config = config.copy(alloc)?;
-        self.known = Some(Known { config, tree });
-        Ok(())
+        match config.copy(alloc) {
+            Ok(config) => {
+                self.known = Some(Known { config, tree });
+                Ok(())
+            }
+            Err(NoMemory) => Err(NoMemory),
+        }
     }
 
     // The tree, where it was evaluated under this configuration.

@@ -153,6 +153,55 @@ impl<'s> Growing<'s> {
         }
     }
 
+    // Adds all tokens of the flat tree to none, in path order, of which this is kept. Each is one step.
+    fn add_all<N: Ledger>(
+        &mut self,
+        alloc: Global,
+        flat: &Flat<'s>,
+        cfg: &Config,
+        kepts: &[Option<Kept<'_, 's>>],
+        evals: &mut Steps<N>,
+    ) -> Result<(), NoMemory>
+        requires kept { AreKept flat.now cfg.now kepts.now }
+        requires none { HasAdded flat.now cfg.now [] self.old }
+        ensures added { OnOk result (HasAdded flat.now cfg.now (map.entries flat.now) self.new) }
+        ensures steps { OnOk result (evals.new ≡ evals.old + length (map.entries flat.now)) }
+        ensures at_most { evals.new ≤ evals.old + length (map.entries flat.now) }
+    {
+        let tokens = flat.as_slice();
+        let mut evaluator = Evaluator::new(alloc, flat)?;
+        for (i, token) in tokens.iter().enumerate() {
+            let kept = kept_of(kepts, i);
+            self.add(alloc, &mut evaluator, kept, i, token, cfg, evals)?;
+        }
+        Ok(())
+    }
+
+    // The same, where this is kept of each token. Each of which nothing is kept is one step.
+    fn add_all_since<N: Ledger>(
+        &mut self,
+        alloc: Global,
+        flat: &Flat<'s>,
+        cfg: &Config,
+        kepts: &[Option<Kept<'_, 's>>],
+        evals: &mut Steps<N>,
+    ) -> Result<(), NoMemory>
+        requires kept { AreKept flat.now cfg.now kepts.now }
+        requires long { length kepts.now ≡ length (map.entries flat.now) }
+        requires none { HasAdded flat.now cfg.now [] self.old }
+        ensures added { OnOk result (HasAdded flat.now cfg.now (map.entries flat.now) self.new) }
+        ensures steps { OnOk result (evals.new ≡ evals.old + count_by is_none kepts.now) }
+        ensures at_most { evals.new ≤ evals.old + count_by is_none kepts.now }
+    {
+        let tokens = flat.as_slice();
+        let mut evaluator = Evaluator::new(alloc, flat)?;
+        for (i, token) in tokens.iter().enumerate() {
+            let kept = kepts[i];
+            self.add_since(alloc, &mut evaluator, kept, i, token, cfg, evals)?;
+        }
+        Ok(())
+    }
+
     /// The tree of these tokens, which were all added.
     pub(crate) fn end(
         self,
@@ -189,13 +238,8 @@ pub(crate) fn grown<'s, N: Ledger>(
     ensures steps { OnOk result (evals.new ≡ evals.old + length (map.entries flat.now)) }
     ensures at_most { evals.new ≤ evals.old + length (map.entries flat.now) }
 {
-    let tokens = flat.as_slice();
-    let mut growing = Growing::new(alloc, tokens.len())?;
-    let mut evaluator = Evaluator::new(alloc, flat)?;
-    for (i, token) in tokens.iter().enumerate() {
-        let kept = kept_of(kepts, i);
-        growing.add(alloc, &mut evaluator, kept, i, token, cfg, evals)?;
-    }
+    let mut growing = Growing::new(alloc, flat.len())?;
+    growing.add_all(alloc, flat, cfg, kepts, evals)?;
     Ok(growing)
 }
 
@@ -213,12 +257,7 @@ pub(crate) fn grown_since<'s, N: Ledger>(
     ensures steps { OnOk result (evals.new ≡ evals.old + count_by is_none kepts.now) }
     ensures at_most { evals.new ≤ evals.old + count_by is_none kepts.now }
 {
-    let tokens = flat.as_slice();
-    let mut growing = Growing::new(alloc, tokens.len())?;
-    let mut evaluator = Evaluator::new(alloc, flat)?;
-    for (i, token) in tokens.iter().enumerate() {
-        let kept = kepts[i];
-        growing.add_since(alloc, &mut evaluator, kept, i, token, cfg, evals)?;
-    }
+    let mut growing = Growing::new(alloc, flat.len())?;
+    growing.add_all_since(alloc, flat, cfg, kepts, evals)?;
     Ok(growing)
 }

@@ -11,11 +11,11 @@ ghost use Rattle.alias_ref.specs.Answer.{IsResolved, IsRefBreak};
 ghost use Rattle.composite_rules.specs.Value.{value_of};
 ghost use Rattle.alias_ref.specs.Laws.{Flat as FlatTree};
 ghost use Rattle.transforms.specs.Config.{Settings};
-ghost use Rattle.token_cells.specs.Cell.{IsCell, TokenPath, extras_of};
+ghost use Rattle.token_cells.specs.Cell.{IsCell, IsJsonOf, TokenPath, extras_of};
 ghost use Rattle.token_cells.specs.declared.pages.OpenPages.{OpenPages};
 ghost use Rattle.token_cells.specs.TokenCell.{TokenCell, Refused};
 ghost use Rattle.token_cells.specs.inner.Kept.{PageTexts, row_view};
-ghost use Rattle.token_cells.specs.inner.Making.{IsMadeOf, ComesTo};
+ghost use Rattle.token_cells.specs.inner.Making.{AddsJson, IsMadeOf, ComesTo};
 
 use crate::adding::{add_android, add_css, add_json, add_swift};
 use crate::cells::Cells;
@@ -31,9 +31,9 @@ use refusals::CellRule;
 use std::alloc::Global;
 use std::rc::Rc;
 use std::sync::ledger::Ledger;
-use tk_io::{NoMemory, Steps};
+use tk_io::{Bytes, NoMemory, Steps};
 use token_tree::Mark;
-use transforms::{Config, Platform, write_name};
+use transforms::{Config, Extent, Sheet};
 use type_rules::{ValueFault, ValueRule};
 
 // The row of a token that breaks the rule.
@@ -99,6 +99,21 @@ fn extras<'a, 's: 'a>(entry: &'a Entry<'s>) -> Result<Extras<'a>, NoMemory>
     })
 }
 
+// Adds the member of JSON, with what the token says of itself.
+fn add_member<'s>(
+    lines: &mut Bytes,
+    sheet: &mut Sheet,
+    path: &Path<'s>,
+    entry: &Entry<'s>,
+    typed: &Typed<'s>,
+) -> Result<Extent, NoMemory>
+    ensures { IfOk result (AddsJson (IsJsonOf path.now typed.now (extras_of entry.now))
+        sheet.old sheet.new) }
+{
+    let extras = extras(entry)?;
+    add_json(lines, sheet, path, typed, &extras)
+}
+
 // Adds what the token gives to each platform, which has this value.
 fn made<'s>(
     alloc: Global,
@@ -117,10 +132,7 @@ fn made<'s>(
         pages.old pages.new) }
 {
     value_laws();
-    let extras = extras(entry)?;
-    write_name(alloc, Platform::Css, path, cfg, &mut drafts.property)?;
-    // Its name in Swift is that on Android.
-    write_name(alloc, Platform::Android, path, cfg, &mut drafts.identifier)?;
+    drafts.write_names(alloc, path, cfg)?;
     let property = drafts.property.as_slice();
     let identifier = drafts.identifier.as_slice();
     let lines = &mut drafts.lines;
@@ -155,7 +167,7 @@ fn made<'s>(
         typed,
         cfg,
     )?;
-    let json = add_json(lines, &mut pages.json, path, typed, &extras)?;
+    let json = add_member(lines, &mut pages.json, path, entry, typed)?;
     Ok(Row::Unbroken(Fragments {
         css,
         android: android.shown,

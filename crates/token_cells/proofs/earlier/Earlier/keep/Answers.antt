@@ -6,5 +6,5 @@ use Rattle.token_cells.proofs.earlier.Earlier.keep.Goals as goal
 abbrev kept : EvaluatedTree → Settings → KnownTree
 kept tree settings = record { settings = settings; tree = tree }
 
-pub returns-clause-ok : goal.returns-clause-ok
-returns-clause-ok c = ap (λ settings. Some (kept c.args.tree settings)) c.in_ok-config.ensures
+pub returns-in-Ok-clause-ok : goal.returns-in-Ok-clause-ok
+returns-in-Ok-clause-ok c = ap (λ settings. Some (kept c.args.tree settings)) c.in-Ok.ensures

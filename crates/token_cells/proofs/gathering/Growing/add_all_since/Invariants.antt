@@ -3,8 +3,8 @@ use Rattle.std.proofs.Common.{◌≡◌, ◌+◌, take}
 use Rattle.std.specs.List.{count_by}
 use Rattle.std.specs.Option.{is_none}
 use Rattle.token_cells.specs.inner.Turns.{HasAdded}
-use Rattle.token_cells.proofs.gathering.grown_since.Given as goal
+use Rattle.token_cells.proofs.gathering.Growing.add_all_since.Given as goal
 
 abbrev pub invariant-loop-i : goal.invariant-loop-i
 invariant-loop-i g l =
-    HasAdded l.flat l.cfg (take l.i l.tokens) l.growing × (l.evaluator ≡ l.flat) × (l.evals ≡ l.initial.evals + count_by is_none (take l.i l.kepts))
+    HasAdded l.flat l.cfg (take l.i l.tokens) l.self × (l.evaluator ≡ l.flat) × (l.evals ≡ l.initial.evals + count_by is_none (take l.i l.kepts))
