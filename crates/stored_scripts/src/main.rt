@@ -1,6 +1,6 @@
 //! Runs of the command line over stored scripts: many small ones, with the streams that an independent compiler writes for them, and
 //! large ones. Out of memory may be answered at any time as far as contracts say, so each has to be answered as it is stored. Beside
-//! them a call is made that no run makes with so much, and stores in memory whose calls fail are brought to outputs.
+//! them two calls are made that no run makes so, and stores in memory whose calls fail are brought to outputs.
 //!
 //! Standard input is the table that `tools/make-scripts` writes, and the file `stores` that of `tools/make-store-runs`. A program is run
 //! as two compilers build it, and has two minutes.
@@ -11,6 +11,7 @@ mod recipe;
 mod running;
 mod stores;
 mod table;
+mod twice;
 
 use assembled::are_assembled;
 use itoa::Buffer;
@@ -22,6 +23,7 @@ use std::process::ExitCode;
 use stores::run_store_row;
 use table::Table;
 use tk_io::{Failed, NoMemory, Sink, StdSink, StdSource, read_all, write_all};
+use twice::are_committed;
 
 /// The longest table that is read.
 const LIMIT: u64 = 10_000_000;
@@ -84,14 +86,26 @@ fn tell_stores<K: Sink>(alloc: Global, table: &mut Table<'_>, out: &mut K) -> Re
     tell_count(out, count, b" stores answered\n")
 }
 
-/// Tells how the call went that no run makes.
-fn tell_call<K: Sink>(alloc: Global, out: &mut K) -> Result<(), Failed> {
-    let ended = match are_assembled(alloc) {
+/// Tells how a call went that no run makes.
+fn tell_call<K: Sink>(out: &mut K, name: &str, went: Result<bool, NoMemory>) -> Result<(), Failed> {
+    let ended = match went {
         Ok(true) => b"answered".as_slice(),
         Ok(false) => b"another answer".as_slice(),
         Err(NoMemory) => b"out of memory".as_slice(),
     };
-    tell(out, "16,000 tokens put together from their parts", ended)
+    tell(out, name, ended)
+}
+
+/// Tells it of all such calls.
+fn tell_calls<K: Sink>(alloc: Global, out: &mut K) -> Result<(), Failed> {
+    let assembled = are_assembled(alloc);
+    tell_call(
+        out,
+        "16,000 tokens put together from their parts",
+        assembled,
+    )?;
+    let committed = are_committed(alloc);
+    tell_call(out, "one file committed twice", committed)
 }
 
 /// Tells all of it.
@@ -102,7 +116,7 @@ fn tell_all<K: Sink>(
     out: &mut K,
 ) -> Result<(), Failed> {
     tell_rows(alloc, &mut Table::new(scripts), out)?;
-    tell_call(alloc, out)?;
+    tell_calls(alloc, out)?;
     tell_stores(alloc, &mut Table::new(stores), out)
 }
 
