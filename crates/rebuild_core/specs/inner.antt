@@ -1,4 +1,5 @@
 pub mod Below
+pub mod Built
 pub mod Contents
 pub mod Evaluating
 pub mod Merging

@@ -1,6 +1,6 @@
 //! The engine.
 
-ghost use Rattle.std.specs.Prelude.{◌≡◌, None, Some, IfOk, OnOk, OnErr};
+ghost use Rattle.std.specs.Prelude.{◌≡◌, None, Some, true, IfOk, OnOk, OnErr};
 ghost use Rattle.std.specs.FinMap as map;
 ghost use Rattle.std.specs.Option.{option_map};
 ghost use Rattle.build_plain.specs.Out.{Builds};
@@ -27,11 +27,14 @@ pub struct Engine<'s> {
     files: Files<'s>,
     held: Outputs,
     kept: Option<Kept<'s>>,
+    /// Whether no file changed since these were kept.
+    is_built: bool,
 }
 
 impl<'s> Model for Engine<'s> {
     ghost use Rattle.std.specs.Coded.{codes};
     ghost use Rattle.rebuild_core.specs.Engine.{EngineState, HoldsKept, coded_files, state};
+    ghost use Rattle.rebuild_core.specs.inner.Built.{IsBuilt};
 
     ghost Value = { EngineState };
 
@@ -39,7 +42,8 @@ impl<'s> Model for Engine<'s> {
 
     ghost view = { λ e. state e.files e.held e.kept };
 
-    ghost invariant = { λ e. HoldsKept (state e.files e.held e.kept) };
+    ghost invariant = { λ e. HoldsKept (state e.files e.held e.kept)
+        × IsBuilt e.is_built (state e.files e.held e.kept) };
 }
 
 impl<'s> Engine<'s> {
@@ -51,6 +55,7 @@ impl<'s> Engine<'s> {
             files: Files::new(alloc),
             held: Outputs::new(alloc),
             kept: None,
+            is_built: false,
         }
     }
 
@@ -63,6 +68,7 @@ impl<'s> Engine<'s> {
             ≡ with_files self.old (map.insert self.old.files path.entry.now text.entry.now)) }
         ensures err { OnErr result (self.new ≡ self.old) }
     {
+        self.is_built = false;
         self.files.put(path, text)
     }
 
@@ -70,6 +76,7 @@ impl<'s> Engine<'s> {
     pub fn del(&mut self, path: &str)
         ensures { self.new ≡ with_files self.old (map.remove self.old.files path.now) }
     {
+        self.is_built = false;
         self.files.del(path)
     }
 
@@ -85,6 +92,15 @@ impl<'s> Engine<'s> {
         ensures { result.now ≡ self.now.held }
     {
         &self.held
+    }
+
+    /// Whether no file was added, replaced or taken away since a commit that ended well: the outputs that are held are those
+    /// of the files then, and a commit would do nothing.
+    pub fn is_built(&self) -> bool
+        ensures kept { result ≡ true → self.now.kept ≡ Some self.now.files }
+        ensures held { result ≡ true → Builds self.now.files self.now.held }
+    {
+        self.is_built
     }
 
     /// Builds the files: from here on their outputs are held, and are those that a build from nothing gives. Each file in
@@ -116,6 +132,7 @@ impl<'s> Engine<'s> {
         ensures at_most { RiseWithin (IsWorkFrom self.old.kept self.old.files)
             (work parses.old merges.old evals.old) (work parses.new merges.new evals.new) }
     {
+        self.is_built = false;
         let past = opened(alloc, replace(&mut self.kept, None));
         match renew(alloc, &self.files, &past, parses, merges, evals) {
             Ok(made) => Ok(self.hold(made)),
@@ -125,6 +142,7 @@ impl<'s> Engine<'s> {
 
     // From here on what was made of files is kept, and its outputs are held.
     fn hold(&mut self, made: Renewed<'s>) -> Commit
+        requires files { made.past.files ≡ self.now.files }
         requires past { IsPast (Some made.past.files) made.past }
         requires outputs { Builds made.past.files made.outputs }
         ensures state { self.new
@@ -139,6 +157,7 @@ impl<'s> Engine<'s> {
         } = made;
         let before = replace(&mut self.held, outputs);
         self.kept = Some(Kept::new(past));
+        self.is_built = true;
         Commit { counts, before }
     }
 }
