@@ -13,6 +13,8 @@ mod dec_fix_tests;
 #[cfg(test)]
 mod edit_script_tests;
 #[cfg(test)]
+mod gathering_tests;
+#[cfg(test)]
 mod generated_script_tests;
 #[cfg(test)]
 mod lane_scan_tests;
