@@ -18,6 +18,10 @@ SAMPLE = 5
 
 setUpModule = make_program
 
+# How many bytes a write has at most, and so many commits of the chain have more than two writes.
+ROOM = 65_536
+COMMITS = 300
+
 HEAD = "tokc-script 1\n"
 SPACE = '{"space":{"$type":"dimension","s":{"$value":{"value":4,"unit":"px"}}}}'
 ONE_FILE = f"{HEAD}put tokens.json 70\n{SPACE}\n".encode()
@@ -38,6 +42,17 @@ def pieces_of_chain(commit, pixels):
     for name, text in files.items():
         found += [f"file default/{name} {len(text)}\n", text, "\n"]
     return found
+
+
+def writes_of(pieces):
+    """The writes in which pieces are handed over, of which none is longer than the room."""
+    found, held = [], b""
+    for piece in pieces:
+        if len(held) + len(piece) > ROOM:
+            found.append(held)
+            held = b""
+        held += piece
+    return [*found, held]
 
 
 class Judged(unittest.TestCase):
@@ -138,17 +153,27 @@ class Faulty(unittest.TestCase):
             status = FAULTS.main(["--program", program(), "--sample", str(SAMPLE)])
         self.assertEqual(status, 0, out.getvalue())
 
-    def test_each_piece(self):
-        """A stream of two commits has 28 pieces, each of which is one write: where one fails, those before it are written."""
-        puts = [f"put tokens.json 102\n{CHAIN % pixels}\ncommit\n" for pixels in (4, 5)]
-        script = (HEAD + "".join(puts)).encode()
-        pieces = ["tokc-stream 1\n", *pieces_of_chain(1, 4), *pieces_of_chain(2, 5), "done 2\n"]
-        self.assertEqual(len(pieces), 28)
-        for n in range(1, 29):
-            with self.subTest(n=n):
-                ended = self.end(["replay"], script, Fault("write", "fail", n))
-                self.assertEqual(ended, (5, "".join(pieces[:n - 1]).encode(), b"tokc: write failed\n"))
-        self.assertEqual(self.end(["replay"], script, Fault("write", "fail", 29)), (0, "".join(pieces).encode(), b""))
+    def test_each_write(self):
+        """The pieces of a stream are gathered, and each write has as many as go into its room: where one fails, those before it are written."""
+        commits = [(k, 4 + k % 2) for k in range(1, COMMITS + 1)]
+        script = (HEAD + "".join(f"put tokens.json 102\n{CHAIN % pixels}\ncommit\n" for _, pixels in commits)).encode()
+        pieces = ["tokc-stream 1\n", *(piece for it in commits for piece in pieces_of_chain(*it)), f"done {COMMITS}\n"]
+        writes = writes_of([piece.encode() for piece in pieces])
+        self.assertGreater(len(writes), 2)
+        for n in range(1, len(writes) + 1):
+            for on in (False, True):
+                with self.subTest(n=n, on=on):
+                    ended = self.end(["replay"], script, Fault("write", "fail", n, on))
+                    self.assertEqual(ended, (5, b"".join(writes[:n - 1]), b"tokc: write failed\n"))
+        self.assertEqual(self.end(["replay"], script, Fault("write", "fail", len(writes) + 1)), (0, b"".join(writes), b""))
+
+    def test_a_write_that_fails_at_an_event_that_does_not_fit(self):
+        """It is the write that is told of, and nothing else."""
+        script = f"tokc-script 2\nput tokens.json 70\n{SPACE}\ncommit\nmove none.json tokens.json\n".encode()
+        status, out, err = self.end(["replay"], script)
+        self.assertEqual((status, err), (9, b"tokc: event 3 does not fit\n"))
+        self.assertEqual(self.end(["replay"], script, Fault("write", "fail", 1)), (5, b"", b"tokc: write failed\n"))
+        self.assertTrue(out.startswith(b"tokc-stream 1\ncommit 1\n"))
 
     def test_a_source_and_a_message_that_both_fail(self):
         self.assertEqual(self.end(["build"], ONE_FILE, Fault("read", "fail", 1), Fault("message", "fail", 1)), (4, b"", b""))

@@ -1,7 +1,10 @@
+mod Again
 mod Commits
 mod Decided
 mod Edited
 mod Endings
+mod Fronts
+mod HandedOn
 mod JobEnds
 mod Lists
 mod Once

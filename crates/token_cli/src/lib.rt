@@ -4,8 +4,8 @@
 mod clean;
 mod committing;
 mod editing;
+mod gathered;
 mod laws;
-mod numbered;
 mod reading;
 mod refusal;
 mod replaying;
@@ -19,9 +19,9 @@ mod workspace;
 
 pub use clean::run_clean;
 pub use command_words::{Command, WordStop, read_words};
+pub use gathered::run_gathered;
 pub use generated_script::gen_script;
 pub use laws::{one_status, one_stream};
-pub use numbered::run_numbered;
 pub use reading::read_events;
 pub use refusal::is_refused;
 pub use reporting::{report_event, report_script, report_stop};

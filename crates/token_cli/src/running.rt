@@ -86,7 +86,7 @@ fn tell_generated<K: Sink>(alloc: Global, seed: u32, size: u32, out: &mut K) -> 
 }
 
 // All that the arguments ask for, but for the report.
-fn main_job<S: Source, K: Sink>(
+pub(crate) fn main_job<S: Source, K: Sink>(
     alloc: Global,
     words: &[String],
     src: &mut S,

@@ -5,7 +5,7 @@ ghost use Rattle.std.specs.Process.{exit_status};
 ghost use Rattle.token_cli.specs.Report.{status_number};
 ghost use Rattle.token_cli.specs.declared.status.Status.{Status as StatusData};
 
-use crate::numbered::run_numbered;
+use crate::gathered::run_gathered;
 use crate::reporting::report;
 use crate::status::status_of;
 use crate::stop::Stop;
@@ -42,14 +42,16 @@ fn stopped<E: Sink>(err: &mut E, stop: Stop) -> u8
     status_of(ended).number()
 }
 
-// Runs the arguments over the standard streams, and answers the number of the status.
+// Runs the arguments over the standard streams, of which what is written to standard output is gathered, and answers the
+// number of the status.
 fn run_over(rt: &HostRuntime, words: &[String]) -> u8
     ensures { (status : StatusData) × (result ≡ status_number status) }
 {
     let mut src = StdSource::new(rt.stdin());
-    let mut out = StdSink::new(rt.stdout());
+    let out = StdSink::new(rt.stdout());
     let mut err = StdSink::new(rt.stderr());
-    run_numbered(rt.alloc(), words, &mut src, &mut out, &mut err)
+    let (status, _) = run_gathered(rt.alloc(), words, &mut src, out, &mut err);
+    status.number()
 }
 
 // Runs the arguments. Where they found no memory, or one is no text, that is said, and nothing is read.

@@ -15,6 +15,7 @@ ghost use Rattle.token_cli.specs.inner.Step.{CommitFails, Cuts, EditFails, Fails
 ghost use Rattle.token_cli.specs.inner.Step.{IsCommitTold, IsEdited, IsEventTold};
 ghost use Rattle.token_cli.specs.inner.Step.{changes_text, first_state, records_of};
 ghost use Rattle.token_cli.specs.Told.{commit_text};
+ghost use Rattle.build_plain.specs.Out.{Builds};
 ghost use Rattle.rebuild_core.specs.Engine.{counts_view};
 ghost use Rattle.token_cli.specs.inner.View.{workspace_view};
 
@@ -24,7 +25,7 @@ use crate::stop::Stop;
 use crate::telling::Telling;
 use bumpalo::Bump;
 use edit_script::{Changes, Event, Line, delta, stats_line, write_change, write_line};
-use rebuild_core::{Commit, Counts, Engine};
+use rebuild_core::{Commit, Counts, Engine, work_laws};
 use std::alloc::Global;
 use tk_io::{Failed, Outputs, Sink};
 
@@ -159,7 +160,37 @@ impl<'s> Workspace<'s> {
         Ok(())
     }
 
-    /// Builds the files, and tells the commit.
+    // Tells a commit of files that are built.
+    fn commit_again<K: Sink>(
+        &mut self,
+        alloc: Global,
+        telling: Telling,
+        out: &mut K,
+    ) -> Result<(), Stop>
+        requires commits { self.now.commits < 2 ^ 64 - 1 }
+        requires kept { self.now.engine.kept ≡ Some self.now.engine.files }
+        requires held { Builds self.now.engine.files self.now.engine.held }
+        ensures ok { OnOk result (IsCommitTold telling (workspace_view self.old)
+            (workspace_view self.new) (K.written out.old) (K.written out.new)) }
+        ensures err { IfErr result (λ stop. CommitFails telling stop
+            (workspace_view self.old) (K.written out.old) (K.written out.new)
+            (K.faults out.old) (K.faults out.new)) }
+        ensures later { K.faults out.old ≤ K.faults out.new }
+    {
+        work_laws();
+        let nothing = Counts {
+            parsed: 0,
+            merged: 0,
+            evaluated: 0,
+        };
+        let none = Changes::new(alloc);
+        let number = self.commits + 1;
+        tell(out, telling, number, nothing, &none)?;
+        self.commits = number;
+        Ok(())
+    }
+
+    /// Builds the files, unless that is done, and tells the commit.
     pub fn commit<K: Sink>(
         &mut self,
         alloc: Global,
@@ -174,6 +205,10 @@ impl<'s> Workspace<'s> {
             (K.faults out.old) (K.faults out.new)) }
         ensures later { K.faults out.old ≤ K.faults out.new }
     {
+        let is_built = self.engine.is_built();
+        if is_built {
+            return self.commit_again(alloc, telling, out);
+        }
         let done = commit_files(alloc, &mut self.engine)?;
         let number = self.commits + 1;
         write_commit(alloc, telling, number, &done, self.engine.held(), out)?;
