@@ -44,7 +44,7 @@ esac
 CLANG = '#!/bin/sh\nfor it; do last=$it; done\n[ ! -e "${0%/*}/fails" ] || { echo "clang: refused"; exit 1; }\necho object >"$last"\n'
 LINK = '#!/bin/sh\nshift 5\nprintf \'#!/bin/sh\\necho compiled "$@"\\n\' >"$1" && chmod +x "$1"\n'
 
-COMPILES = "tokc: compiles tokc, which takes about three minutes; this machine has not checked the proof, which ./tokc prove does in about fifty minutes\n"
+COMPILES = "tokc: compiles tokc, which takes about three minutes; this machine has not checked the proof, which ./tokc prove does in more than an hour\n"
 COMPILED = "tokc: tokc is compiled, in N s\n"
 TRIES = "tokc: runs tokc by `rt try`, which takes a minute each time; this machine has not checked its proof\n"
 NO_RT = "tokc: the toolchain is needed: put the folder of `rt` (rattle-kit-13f) on the path; its guide is START-HERE.md in the toolchain's folder, as /opt/rattle\n"
@@ -147,7 +147,7 @@ class Proved(Made):
         status, out, err = self.tokc("prove")
         self.assertEqual((status, out), (0, ""))
         self.assertEqual(err.replace("0 s so far", "N s so far").replace("1 s so far", "N s so far"), (
-            "tokc: proves 2 crates and builds tokc: about fifty minutes on four processors where nothing is kept\n"
+            "tokc: proves 2 crates and builds tokc: more than an hour on four processors where nothing is kept\n"
             "tokc: 0 of 2 crates are proved; low under way; N s so far\n"
             "tokc: 1 of 2 crates are proved; tokc under way; N s so far\n"
             "tokc: all 2 crates are proved and the programs are built, in N s; ./tokc takes these programs\n"
@@ -170,49 +170,53 @@ class Proved(Made):
 
 
 class Beside(Made):
-    """With tokc_store and tokc_check beside tokc."""
+    """With the other programs beside tokc."""
 
     def setUp(self):
         super().setUp()
-        write(self.at("crates.txt"), "low:\nstore: low\ntokc: low\ntokc_store: store low\ntokc_check: low\n")
-        for name in ("store", "tokc_store", "tokc_check"):
+        write(self.at("crates.txt"), "low:\nstore: low\ntokc: low\ntokc_store: store low\ntokc_check: low\ntokc_themes: low\n")
+        for name in ("store", "tokc_store", "tokc_check", "tokc_themes"):
             write(self.at("crates", name, "src/main.rt"), "")
 
     def test_all_are_compiled_side_by_side(self):
-        compiles = COMPILES.replace("compiles tokc,", "compiles tokc, tokc_store and tokc_check,")
-        self.assertEqual(self.tokc("store", "a b"), (0, "compiled a b\n", compiles + "tokc: tokc, tokc_store and tokc_check are compiled, in N s\n"))
+        every = "tokc, tokc_store, tokc_check and tokc_themes"
+        compiles = COMPILES.replace("compiles tokc,", f"compiles {every},")
+        self.assertEqual(self.tokc("store", "a b"), (0, "compiled a b\n", compiles + f"tokc: {every} are compiled, in N s\n"))
         self.assertEqual(self.tokc("build"), (0, "compiled build\n", ""))
-        self.assertEqual(self.tokc("check"), (0, "compiled\n", ""))
+        for word in ("check", "themes"):
+            self.assertEqual(self.tokc(word), (0, "compiled\n", ""))
         os.remove(self.at("crates/tokc/out/unproved/tokc"))
         self.assertEqual(self.tokc("store", "a b"), (0, "compiled a b\n", ""))
         self.assertEqual(self.tokc("build"), (0, "compiled build\n", COMPILES + COMPILED))
 
     def test_what_is_beside_is_not_tried(self):
         self.way("none")
-        for words in (["store", "a"], ["check"]):
+        for words in (["store", "a"], ["check"], ["themes"]):
             with self.subTest(words=words):
                 status, out, err = self.tokc(*words)
                 self.assertEqual((status, out), (126, ""))
-                self.assertRegex(err, "`rt try` left no module of tokc(_store|_check)?\n\\Z")
+                self.assertRegex(err, "`rt try` left no module of tokc(_store|_check|_themes)?\n\\Z")
 
     def test_all_are_proved(self):
         self.tokc("build")
         status, out, err = self.tokc("prove")
         self.assertEqual((status, out), (0, ""))
         lines = [re.sub("[0-9]+ s so far", "N s so far", it) for it in err.splitlines()]
-        self.assertEqual(lines[0], "tokc: proves 5 crates and builds tokc, tokc_store and tokc_check: about fifty minutes on four processors where nothing is kept")
-        self.assertEqual(lines[-1], "tokc: all 5 crates are proved and the programs are built, in N s; ./tokc takes these programs")
+        self.assertEqual(lines[0], "tokc: proves 6 crates and builds tokc, tokc_store, tokc_check and tokc_themes: more than an hour on four processors where nothing is kept")
+        self.assertEqual(lines[-1], "tokc: all 6 crates are proved and the programs are built, in N s; ./tokc takes these programs")
         self.assertIn("tokc: 1 of 2 crates are proved; tokc_store under way; N s so far", lines)
         self.assertEqual(self.tokc("store", "a"), (0, "proved a\n", ""))
-        self.assertEqual(self.tokc("check"), (0, "proved\n", ""))
+        for word in ("check", "themes"):
+            self.assertEqual(self.tokc(word), (0, "proved\n", ""))
         self.assertEqual(self.tokc("prove"), (0, "", "tokc: all is proved and built already\n"))
 
     def test_all_are_installed(self):
         prefix = self.at("prefix")
         self.assertEqual(self.tokc("install", prefix)[0], 0)
         self.assertEqual(run([os.path.join(prefix, "bin", "tokc_store"), "x"]), (0, "compiled x\n", ""))
-        self.assertEqual(run([os.path.join(prefix, "bin", "tokc_check")]), (0, "compiled\n", ""))
-        told = "".join(f"{name} is {BUILD.UNPROVED_WORD}\n" for name in ("tokc", "tokc_store", "tokc_check"))
+        for name in ("tokc_check", "tokc_themes"):
+            self.assertEqual(run([os.path.join(prefix, "bin", name)]), (0, "compiled\n", ""))
+        told = "".join(f"{name} is {BUILD.UNPROVED_WORD}\n" for name in ("tokc", "tokc_store", "tokc_check", "tokc_themes"))
         self.assertEqual(run([os.path.join(prefix, "bin", "tokc-dir"), "--version"]), (0, "tokc-dir\n" + told, ""))
 
 

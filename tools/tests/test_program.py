@@ -24,7 +24,7 @@ class Words(Room):
                 ran = run([self.at("tokc"), *words], b"never read", at=self.room)
                 self.assertLess(time.monotonic() - start, 5)
                 self.assertEqual((ran.status, ran.out), (run([program(), *words]).status, ""))
-                self.assertRegex(ran.err, r"\Ausage: tokc [^\n]+\n {7}tokc check \| store ROOT \| prove \| install PREFIX\n[^\n]*docs/MANUAL.md[^\n]*\n\Z")
+                self.assertRegex(ran.err, r"\Ausage: tokc [^\n]+\n {7}tokc check \| store ROOT \| themes\n {7}tokc prove \| install PREFIX\n[^\n]*docs/MANUAL.md[^\n]*\n\Z")
         self.assertEqual(sorted(os.listdir(self.room)), ["tokc", "tokens"])
 
     def test_the_program_without_what_stands_before_it(self):

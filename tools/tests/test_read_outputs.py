@@ -6,7 +6,7 @@ import subprocess
 import sys
 import unittest
 
-from helpers import SECONDS, TOP, Room, refused, stream_of, write
+from helpers import SECONDS, TOP, Room, load_tool, refused, stream_of, write
 
 sys.path.insert(0, os.path.join(TOP, "tools"))
 import sample_tokens
@@ -84,6 +84,7 @@ class ReadOutputs(Room):
         self.assertEqual((status, err), (0, []))
         self.assertEqual(lines, [
             "tokens.css by chromium: not installed; apt-get install chromium",
+            "the themes by chromium: not installed; apt-get install chromium",
             "tokens.xml by aapt2: not installed; apt-get install aapt",
             "tokens.xml by xmllint: not installed; apt-get install libxml2-utils",
             f"tokens.json by Python: {BUILDS} files with {BUILDS * len(TOKENS)} tokens, all accepted",
@@ -97,7 +98,7 @@ class ReadOutputs(Room):
         for name in ("aapt2", "xmllint", "jq", "swiftc"):
             self.install(name, ODD)
         status, lines, err = self.read(words=["kept"])
-        self.assertEqual((status, err, len(lines)), (0, [], 7))
+        self.assertEqual((status, err, len(lines)), (0, [], 8))
         self.assertTrue(all(line.endswith(", all accepted") for line in lines), lines)
         self.assertEqual(self.line("tokens.css by chromium", lines)[0], f"{BUILDS} files with {BUILDS * len(NAMES)} declarations, all accepted")
         with open(self.at("kept", "made-up", "default", "tokens.css"), encoding="utf-8") as file:
@@ -223,6 +224,36 @@ class SampleTokens(unittest.TestCase):
         self.assertEqual([len(it) for it in contexts], [3, 2, 2])
         named = {source["$ref"] for it in contexts for sources in it.values() for source in sources}
         self.assertEqual(named | {"core.json", "resolver.json", "tokc.toml"}, set(self.files))
+
+
+class Themes(Room):
+    """The one sheet of a system, over a browser that says so of each permutation: what its properties come to by that sheet, and by its own."""
+
+    OWN = {"theme=dark": ":root {\n  --a: 1;\n  --b: 2;\n}\n", "theme=light": ":root {\n  --a: 1;\n}\n"}
+    SHEET = ':root {\n  --a: 1;\n}\n:root[data-theme="dark"] {\n  --b: 2;\n}\n'
+
+    def read(self, *answers):
+        """What is said of the sheet, and the page that asked."""
+        tool = load_tool("read-outputs")
+        for name, css in self.OWN.items():
+            write(self.at("made", name, "tokens.css"), css)
+        write(self.at("made.css"), self.SHEET)
+        write(self.at("browser"), BROWSER.replace("dom", "said"), 0o755)
+        write(self.at("said"), f'<pre id="answer">{json.dumps(answers)}</pre>')
+        os.mkdir(self.at("asks"))
+        answer = tool.read_themes(self.at("browser"), [tool.Build(f"made/{it}", self.at("made", it)) for it in self.OWN], self.at("asks"))
+        with open(self.at("page.html"), encoding="utf-8") as file:
+            return answer, file.read()
+
+    def test_each_permutation_has_what_its_own_sheet_gives(self):
+        answer, page = self.read([["1", "2"], ["1", "2"]], [["1", ""], ["1", ""]])
+        self.assertEqual(answer, ("1 sheets under the attributes of 2 permutations with 4 properties", []))
+        asked = [{"sheet": self.SHEET, "names": ["--a", "--b"], "permutations": [[css, [["data-theme", name[6:]]]] for name, css in self.OWN.items()]}]
+        self.assertIn(json.dumps(asked), page)
+
+    def test_what_differs_is_told(self):
+        answer, _ = self.read([["1", "2"], ["1", "2"]], [["1", "2"], ["1", ""]])
+        self.assertEqual(answer.refused, ["made/theme=light: --b is '2' in place of ''"])
 
 
 if __name__ == "__main__":

@@ -12,6 +12,7 @@
     message     refusals as lines for people, and as JSON for editors
     rows        what each platform got of each token, and why it omits one
     preview     the page that shows the outputs
+    themes      the one style sheet of all permutations
     watching    builds at each change
     commands    the command line
 """

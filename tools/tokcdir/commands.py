@@ -10,6 +10,7 @@ from .building import Options, build_of, build_with, tell
 from .folder import is_inside, read_folder
 from .outputs import told_differences, write_outputs
 from .program import HERE, outputs_of, script_of, writer_of
+from .themes import write_themes
 from .stop import FAILED, REFUSED_STATUS, WRONG_USE, Stop, say
 from .watching import watch
 
@@ -84,6 +85,17 @@ def do_preview(options, tokens, page):
     return build.status()
 
 
+def do_themes(options, tokens, sheet):
+    folder_there(tokens)
+    if os.path.isdir(sheet) or not sheet.endswith(".css"):
+        raise Stop(WRONG_USE, f"{sheet}: the sheet is a file whose name ends in .css, as {os.path.join(sheet, 'tokens.css')}")
+    files, start = files_of(tokens, None, options), time.monotonic()
+    build = build_of(tokens, files, options.is_quiet, most=options.most())
+    done = write_themes(sheet, build, files, tokens)
+    tell(build, [], f"; {sheet} is {done}", start, options)
+    return build.status()
+
+
 def do_pack(options, tokens):
     folder_there(tokens)
     sys.stdout.buffer.write(script_of(files_of(tokens, None, options)))
@@ -107,7 +119,7 @@ def do_unpack(options, out):
 SPEECH, ALL = ("--quiet",), ("--json", "--quiet", "--omitted", "--all")
 WORDS = {
     "build": (do_build, (2,), ALL), "check": (do_check, (1, 2), ALL), "watch": (do_watch, (2, 3), ("--quiet", "--omitted")),
-    "preview": (do_preview, (2,), SPEECH), "pack": (do_pack, (1,), SPEECH), "unpack": (do_unpack, (1,), SPEECH),
+    "preview": (do_preview, (2,), SPEECH), "themes": (do_themes, (2,), ALL), "pack": (do_pack, (1,), SPEECH), "unpack": (do_unpack, (1,), SPEECH),
 }
 
 
@@ -117,7 +129,7 @@ def version():
         with open(os.path.join(HERE, "PROOF"), encoding="utf-8") as file:
             return f"tokc-dir\n{file.read().strip()}"
     except OSError:
-        return "tokc-dir\ntokc, tokc_store and tokc_check are those of the repository, which ./tokc compiles, and ./tokc prove proves"
+        return "tokc-dir\ntokc and the programs beside it are those of the repository, which ./tokc compiles, and ./tokc prove proves"
 
 
 def parsed(words):

@@ -74,6 +74,18 @@ def write_file(out, path, data):
     os.replace(new, name)
 
 
+def write_alone(name, data):
+    """Writes a file, whole or not at all."""
+    new = name + ".new"
+    try:
+        os.makedirs(os.path.dirname(os.path.abspath(name)), exist_ok=True)
+        with open(new, "wb") as file:
+            file.write(data)
+        os.replace(new, name)
+    except OSError as error:
+        raise Stop(FAILED, f"{error.filename or name}: it can't be written: {error.strerror}") from None
+
+
 def write_list(out, slot, paths):
     write_file(out, SLOTS[slot], b"".join(os.fsencode(it) + b"\n" for it in in_order(paths)))
     write_file(out, GATES[slot], b"")

@@ -9,8 +9,8 @@ import json
 import os
 
 from .message import as_lines
+from .outputs import write_alone
 from .rows import all_rows, reason
-from .stop import FAILED, Stop
 
 PAGE = os.path.join(os.path.dirname(os.path.realpath(__file__)), "page.html")
 DATA, TITLE = "/*DATA*/null", "<!--TITLE-->"
@@ -51,11 +51,4 @@ def page_of(outputs, messages, title):
 
 def write(name, outputs, messages, title):
     """Writes the page of outputs and of the messages of those that are refused, whole or not at all."""
-    new = name + ".new"
-    try:
-        os.makedirs(os.path.dirname(os.path.abspath(name)), exist_ok=True)
-        with open(new, "w", encoding="utf-8") as file:
-            file.write(page_of(outputs, messages, title))
-        os.replace(new, name)
-    except OSError as error:
-        raise Stop(FAILED, f"{error.filename or name}: it can't be written: {error.strerror}") from None
+    write_alone(name, page_of(outputs, messages, title).encode())

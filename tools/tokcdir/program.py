@@ -10,6 +10,8 @@ from .stop import FAILED, REFUSED_STATUS, Stop
 HERE = os.path.dirname(os.path.dirname(os.path.realpath(__file__)))
 QUIET = "TOKC_QUIET"
 NO_PROGRAM = 126
+# How tokc_themes ends where no selector can hold a name.
+BAD_NAME = 10
 
 # Why tokc stopped without a stream, by its exit status. Its own line stands before this one.
 STOPS = {
@@ -18,6 +20,12 @@ STOPS = {
     6: "tokc ran out of memory",
     7: "the token files are too large: a script has at most 67,108,864 bytes",
     NO_PROGRAM: "there is no program to run, as said above",
+}
+
+# Why tokc_themes stopped without a sheet, by its exit status.
+THEME_STOPS = {
+    6: "tokc_themes ran out of memory",
+    NO_PROGRAM: "there is no tokc_themes to run",
 }
 
 # Why tokc_store stopped before the outputs stand, by its exit status.
@@ -142,3 +150,25 @@ def run_check(script):
         return None
     ran = subprocess.run(words, input=script, stdout=subprocess.PIPE, stderr=subprocess.DEVNULL, env={**os.environ, QUIET: "1"}, check=False)
     return ran.stdout if ran.returncode == REFUSED_STATUS else None
+
+
+class NoSelector(Stop):
+    """No selector of a style sheet can hold this name of a modifier or of a context."""
+
+    def __init__(self, name):
+        super().__init__(REFUSED_STATUS, f"no selector can hold the name {name}")
+        self.name = name
+
+
+def run_themes(script):
+    """The style sheet that tokc_themes writes for all permutations of a script's files, of which none is refused, or None where the program
+    can't be had. What is said of a program that is not proved was said of tokc."""
+    words = words_of("tokc_themes", "themes")
+    if words is None:
+        return None
+    ran = subprocess.run(words, input=script, capture_output=True, env={**os.environ, QUIET: "1"}, check=False)
+    if ran.returncode == BAD_NAME:
+        raise NoSelector(ran.stderr.decode().rstrip("\n").removeprefix("tokc_themes: name "))
+    if ran.returncode != 0:
+        raise Stop(FAILED, THEME_STOPS.get(ran.returncode, f"tokc_themes ended with status {ran.returncode}"))
+    return ran.stdout

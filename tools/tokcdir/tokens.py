@@ -10,7 +10,7 @@ from .folder import CONFIG, DEFAULT, RESOLVER, all_paths
 from .places import Node, read_json
 
 CURLY = re.compile(r"\{([^{}]+)\}")
-POINTER = re.compile(r"#/(.+)")
+POINTER = re.compile(r"#/(.+)", re.S)
 
 
 class Written(NamedTuple):
