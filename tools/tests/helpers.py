@@ -25,7 +25,7 @@ cd "${0%/*}" && cd now && cat >../script && cat stream && cat said >&2 && exit "
 def make_program():
     """Compiles the programs, which takes minutes, where no `rt ci` went before."""
     with tempfile.TemporaryDirectory() as room:
-        for words in (["build"], ["store", room], ["check"], ["themes"]):
+        for words in (["build"], ["store", room], ["check"], ["themes"], ["explain", "show", "default", "#/space/s"]):
             with open(FIRST, "rb") as first:
                 subprocess.run([TOKC, *words], stdin=first, stdout=subprocess.DEVNULL, check=True)
 

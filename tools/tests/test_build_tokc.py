@@ -19,7 +19,7 @@ echo "$*" >>"$kit/calls"
 case $1 in
 doc) echo "$kit/START-HERE.md" ;;
 try)
-    case $5 in build | */site | '') way=$(cat "$kit/way") ;; esac
+    case $5 in build | */site | show | '') way=$(cat "$kit/way") ;; esac
     case $way in
     module)
         mkdir -p "$TMPDIR/native" && head -c 1000000 /dev/zero >"$TMPDIR/native/module.bc" && : >"$TMPDIR/native/module-1.o.tmp"
@@ -174,36 +174,37 @@ class Beside(Made):
 
     def setUp(self):
         super().setUp()
-        write(self.at("crates.txt"), "low:\nstore: low\ntokc: low\ntokc_store: store low\ntokc_check: low\ntokc_themes: low\n")
-        for name in ("store", "tokc_store", "tokc_check", "tokc_themes"):
+        write(self.at("crates.txt"), "low:\nstore: low\ntokc: low\ntokc_store: store low\ntokc_check: low\ntokc_themes: low\ntokc_explain: low\n")
+        for name in ("store", "tokc_store", "tokc_check", "tokc_themes", "tokc_explain"):
             write(self.at("crates", name, "src/main.rt"), "")
 
     def test_all_are_compiled_side_by_side(self):
-        every = "tokc, tokc_store, tokc_check and tokc_themes"
+        every = "tokc, tokc_store, tokc_check, tokc_themes and tokc_explain"
         compiles = COMPILES.replace("compiles tokc,", f"compiles {every},")
         self.assertEqual(self.tokc("store", "a b"), (0, "compiled a b\n", compiles + f"tokc: {every} are compiled, in N s\n"))
         self.assertEqual(self.tokc("build"), (0, "compiled build\n", ""))
         for word in ("check", "themes"):
             self.assertEqual(self.tokc(word), (0, "compiled\n", ""))
+        self.assertEqual(self.tokc("explain", "show", "a b", "#/c"), (0, "compiled show a b #/c\n", ""))
         os.remove(self.at("crates/tokc/out/unproved/tokc"))
         self.assertEqual(self.tokc("store", "a b"), (0, "compiled a b\n", ""))
         self.assertEqual(self.tokc("build"), (0, "compiled build\n", COMPILES + COMPILED))
 
     def test_what_is_beside_is_not_tried(self):
         self.way("none")
-        for words in (["store", "a"], ["check"], ["themes"]):
+        for words in (["store", "a"], ["check"], ["themes"], ["explain"]):
             with self.subTest(words=words):
                 status, out, err = self.tokc(*words)
                 self.assertEqual((status, out), (126, ""))
-                self.assertRegex(err, "`rt try` left no module of tokc(_store|_check|_themes)?\n\\Z")
+                self.assertRegex(err, "`rt try` left no module of tokc(_store|_check|_themes|_explain)?\n\\Z")
 
     def test_all_are_proved(self):
         self.tokc("build")
         status, out, err = self.tokc("prove")
         self.assertEqual((status, out), (0, ""))
         lines = [re.sub("[0-9]+ s so far", "N s so far", it) for it in err.splitlines()]
-        self.assertEqual(lines[0], "tokc: proves 6 crates and builds tokc, tokc_store, tokc_check and tokc_themes: more than an hour on four processors where nothing is kept")
-        self.assertEqual(lines[-1], "tokc: all 6 crates are proved and the programs are built, in N s; ./tokc takes these programs")
+        self.assertEqual(lines[0], "tokc: proves 7 crates and builds tokc, tokc_store, tokc_check, tokc_themes and tokc_explain: more than an hour on four processors where nothing is kept")
+        self.assertEqual(lines[-1], "tokc: all 7 crates are proved and the programs are built, in N s; ./tokc takes these programs")
         self.assertIn("tokc: 1 of 2 crates are proved; tokc_store under way; N s so far", lines)
         self.assertEqual(self.tokc("store", "a"), (0, "proved a\n", ""))
         for word in ("check", "themes"):
@@ -214,9 +215,9 @@ class Beside(Made):
         prefix = self.at("prefix")
         self.assertEqual(self.tokc("install", prefix)[0], 0)
         self.assertEqual(run([os.path.join(prefix, "bin", "tokc_store"), "x"]), (0, "compiled x\n", ""))
-        for name in ("tokc_check", "tokc_themes"):
+        for name in ("tokc_check", "tokc_themes", "tokc_explain"):
             self.assertEqual(run([os.path.join(prefix, "bin", name)]), (0, "compiled\n", ""))
-        told = "".join(f"{name} is {BUILD.UNPROVED_WORD}\n" for name in ("tokc", "tokc_store", "tokc_check", "tokc_themes"))
+        told = "".join(f"{name} is {BUILD.UNPROVED_WORD}\n" for name in ("tokc", "tokc_store", "tokc_check", "tokc_themes", "tokc_explain"))
         self.assertEqual(run([os.path.join(prefix, "bin", "tokc-dir"), "--version"]), (0, "tokc-dir\n" + told, ""))
 
 

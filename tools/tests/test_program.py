@@ -5,10 +5,11 @@ import re
 import resource
 import shutil
 import subprocess
+import sys
 import time
 import unittest
 
-from helpers import FIRST, TOKC, TOP, Room, make_program, outputs_in, program, read, run, tree, write
+from helpers import FIRST, TOKC, TOKC_DIR, TOP, Room, make_program, outputs_in, program, read, run, tree, write
 
 setUpModule = make_program
 
@@ -24,7 +25,7 @@ class Words(Room):
                 ran = run([self.at("tokc"), *words], b"never read", at=self.room)
                 self.assertLess(time.monotonic() - start, 5)
                 self.assertEqual((ran.status, ran.out), (run([program(), *words]).status, ""))
-                self.assertRegex(ran.err, r"\Ausage: tokc [^\n]+\n {7}tokc check \| store ROOT \| themes\n {7}tokc prove \| install PREFIX\n[^\n]*docs/MANUAL.md[^\n]*\n\Z")
+                self.assertRegex(ran.err, r"\Ausage: tokc [^\n]+\n {7}tokc check \| explain show PERM PLACE \| explain check CERT \| store ROOT \| themes\n {7}tokc prove \| install PREFIX\n[^\n]*docs/MANUAL.md[^\n]*\n\Z")
         self.assertEqual(sorted(os.listdir(self.room)), ["tokc", "tokens"])
 
     def test_the_program_without_what_stands_before_it(self):
@@ -273,6 +274,11 @@ class Documents(Room):
         told = self.tool("build", os.path.join(TOP, "examples", "acme", "tokens"), "out").out.splitlines()
         shown = [line.strip() for line in first.splitlines()]
         self.assertEqual((told[:len(shown)], told[-1].rpartition("; ")[0]), (shown, last))
+
+    def test_the_explanation_that_is_shown(self):
+        command, shown = re.search(r"`tools/tokc-dir (explain [^`]+)` tells:\n\n((?:    .*\n)+)", self.document("docs", "MANUAL.md")).groups()
+        ran = run([sys.executable, TOKC_DIR, *command.split()])
+        self.assertEqual((ran.status, "".join(f"    {line}\n" for line in ran.out.splitlines())), (0, shown))
 
     def test_links_lead_to_files(self):
         names = ["README.md", "CONTRIBUTING.md", *(os.path.join("docs", it) for it in os.listdir(os.path.join(TOP, "docs")) if it.endswith(".md"))]

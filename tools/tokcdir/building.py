@@ -15,12 +15,14 @@ MOST = 50
 
 
 class Options(NamedTuple):
-    """How a run speaks: in JSON lines for editors, of breaks alone, also of each token that a platform omits, and of all breaks, however many they are."""
+    """How a run speaks: in JSON lines for editors, of breaks alone, also of each token that a platform omits, of all breaks, however many they
+    are, and by a certificate as it stands."""
 
     is_json: bool = False
     is_quiet: bool = False
     lists_omitted: bool = False
     tells_all: bool = False
+    is_certificate: bool = False
 
     def most(self):
         """How many breaks are told, or None for all."""

@@ -5,7 +5,7 @@ import re
 import sys
 import time
 
-from . import preview
+from . import explaining, preview
 from .building import Options, build_of, build_with, tell
 from .folder import is_inside, read_folder
 from .outputs import told_differences, write_outputs
@@ -14,7 +14,7 @@ from .themes import write_themes
 from .stop import FAILED, REFUSED_STATUS, WRONG_USE, Stop, say
 from .watching import watch
 
-FLAGS = {"--json": "is_json", "--quiet": "is_quiet", "--omitted": "lists_omitted", "--all": "tells_all"}
+FLAGS = {"--json": "is_json", "--quiet": "is_quiet", "--omitted": "lists_omitted", "--all": "tells_all", "--certificate": "is_certificate"}
 INTERRUPTED = 130
 
 
@@ -96,6 +96,16 @@ def do_themes(options, tokens, sheet):
     return build.status()
 
 
+def do_explain(options, tokens, permutation, token):
+    folder_there(tokens)
+    return explaining.explain(tokens, files_of(tokens, None, options), permutation, token, options)
+
+
+def do_verify(options, tokens, certificate):
+    folder_there(tokens)
+    return explaining.verify(tokens, files_of(tokens, None, options), certificate, options)
+
+
 def do_pack(options, tokens):
     folder_there(tokens)
     sys.stdout.buffer.write(script_of(files_of(tokens, None, options)))
@@ -116,10 +126,11 @@ def do_unpack(options, out):
 
 
 # Each command with what it does, how many arguments may follow it, and its flags.
-SPEECH, ALL = ("--quiet",), ("--json", "--quiet", "--omitted", "--all")
+SPEECH, ALL, CERTIFICATE = ("--quiet",), ("--json", "--quiet", "--omitted", "--all"), ("--quiet", "--certificate")
 WORDS = {
     "build": (do_build, (2,), ALL), "check": (do_check, (1, 2), ALL), "watch": (do_watch, (2, 3), ("--quiet", "--omitted")),
-    "preview": (do_preview, (2,), SPEECH), "themes": (do_themes, (2,), ALL), "pack": (do_pack, (1,), SPEECH), "unpack": (do_unpack, (1,), SPEECH),
+    "preview": (do_preview, (2,), SPEECH), "themes": (do_themes, (2,), ALL), "explain": (do_explain, (3,), CERTIFICATE), "verify": (do_verify, (2,), SPEECH),
+    "pack": (do_pack, (1,), SPEECH), "unpack": (do_unpack, (1,), SPEECH),
 }
 
 

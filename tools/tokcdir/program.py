@@ -142,6 +142,17 @@ def run_tokc(script, is_quiet=False, is_silent=False):
     return outputs_of(ran.stdout)
 
 
+def run_explain(script, *words):
+    """How tokc_explain ends over a script, and what it writes. What is said of a program that is not proved was said of tokc."""
+    command = words_of("tokc_explain", "explain", *words)
+    if command is None:
+        raise Stop(FAILED, "there is no tokc_explain beside the program that TOKC names")
+    ran = subprocess.run(command, input=script, stdout=subprocess.PIPE, stderr=subprocess.DEVNULL, env={**os.environ, QUIET: "1"}, check=False)
+    if ran.returncode in STOPS or ran.returncode < 0:
+        raise Stop(FAILED, STOPS.get(ran.returncode, f"tokc_explain ended with status {ran.returncode}").replace("tokc ", "tokc_explain "))
+    return ran.returncode, ran.stdout
+
+
 def run_check(script):
     """What tokc_check tells of a script, or None where it can't be had or tells nothing. What is said of a program that is not proved
     was said of tokc."""
