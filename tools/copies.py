@@ -120,7 +120,8 @@ def prove_all(uses, processors, made):
                 jobs = processors if name == left[0] else max(1, processors // (len(ready) + len(running)))
                 left.remove(name)
                 running.add(pool.submit(prove, name, jobs, free, [TOP, *made]))
-                print(f"{TOOL}: proves {name}", flush=True)
+                # (one text, so that no other thread's line comes between this one and its end)
+                print(f"{TOOL}: proves {name}\n", end="", flush=True)
             ended, running = concurrent.futures.wait(running, return_when=concurrent.futures.FIRST_COMPLETED)
             for name, status, said in (it.result() for it in ended):
                 print(said, end="", flush=True)
