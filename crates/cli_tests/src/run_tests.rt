@@ -140,7 +140,95 @@ static PIECES: [(u64, &str); 23] = [
     (23, "done 2\n"),
 ];
 
-/// The pieces of its statistics.
+/// Two commits of a chain of three tokens.
+const CHAIN: &[u8] = br#"tokc-script 1
+put tokens.json 102
+{"a":{"$value":"{b}"},"b":{"$value":"{c}"},"c":{"$type":"dimension","$value":{"value":4,"unit":"px"}}}
+commit
+put tokens.json 102
+{"a":{"$value":"{b}"},"b":{"$value":"{c}"},"c":{"$type":"dimension","$value":{"value":5,"unit":"px"}}}
+commit
+"#;
+
+/// The pieces of its stream, each with the number of the call that writes it.
+static CHAIN_PIECES: [(u64, &str); 28] = [
+    (1, "tokc-stream 1\n"),
+    (2, "commit 1\n"),
+    (3, "file default/Tokens.swift 148\n"),
+    (
+        4,
+        "import UIKit\n\npublic enum Tokens {\n  public static let a: CGFloat = 4.0\n  public static let b: CGFloat = 4.0\n  public static let c: CGFloat = 4.0\n}\n",
+    ),
+    (5, "\n"),
+    (6, "file default/tokens.css 56\n"),
+    (
+        7,
+        ":root {\n  --a: var(--b);\n  --b: var(--c);\n  --c: 4px;\n}\n",
+    ),
+    (8, "\n"),
+    (9, "file default/tokens.json 210\n"),
+    (
+        10,
+        r#"{
+  "a": {"$type": "dimension", "$value": {"value": 4, "unit": "px"}},
+  "b": {"$type": "dimension", "$value": {"value": 4, "unit": "px"}},
+  "c": {"$type": "dimension", "$value": {"value": 4, "unit": "px"}}
+}
+"#,
+    ),
+    (11, "\n"),
+    (12, "file default/tokens.xml 154\n"),
+    (
+        13,
+        r#"<?xml version="1.0" encoding="utf-8"?>
+<resources>
+  <dimen name="a">4dp</dimen>
+  <dimen name="b">4dp</dimen>
+  <dimen name="c">4dp</dimen>
+</resources>
+"#,
+    ),
+    (14, "\n"),
+    (15, "commit 2\n"),
+    (16, "file default/Tokens.swift 148\n"),
+    (
+        17,
+        "import UIKit\n\npublic enum Tokens {\n  public static let a: CGFloat = 5.0\n  public static let b: CGFloat = 5.0\n  public static let c: CGFloat = 5.0\n}\n",
+    ),
+    (18, "\n"),
+    (19, "file default/tokens.css 56\n"),
+    (
+        20,
+        ":root {\n  --a: var(--b);\n  --b: var(--c);\n  --c: 5px;\n}\n",
+    ),
+    (21, "\n"),
+    (22, "file default/tokens.json 210\n"),
+    (
+        23,
+        r#"{
+  "a": {"$type": "dimension", "$value": {"value": 5, "unit": "px"}},
+  "b": {"$type": "dimension", "$value": {"value": 5, "unit": "px"}},
+  "c": {"$type": "dimension", "$value": {"value": 5, "unit": "px"}}
+}
+"#,
+    ),
+    (24, "\n"),
+    (25, "file default/tokens.xml 154\n"),
+    (
+        26,
+        r#"<?xml version="1.0" encoding="utf-8"?>
+<resources>
+  <dimen name="a">5dp</dimen>
+  <dimen name="b">5dp</dimen>
+  <dimen name="c">5dp</dimen>
+</resources>
+"#,
+    ),
+    (27, "\n"),
+    (28, "done 2\n"),
+];
+
+/// The pieces of the statistics of the first two commits.
 static STATS_PIECES: [(u64, &str); 4] = [
     (1, "tokc-stats 1\n"),
     (
@@ -154,15 +242,15 @@ static STATS_PIECES: [(u64, &str); 4] = [
     (4, "done 2\n"),
 ];
 
-// Whether the run in which this write fails has written the pieces before it.
-fn stops_at(alloc: Global, word: &str, fails: u64, written: &[u8]) -> bool {
+// Whether the run in which this write fails has written the pieces before it, and says so.
+fn stops_at(alloc: Global, script: &[u8], word: &str, fails: u64, written: &[u8]) -> bool {
     let Ok(words) = words_of(alloc, word) else {
         return false;
     };
     let mut room = [0u8; 2000];
     let mut error_room = [0u8; 100];
     let numbers = [fails];
-    let mut src = MemSource::new(TWO_COMMITS, &[]);
+    let mut src = MemSource::new(script, &[]);
     let mut out = MemSink::new(&numbers, 2000, &mut room);
     let mut err = MemSink::new(&[], 100, &mut error_room);
     let ended = run(alloc, words.as_slice(), &mut src, &mut out, &mut err);
@@ -173,12 +261,13 @@ fn stops_at(alloc: Global, word: &str, fails: u64, written: &[u8]) -> bool {
 fn check_writes(
     rt: &impl Abort,
     alloc: Global,
+    script: &[u8],
     word: &str,
     pieces: &[(u64, &str)],
 ) -> Result<(), Fail> {
     let mut written = Vec::new(alloc);
     for (number, piece) in pieces {
-        let stops = stops_at(alloc, word, *number, written.as_slice());
+        let stops = stops_at(alloc, script, word, *number, written.as_slice());
         assert!(rt; stops, "{word}: write {number}");
         written.extend_from_slice(piece.as_bytes())?;
     }
@@ -187,8 +276,9 @@ fn check_writes(
 
 #[test]
 fn a_write_that_fails_leaves_the_pieces_before_it(rt: HostRuntime) -> Result<(), Fail> {
-    check_writes(&rt, rt.alloc(), "replay", &PIECES)?;
-    check_writes(&rt, rt.alloc(), "stats", &STATS_PIECES)
+    check_writes(&rt, rt.alloc(), TWO_COMMITS, "replay", &PIECES)?;
+    check_writes(&rt, rt.alloc(), TWO_COMMITS, "stats", &STATS_PIECES)?;
+    check_writes(&rt, rt.alloc(), CHAIN, "replay", &CHAIN_PIECES)
 }
 
 // The status of a run over a source and sinks that never fail. None where memory ran out for its arguments.
