@@ -3,11 +3,9 @@ use Rattle.std.proofs.Common.{◌≡◌, ℕ, List, [], ◌∷◌, ◌++◌, map
 use Rattle.std.specs.Prelude.{unwrap_or}
 use Rattle.std.specs.FinMap as finite
 use Rattle.tk_io.specs.FilesData.{FilesData}
-use Rattle.json_span.specs.Tree.{Placed}
 use Rattle.permutations.specs.Permutation as perm
 use Rattle.permutations.specs.Permutation.{TokenSource}
 use Rattle.token_tree.specs.Laws.{OneShape}
-use Rattle.token_tree.specs.Promise.{StandsIn}
 use Rattle.token_tree.specs.Shape.{shape_breaks, shape_of}
 use Rattle.token_tree.specs.Tree.{Group}
 use Rattle.group_inherit.specs.Answer.{IsFlat}

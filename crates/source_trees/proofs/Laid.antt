@@ -3,6 +3,7 @@ use Rattle.std.proofs.Common.{◌≡◌, ℕ, ◌+◌, ◌<◌, ◌≤◌, lengt
 use Rattle.std.proofs.lemmas.List.{drop_more, drop_all}
 use Rattle.std.specs.FinMap as finite
 use Rattle.std.specs.List.{slice_get}
+use Rattle.std.specs.Prelude.{IfSome, IfNone}
 use Rattle.tk_io.specs.FilesData.{FilesData}
 use Rattle.tk_io.specs.Order.{text_cmp}
 use Rattle.token_tree.specs.Shape.{Break as ShapeBreak, shape_breaks, shape_of}
@@ -19,9 +20,9 @@ use Rattle.file_plan.specs.declared.source.PlanSource.{PlanSource}
 use Rattle.file_plan.specs.declared.source.PlanSource.TheVariants.{File, Inline}
 use Rattle.source_trees.specs.declared.source.SourceBreak.{SourceBreak}
 use Rattle.source_trees.specs.declared.source.SourceFault.TheVariants.{Missing}
-use Rattle.source_trees.specs.Merging.{IsKnown, AreKnown, IsLaid, IsLaidOver}
+use Rattle.source_trees.specs.Merging.{IsKnown, IsLaid, IsLaidOver}
 use Rattle.source_trees.specs.inner.Laying.{Lays}
-use Rattle.source_trees.specs.Sources.{HomeAt, BreakAt, break_at, shape_break, FoundIn, SourceFound, SourcesFound}
+use Rattle.source_trees.specs.Sources.{HomeAt, BreakAt, break_at, shape_break, SourceFound, SourcesFound}
 use Rattle.permutations.specs.Permutation as perm
 use Rattle.permutations.specs.Permutation.{TokenSource}
 use Rattle.source_trees.specs.Trees.{IsShapeFor}
@@ -97,6 +98,15 @@ lay_broken files home s ss before b (bs, ts, found, (more, is)) =
 
 pub lay_end : (files : FilesData) (home : HomeAt) (g : GroupCode) → IsLaidOver files home [] (group_view g) (Tree g)
 lay_end files home g = ([], [], (refl, refl), (refl, refl))
+
+-- what is known where there is something, and where there is nothing
+pub some_case : {A : Type 0} (o : Option A) (x : A) (P : A → Type 0) → o ≡ Some x → IfSome o P → P x
+some_case None x P e h = absurd (cc)
+some_case (Some y) x P e h = let same : y ≡ x = cc in subst P same h
+
+pub none_case : {A : Type 0} (o : Option A) (P : Type 0) → o ≡ None → IfNone o P → P
+none_case None P e h = h
+none_case (Some x) P e h = absurd (cc)
 
 -- the sources from one on, and after the last
 pub next_sources : (sources : List PlanSource) (i : ℕ) (x : PlanSource) → i < length sources → x ≡ get_or sources i x → plan_sources_view (drop i sources) ≡ plan_source_view x ∷ plan_sources_view (drop (i + 1) sources)

@@ -11,7 +11,7 @@ use Rattle.token_tree.specs.Laws.{NamesTest}
 use Rattle.token_tree.specs.Promise.{StandsIn}
 use Rattle.token_tree.specs.Shape.{Break, mark_in, properties_of, def_of, is_token, are_token, entries_at, members_in, is_object, is_child, put_children, child_of, group_of, shape_of, shape_breaks, group_breaks, child_breaks, group_member_breaks, root_breaks, reserved_breaks, token_breaks, at_value, at_name}
 use Rattle.token_tree.specs.Texts.{is_reserved, is_name}
-use Rattle.token_tree.specs.Tree.{Definition, Child, a_token, a_group, Named, group_with}
+use Rattle.token_tree.specs.Tree.{Child, a_token, a_group, Named, group_with}
 use Rattle.token_tree.specs.declared.fault.Rule.TheVariants as rule
 use Rattle.token_tree.proofs.Keeps.{own_members}
 use Rattle.token_tree.proofs.Places.{part_stands, under_stands}

@@ -1,5 +1,5 @@
 -- In a text of UTF-8 the names of members, the strings and the slices of objects are UTF-8.
-use Rattle.std.proofs.Common.{arith, ◌≡◌, ℕ, ◌≤◌, List, length, subst}
+use Rattle.std.proofs.Common.{arith, ◌≡◌, ℕ, List, length, subst}
 use Rattle.std.proofs.lemmas.Str.{IsUtf8-between}
 use Rattle.std.specs.Str.{IsUtf8}
 use Rattle.json_span.specs.FitsIn.{FitsIn, ItemsFitIn, MembersFitIn, SaidFits}

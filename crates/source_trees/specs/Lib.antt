@@ -10,8 +10,8 @@
 -- * the sources of a permutation come to one tree, each laid over those before, or to the first
 --   break in their order: a file that is absent, its JSON, its shape; each file in use is read
 --   once, as one step; what they come to is one thing, decided by what each source holds: the
---   file's name and text, or the object's slice and start (`read_named`, `shapes_of`,
---   `merged_sources`, `merge_of`; `shapes_known`, `one_merge`, `merged_by_content`)
+--   file's name and text, or the object's slice and start (`read_named`, `shapes_since`,
+--   `shapes_of`, `merged_sources`, `merge_of`; `shapes_known`, `one_merge`, `merged_by_content`)
 -- * the tokens of a flat tree of sources without a break stand at paths that tokens can have, each
 --   is a definition, and its source is the slice of its file's text between its offsets
 --   (`merged_tokens`)

@@ -15,7 +15,7 @@ use Rattle.source_trees.specs.View.{break_view}
 
 -- the tree where there is no break, and else the first break
 abbrev pub IsShapeBy : List BreakAt → List Group → FileShape → Type 0
-IsShapeBy breaks trees (Shows g) = (breaks ≡ []) × (trees ≡ group_view g ∷ [])
+IsShapeBy breaks trees (Shows g) = (breaks ≡ []) × (trees ≡ group_view g.value ∷ [])
 IsShapeBy breaks trees (Breaks b) = (rest : List BreakAt) × (breaks ≡ break_view b ∷ rest)
 
 -- of the text of a file
@@ -36,3 +36,8 @@ IsShaped path (Some text) (Some shape) = IsShapeFor path text shape
 -- the shapes are those of these files
 abbrev pub AreShapesIn : FilesData → finite.FinMap text_cmp FileShape → Type 0
 AreShapesIn files shapes = (path : List ℕ) → IsShaped path (finite.get files path) (finite.get shapes path)
+
+-- each shape is that of a file of these
+abbrev pub AreShapesAmong : FilesData → finite.FinMap text_cmp FileShape → Type 0
+AreShapesAmong files shapes = (path : List ℕ) (shape : FileShape) → finite.get shapes path ≡ Some shape
+    → (text : List ℕ) × (finite.get files path ≡ Some text) × IsShapeFor path text shape

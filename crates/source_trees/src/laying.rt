@@ -1,11 +1,12 @@
 //! The sources of a permutation, laid over one another.
 
-ghost use Rattle.std.specs.Prelude.{◌≡◌, IfOk};
+ghost use Rattle.std.specs.Prelude.{◌≡◌, IfOk, IfSome, IfNone};
 ghost use Rattle.token_tree.specs.View.{group_view};
 ghost use Rattle.group_inherit.specs.Merging.{empty_group};
 ghost use Rattle.file_plan.specs.View.{plan_source_view, plan_sources_view};
 ghost use Rattle.source_trees.specs.Merging.{AllInlineStand, InlineStands, IsMergedBy};
 ghost use Rattle.source_trees.specs.View.{home_view};
+ghost use Rattle.source_trees.specs.declared.laying.Merged.TheVariants.{Tree, Broken};
 ghost use Rattle.source_trees.specs.inner.Laying.{LaysBy, LaysShape};
 
 use crate::shape::{FileShape, Shapes, shape_at};
@@ -73,6 +74,30 @@ fn lay<'s>(
     }
 }
 
+// Puts a source over the tree of those before it, which then is the tree of all; or tells the rule that it breaks.
+fn lay_over<'s>(
+    alloc: Global,
+    shapes: &Shapes<'s>,
+    home: Home<'s>,
+    source: &PlanSource<'s>,
+    tree: &mut Group<'s>,
+) -> Result<Option<SourceBreak<'s>>, NoMemory>
+    requires { InlineStands home.text.now (plan_source_view source.now) }
+    ensures broken { IfOk result (λ o. IfSome o (λ found. LaysBy shapes.now (home_view home.entry)
+        (plan_source_view source.now) (group_view tree.old) (Broken found))) }
+    ensures laid { IfOk result (λ o. IfNone o (LaysBy shapes.now (home_view home.entry)
+        (plan_source_view source.now) (group_view tree.old) (Tree tree.new))) }
+{
+    match lay(alloc, shapes, home, source, tree) {
+        Ok(Merged::Tree(next)) => {
+            *tree = next;
+            Ok(None)
+        }
+        Ok(Merged::Broken(found)) => Ok(Some(found)),
+        Err(NoMemory) => Err(NoMemory),
+    }
+}
+
 // The group without members, over which the first source is laid.
 fn no_tree<'s>(alloc: Global) -> Group<'s>
     ensures { group_view result ≡ empty_group }
@@ -102,9 +127,8 @@ pub fn merged_sources<'s>(
 {
     let mut merged = no_tree(alloc);
     for source in sources {
-        match lay(alloc, shapes, home, source, &merged)? {
-            Merged::Tree(tree) => merged = tree,
-            Merged::Broken(found) => return Ok(Merged::Broken(found)),
+        if let Some(found) = lay_over(alloc, shapes, home, source, &mut merged)? {
+            return Ok(Merged::Broken(found));
         }
     }
     Ok(Merged::Tree(merged))

@@ -19,5 +19,5 @@ pub use laying::{Merged, merged_sources};
 pub use merge::{Merge, Merges, merge_of};
 pub use reading::read_named;
 pub use shape::{FileShape, Shapes};
-pub use shapes::shapes_of;
+pub use shapes::{shapes_of, shapes_since};
 pub use source::{Home, SourceBreak, SourceFault};

@@ -1,10 +1,11 @@
 //! The shapes of files: groups and tokens.
 
-ghost use Rattle.std.specs.Prelude.{◌≡◌, IfOk};
+ghost use Rattle.std.specs.Prelude.{◌≡◌, ◌∷◌, [], ℕ, List, IfOk};
 ghost use Rattle.json_span.specs.View.{node_view};
 ghost use Rattle.token_tree.specs.Promise.{StandsIn};
+ghost use Rattle.token_tree.specs.View.{group_view};
 ghost use Rattle.file_plan.specs.Trees.{IsTreeOf};
-ghost use Rattle.source_trees.specs.Trees.{IsShapeFor};
+ghost use Rattle.source_trees.specs.Trees.{IsShapeBy, IsShapeFor};
 ghost use Rattle.source_trees.specs.inner.Laying.{IsShapeAt, TellsFault};
 
 use crate::source::{SourceBreak, SourceFault};
@@ -12,14 +13,31 @@ use file_plan::Tree;
 use json_span::{JsonFault, Node};
 use std::alloc::Global;
 use std::fmt;
+use std::rc::Rc;
 use tk_io::{NoMemory, TextMap};
 use token_tree::{Group, ShapeFault, shape};
 
 /// What the tree of a file, or an object in it, shows: groups and tokens, or the first rule that it breaks.
 #[derive(Drop)]
 pub enum FileShape<'s> {
-    Shows(Group<'s>),
+    Shows(Rc<Group<'s>>),
     Breaks(SourceBreak<'s>),
+}
+
+impl<'s> FileShape<'s> {
+    /// The same shape once more: a tree is counted, and not copied.
+    pub(crate) fn share(&self) -> Result<FileShape<'s>, NoMemory>
+        ensures { (file text : List ℕ) → IsShapeFor file text self.now
+            → IfOk result (IsShapeFor file text) }
+    {
+        match self {
+            FileShape::Shows(group) => {
+                let group = group.clone()?;
+                Ok(FileShape::Shows(group))
+            }
+            FileShape::Breaks(found) => Ok(FileShape::Breaks(*found)),
+        }
+    }
 }
 
 impl<'s> fmt::Debug for FileShape<'s> {
@@ -44,6 +62,14 @@ fn broken<'s>(fault: SourceFault, file: &'s str, start: usize, end: usize) -> Fi
     })
 }
 
+// The shape of a file that breaks no rule.
+fn shown<'s>(alloc: Global, group: Group<'s>) -> Result<FileShape<'s>, NoMemory>
+    ensures { IfOk result (IsShapeBy [] (group_view group.entry ∷ [])) }
+{
+    let group = Rc::new(alloc, group)?;
+    Ok(FileShape::Shows(group))
+}
+
 /// What a value of the text shows.
 pub(crate) fn shape_at<'s>(
     alloc: Global,
@@ -55,7 +81,7 @@ pub(crate) fn shape_at<'s>(
     ensures { IfOk result (IsShapeAt file.entry.now text.entry.now (node_view root.now)) }
 {
     match shape(alloc, file, text, root) {
-        Ok(group) => Ok(FileShape::Shows(group)),
+        Ok(group) => shown(alloc, group),
         Err(ShapeFault::Broken(rule, start, end)) => {
             Ok(broken(SourceFault::Shape(rule), file, start, end))
         }

@@ -10,6 +10,7 @@ pub returns-in-Err-Broken : goal.returns-in-Err-Broken
 returns-in-Err-Broken c =
     let n = node_view c.args.root.now in
     let file = c.args.file.now in
+    let broken = c.in-Err-Broken in
     subst (IsShapeAt file c.args.text.now n) (sym c.broken.ensures)
-    (first_mapped file (shape_breaks n) (record { rule = c.in-Err-Broken.rule; start = c.in-Err-Broken.start; end = c.in-Err-Broken.end })
-    (subst (TellsFirst (shape_breaks n)) c.in-Err-Broken.field-0-is c.in-Err-Broken.ensures.broken))
+    (rw (broken.rule-is, broken.start-is, broken.end-is) (first_mapped file (shape_breaks n) (record { rule = broken.rule; start = broken.start; end = broken.end })
+    (subst (TellsFirst (shape_breaks n)) broken.field-0-is broken.ensures.broken)))

@@ -5,11 +5,11 @@ use Rattle.source_trees.specs.inner.Shapes.{AddsShape, AddsShapeOf}
 use Rattle.source_trees.proofs.ShapesAdded.{entry_is, no_entry}
 use Rattle.source_trees.proofs.shapes.add_shape.Goals as goal
 
-pub shape_of-requires-in-Some : goal.shape_of-requires-in-Some
-shape_of-requires-in-Some c =
+pub shape_since-requires-clause-tree : goal.shape_since-requires-clause-tree
+shape_since-requires-clause-tree c =
     let there = entry_is (finite.get c.args.files.now c.args.path.now) c.args.path.now c.in-Some.kept.now c.in-Some.text.now
     (ap (option_map {U = List ℕ × List ℕ} (λ e. (e.0.now, e.1.now))) (sym c.in-Some.is) ∙ c.entry.ensures) in
-    c.requires c.in-Some.text.now there.0
+    c.requires.tree c.in-Some.text.now there.0
 
 pub returns-in_ok-shape-in-Some : goal.returns-in_ok-shape-in-Some
 returns-in_ok-shape-in-Some c =
