@@ -164,6 +164,10 @@ module _ (T : WrittenPlaces) where
     pub walk_clean : {k : ℕ} → Clean T m k (walk_written T (settle_by T (passed T b')) (walked T b') p (Some s)) → Clean T n k (walked T b p)
     walk_clean {k} h = subst (λ w. Clean T n k w) (sym walk_is) (clean_append T (visit b p ∷ []) (walk_written T (settle_by T (passed T b')) (walked T b') p (Some s)) entered h)
 
+    pub walk_sees : {X : Type 0} (k : ℕ) (r : Result X RefFault) → Sees T (walk_written T (settle_by T (passed T b')) (walked T b') p (Some s)) m k r → Sees T (walked T b p) n k r
+    walk_sees k (Ok x) h = walk_clean h
+    walk_sees k (Err f) h = walk_fault f h
+
   -- a leaf asks for no visit
   pub leaf_clean : {n m : ℕ} (b : List Place) (p : Place) (v : Value) → T p ≡ Some (leaf v) → own_break T n (visit b p) ≡ None → m ≡ n + 1 → Clean T n m (walked T b p)
   leaf_clean {n} {m} b p v is own one = walk_clean n b (b ++ p ∷ []) p (leaf v) is own refl one (clean_nil T m)

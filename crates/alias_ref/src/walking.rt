@@ -1,14 +1,16 @@
 //! The walk of a value: its meaning, and the first rule that it breaks.
 
-ghost use Rattle.std.specs.Prelude.{◌≡◌, ◌≤◌, ◌++◌, length, Some, false, IfOk, OnOk};
+ghost use Rattle.std.specs.Prelude.{◌≡◌, ◌≤◌, ◌++◌, length, Some, None, false, IfOk, OnOk};
+ghost use Rattle.std.specs.Prelude.{IfSome, IfNone};
 ghost use Rattle.json_span.specs.View.{ref_view};
 ghost use Rattle.alias_ref.specs.Visits.{most_on_branch};
+ghost use Rattle.alias_ref.specs.Laws.{Flat as FlatTree};
 ghost use Rattle.alias_ref.specs.Written.{is_misspelled, part};
 ghost use Rattle.alias_ref.specs.inner.Contents.{content_view};
 ghost use Rattle.alias_ref.specs.inner.Linking.{kind_with, lent, links_added};
 ghost use Rattle.alias_ref.specs.inner.Spots.{IsSpot, spot_at, IsHolder, IsPartAt, HasStarts, IsSameBranch};
 ghost use Rattle.alias_ref.specs.inner.Walks.{walking, walking_on, walking_parts, HasSeen};
-ghost use Rattle.alias_ref.specs.inner.Walks.{IsMeantAt};
+ghost use Rattle.alias_ref.specs.inner.Walks.{IsMeantAt, IsWalked};
 ghost use Rattle.alias_ref.specs.inner.Walks.{IsKindAt, HasLinks, HasLinksOf, item_parts};
 ghost use Rattle.alias_ref.specs.inner.Walks.{field_parts};
 ghost use Rattle.alias_ref.specs.inner.Walks.{ItemsMean, FieldsMean, walking_reference, IsTarget};
@@ -40,6 +42,17 @@ pub(crate) fn kind_here(token: &Entry<'_>, lent: Option<Kind>) -> Option<Kind>
     ensures { result ≡ kind_with token.now lent }
 {
     token.def.kind.or(lent).or(token.group_kind)
+}
+
+/// What is found at a place that is no reference, where its value is this one without references.
+fn found_here<'s>(token: &Entry<'_>, plain: Plain<'s>) -> Found<'s>
+    ensures plain { result.plain ≡ plain.entry }
+    ensures kind { result.kind ≡ kind_with token.now None }
+{
+    Found {
+        plain,
+        kind: kind_here(token, None),
+    }
 }
 
 /// The kind of a token by a reference at a place, whose target has this kind. The reference is listed where it is one of
@@ -99,9 +112,9 @@ pub(crate) fn walk<'a, 's>(
     } = spot;
     let found = walk_on(
         alloc, flat, memory, &place, token, start, content, own, trace, links,
-    )?;
+    );
     trace.leave();
-    Ok(found)
+    found
 }
 
 /// What walking a place asks for, once it stands on the branch.
@@ -131,31 +144,30 @@ fn walk_on<'a, 's>(
     ensures branch { OnOk result (IsSameBranch trace.old trace.new) }
 {
     match content {
-        Content::Leaf(plain) => Ok(Found {
-            plain,
-            kind: kind_here(token, None),
-        }),
+        Content::Leaf(plain) => Ok(found_here(token, plain)),
         Content::Array(items) => {
-            let list = walk_items(alloc, flat, memory, place, token, items, own, trace, links)?;
-            Ok(Found {
-                plain: Plain::Arr(list),
-                kind: kind_here(token, None),
-            })
+            match walk_items(alloc, flat, memory, place, token, items, own, trace, links) {
+                Ok(list) => Ok(found_here(token, Plain::Arr(list))),
+                Err(fault) => Err(fault),
+            }
         }
         Content::Object(fields) => {
-            let list = walk_fields(alloc, flat, memory, place, token, fields, own, trace, links)?;
-            Ok(Found {
-                plain: Plain::Obj(list),
-                kind: kind_here(token, None),
-            })
+            match walk_fields(alloc, flat, memory, place, token, fields, own, trace, links) {
+                Ok(list) => Ok(found_here(token, Plain::Obj(list))),
+                Err(fault) => Err(fault),
+            }
         }
         Content::Refers(named) => {
-            let found = walk_reference(alloc, flat, memory, place, &named, own, trace, links)?;
-            let kind = refer(place, token, named, own, found.kind, links)?;
-            Ok(Found {
-                plain: found.plain,
-                kind,
-            })
+            match walk_reference(alloc, flat, memory, place, &named, own, trace, links) {
+                Ok(target) => {
+                    let kind = refer(place, token, named, own, target.kind, links)?;
+                    Ok(Found {
+                        plain: target.plain,
+                        kind,
+                    })
+                }
+                Err(fault) => Err(fault),
+            }
         }
         Content::Misspelled => unreachable!(),
     }
@@ -189,6 +201,25 @@ fn walk_reference<'a, 's>(
     walk_target(alloc, flat, memory, target, trace, links)
 }
 
+/// What is found at the target of a reference that is a literal, which is visited; none where a walk has to tell.
+fn visit_target<'s>(
+    alloc: Global,
+    spot: &Spot<'_, 's>,
+    trace: &mut Trace<'s>,
+) -> Option<Result<Found<'s>, RefFault<'s>>>
+    ensures told { (flat : FlatTree) → IsSpot flat spot.now → IfSome result (λ r.
+        IsWalked flat trace.old trace.new spot.now.place r) }
+    ensures none { IfNone result (trace.new.visits ≡ trace.old.visits) }
+    ensures branch { IsSameBranch trace.old trace.new }
+{
+    let token = spot.token;
+    match trace.visit_literal(alloc, &spot.place, &token.def) {
+        Ok(Some(plain)) => Some(Ok(found_here(token, plain))),
+        Ok(None) => None,
+        Err(NoMemory) => Some(Err(RefFault::NoMemory)),
+    }
+}
+
 /// Walks the target of a reference. A literal is what it is.
 #[cycle(walking)]
 fn walk_target<'a, 's>(
@@ -208,14 +239,10 @@ fn walk_target<'a, 's>(
     ensures links { OnOk result (links.new ≡ links.old) }
     ensures branch { OnOk result (IsSameBranch trace.old trace.new) }
 {
-    let token = spot.token;
-    if let Some(plain) = trace.visit_literal(alloc, &spot.place, &token.def)? {
-        return Ok(Found {
-            plain,
-            kind: kind_here(token, None),
-        });
+    match visit_target(alloc, &spot, trace) {
+        Some(found) => found,
+        None => walk(alloc, flat, memory, spot, false, trace, links),
     }
-    walk(alloc, flat, memory, spot, false, trace, links)
 }
 
 /// Walks the items of an array, in order.

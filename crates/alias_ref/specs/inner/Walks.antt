@@ -80,6 +80,12 @@ IsKindAt flat p k = p.trail ≡ [] → KindOf (written_in flat) (own_in flat) (g
 abbrev pub HasLinks : Bool → Flat → Place → List Link → List Link → Type 0
 HasLinks own flat p old new = HasGrown own (written_in flat) (own_in flat) (group_in flat) p old new
 
+-- the place was walked
+pub record IsWalked (flat : Flat) (old new : Trace) (p : Place) (r : Result Found RefFault) : Type 0 where
+  pub seen : HasSeen flat old new r (walking p)
+  pub means : IfOk r (λ v. IsMeantAt flat p v.plain)
+  pub kind : IfOk r (λ v. IsKindAt flat p v.kind)
+
 -- what was found where a reference ends
 pub record IsTarget (flat : Flat) (old : Trace) (home named : Place) (found : Found) : Type 0 where
   pub place : Place

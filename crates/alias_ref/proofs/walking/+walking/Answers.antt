@@ -1,5 +1,5 @@
-use Rattle.std.proofs.Common.{rules, ◌≡◌, ◌+◌, ◌∷◌, [], length, Some, arith, refl, sym, ap, ap₂, ◌∙◌, subst, length-append}
-use Rattle.std.proofs.lemmas.Result.{err_from_is_err_and}
+use Rattle.std.proofs.Common.{◌≡◌, ◌+◌, ◌∷◌, [], length, Some, arith, refl, sym, ap, ap₂, ◌∙◌, subst, length-append}
+use Rattle.std.proofs.lemmas.Result.{err_from_is_err_and, on_ok_weaker}
 use Rattle.group_inherit.specs.Merging.{either}
 use Rattle.json_span.specs.Plain.{plains_of, plain_array}
 use Rattle.json_span.specs.PlainView.{plain_view}
@@ -10,20 +10,18 @@ use Rattle.alias_ref.specs.Kinds.{own_in, group_in}
 use Rattle.alias_ref.specs.inner.Contents.{content_view}
 use Rattle.json_span.specs.View.{ref_view, items_view, fields_view}
 use Rattle.alias_ref.specs.inner.Linking.{lent}
-use Rattle.alias_ref.specs.inner.Literals.{IsLiteralVisit}
-use Rattle.alias_ref.specs.inner.Seen.{Clean, IsFault}
+use Rattle.alias_ref.specs.inner.Seen.{Clean, Sees, IsFault}
 use Rattle.alias_ref.specs.inner.Spots.{start_in, spot_at}
 use Rattle.alias_ref.specs.inner.Walks.{walking_reference}
 use Rattle.alias_ref.proofs.FirstBreaks.{clean_nil, enters, walked-fault}
 use Rattle.alias_ref.proofs.LinksOfParts.{alone, refers_kind}
-use Rattle.alias_ref.proofs.LiteralsMean.{literal_visited, visited_clean}
 use Rattle.alias_ref.proofs.PartsInTurn.{none_walked, next_item, next_field, walked_more, items_more, walked_fault, leaf_grown, grown_parts, lead_by, refers_grown}
 use Rattle.alias_ref.proofs.PlainViews.{array_view, object_view}
 use Rattle.alias_ref.proofs.RememberedTokens.{home_more, same_home}
 use Rattle.alias_ref.proofs.Targets.{HasReached, recalled_reached, target_reached}
 use Rattle.alias_ref.proofs.SpotsStand.{spot_written, spot_start, spot_shows, own_is, group_is, kinds_at, leaf_shows, part_start, holder_part, holder_few}
 use Rattle.alias_ref.proofs.TracesGrow.{spot_own, starts_more, same_starts, same_then, none_case, some_case}
-use Rattle.alias_ref.proofs.WalksInTurns.{leaf_clean, walk_fault, walk_clean, target_fault}
+use Rattle.alias_ref.proofs.WalksInTurns.{leaf_clean, on_ok, walk_sees, target_fault}
 use Rattle.alias_ref.proofs.walking.+walking.Goals as goal
 
 pub walk-returns-in_err-enter-clause-seen : goal.walk-returns-in_err-enter-clause-seen
@@ -34,8 +32,8 @@ walk-returns-in_err-enter-clause-seen t c =
     let p = err_from_is_err_and c.from_residual.result c.from_residual.ensures.1 in
     rw (p.1, p.2) (walked-fault T c.in_err-enter.field-0.0 old.visits old.places.items spot.place (spot_own old c.requires.at c.requires.starts c.in_err-enter.ensures.broken))
 
-pub walk-walk_on-requires : goal.walk-walk_on-requires
-walk-walk_on-requires t c =
+pub walk-walk_on-found-requires : goal.walk-walk_on-found-requires
+walk-walk_on-found-requires t c =
     let old = c.args.trace.now in
     let T = written_in c.args.flat.now in
     let flat = c.args.flat.now in
@@ -49,18 +47,6 @@ walk-walk_on-requires t c =
     let home = home_more flat c.args.memory.now.known.items c.args.own old c.enter.new.self spot.place c.requires.home e.places in
     (omega (arith, entered.room, grown), (c.requires.at, (omega (arith, entered.room, grown), (starts, (home, ap is_misspelled (sym is) ∙ entered.spelled)))))
 
-pub walk-returns-in_err-found-clause-seen : goal.walk-returns-in_err-found-clause-seen
-walk-returns-in_err-found-clause-seen t c =
-    let old = c.args.trace.now in
-    let T = written_in c.args.flat.now in
-    let flat = c.args.flat.now in
-    let spot = c.args.spot in
-    let is = spot_written flat spot c.requires.at in
-    let e = c.in_ok-enter.ensures in
-    let own = spot_own old c.requires.at c.requires.starts e.broken in
-    let p = err_from_is_err_and c.from_residual-in_err-found.result c.from_residual-in_err-found.ensures.1 in
-    rw (p.1, p.2) (walk_fault T old.visits old.places.items c.enter.new.self.places.items spot.place (content_view spot.content) is own e.places e.counted c.in_err-found.field-0.0 c.in_err-found.ensures.seen)
-
 pub walk-returns-clause-seen : goal.walk-returns-clause-seen
 walk-returns-clause-seen t c =
     let old = c.args.trace.now in
@@ -70,8 +56,17 @@ walk-returns-clause-seen t c =
     let is = spot_written flat spot c.requires.at in
     let e = c.in_ok-enter.ensures in
     let own = spot_own old c.requires.at c.requires.starts e.broken in
-    subst (λ k. Clean T old.visits k (walked T old.places.items spot.place)) (sym c.leave.ensures.visits)
-    (walk_clean T old.visits old.places.items c.enter.new.self.places.items spot.place (content_view spot.content) is own e.places e.counted c.in_ok-found.ensures.seen)
+    let found = c.walk_on-found.result in
+    subst (λ k. Sees T (walked T old.places.items spot.place) old.visits k found) (sym c.leave.ensures.visits)
+    (walk_sees T old.visits old.places.items c.enter.new.self.places.items spot.place (content_view spot.content) is own e.places e.counted _ found c.walk_on-found.ensures.seen)
+
+pub walk-returns-clause-branch : goal.walk-returns-clause-branch
+walk-returns-clause-branch t c =
+    let old = c.args.trace.now in
+    let e = c.in_ok-enter.ensures in
+    on_ok_weaker c.walk_on-found.result
+    (λ same. (c.leave.ensures.places old.places.items c.args.spot.place (same.0 ∙ e.places), c.leave.ensures.starts old.starts.items c.args.spot.start (same.1 ∙ e.starts)))
+    c.walk_on-found.ensures.branch
 
 pub walk_fields-loop-field-init : goal.walk_fields-loop-field-init
 walk_fields-loop-field-init t c =
@@ -163,67 +158,59 @@ walk_on-returns-in-Leaf-clause-seen t c =
 
 pub walk_on-returns-in-Leaf-clause-means : goal.walk_on-returns-in-Leaf-clause-means
 walk_on-returns-in-Leaf-clause-means t c =
-    means_leaf (spot_shows c.args.flat.now (spot_at c.args.place.now c.args.token c.args.start c.args.content) _ c.requires.at c.in-Leaf.is)
+    subst (λ v. Means (written_in c.args.flat.now) c.args.place.now (plain_view v)) (sym c.found_here.ensures.plain)
+    (means_leaf (spot_shows c.args.flat.now (spot_at c.args.place.now c.args.token c.args.start c.args.content) _ c.requires.at c.in-Leaf.is))
 
 pub walk_on-returns-in-Leaf-clause-kind : goal.walk_on-returns-in-Leaf-clause-kind
 walk_on-returns-in-Leaf-clause-kind t c = λ at.
     let flat = c.args.flat.now in
     let spot = spot_at c.args.place.now c.args.token c.args.start c.args.content in
-    alone (written_in flat) (own_in flat) (group_in flat) spot.place (leaf (plain_view c.in-Leaf.plain)) c.kind_here.result (spot_shows flat spot _ c.requires.at c.in-Leaf.is) refl at (kinds_at flat spot c.kind_here.result c.requires.at c.kind_here.ensures)
+    alone (written_in flat) (own_in flat) (group_in flat) spot.place (leaf (plain_view c.in-Leaf.plain)) c.found_here.result.kind (spot_shows flat spot _ c.requires.at c.in-Leaf.is) refl at (kinds_at flat spot c.found_here.result.kind c.requires.at c.found_here.ensures.kind)
 
 pub walk_on-returns-in-Leaf-clause-links : goal.walk_on-returns-in-Leaf-clause-links
 walk_on-returns-in-Leaf-clause-links t c =
     let flat = c.args.flat.now in
     leaf_grown (written_in flat) (own_in flat) (group_in flat) c.args.own c.args.place.now (plain_view c.in-Leaf.plain) c.args.links.now (spot_shows flat (spot_at c.args.place.now c.args.token c.args.start c.args.content) _ c.requires.at c.in-Leaf.is)
 
-pub walk_on-returns-in_ok-list-in-Array-clause-means : goal.walk_on-returns-in_ok-list-in-Array-clause-means
-walk_on-returns-in_ok-list-in-Array-clause-means t c =
+pub walk_on-returns-in-Ok-clause-means : goal.walk_on-returns-in-Ok-clause-means
+walk_on-returns-in-Ok-clause-means t c =
     let flat = c.args.flat.now in
-    let k = c.in_ok-list-in-Array.ensures.means in
-    let view = array_view c.in_ok-list-in-Array.list ∙ ap (λ vs. plain_array (plains_of vs)) k.2 in
+    let k = c.in-Ok.ensures.means in
+    let view = ap plain_view c.found_here-in-Ok.ensures.plain ∙ array_view c.in-Ok.list ∙ ap (λ vs. plain_array (plains_of vs)) k.2 in
     subst (Means (written_in flat) c.args.place.now) (sym view) (means_parts (spot_shows flat (spot_at c.args.place.now c.args.token c.args.start c.args.content) _ c.requires.at c.in-Array.is) k.1)
 
-pub walk_on-returns-in_ok-list-in-Array-clause-kind : goal.walk_on-returns-in_ok-list-in-Array-clause-kind
-walk_on-returns-in_ok-list-in-Array-clause-kind t c = λ at.
+pub walk_on-returns-in-Ok-clause-kind : goal.walk_on-returns-in-Ok-clause-kind
+walk_on-returns-in-Ok-clause-kind t c = λ at.
     let flat = c.args.flat.now in
     let spot = spot_at c.args.place.now c.args.token c.args.start c.args.content in
-    alone (written_in flat) (own_in flat) (group_in flat) spot.place (parts array (steps_of (parts_by_index 0 (items_view c.in-Array.items)))) c.kind_here-in-Array.result (spot_shows flat spot _ c.requires.at c.in-Array.is) refl at (kinds_at flat spot c.kind_here-in-Array.result c.requires.at c.kind_here-in-Array.ensures)
+    alone (written_in flat) (own_in flat) (group_in flat) spot.place (parts array (steps_of (parts_by_index 0 (items_view c.in-Array.items)))) c.found_here-in-Ok.result.kind (spot_shows flat spot _ c.requires.at c.in-Array.is) refl at (kinds_at flat spot c.found_here-in-Ok.result.kind c.requires.at c.found_here-in-Ok.ensures.kind)
 
-pub walk_on-returns-in_ok-list-in-Array-clause-links : goal.walk_on-returns-in_ok-list-in-Array-clause-links
-walk_on-returns-in_ok-list-in-Array-clause-links t c =
+pub walk_on-returns-in-Ok-clause-links : goal.walk_on-returns-in-Ok-clause-links
+walk_on-returns-in-Ok-clause-links t c =
     let flat = c.args.flat.now in
     let there = spot_shows flat (spot_at c.args.place.now c.args.token c.args.start c.args.content) _ c.requires.at c.in-Array.is in
-    grown_parts (written_in flat) (own_in flat) (group_in flat) c.args.own c.args.place.now (steps_of (parts_by_index 0 (items_view c.in-Array.items))) c.args.links.now c.walk_items.new.links there c.in_ok-list-in-Array.ensures.links
+    grown_parts (written_in flat) (own_in flat) (group_in flat) c.args.own c.args.place.now (steps_of (parts_by_index 0 (items_view c.in-Array.items))) c.args.links.now c.walk_items.new.links there c.in-Ok.ensures.links
 
-pub walk_on-returns-in_ok-list-in-Object-clause-means : goal.walk_on-returns-in_ok-list-in-Object-clause-means
-walk_on-returns-in_ok-list-in-Object-clause-means t c =
+pub walk_on-returns-in-Ok-walk_fields-clause-means : goal.walk_on-returns-in-Ok-walk_fields-clause-means
+walk_on-returns-in-Ok-walk_fields-clause-means t c =
     let flat = c.args.flat.now in
     let there = spot_shows flat (spot_at c.args.place.now c.args.token c.args.start c.args.content) _ c.requires.at c.in-Object.is in
-    subst (Means (written_in flat) c.args.place.now) (sym (object_view c.in_ok-list-in-Object.list)) (means_parts there c.in_ok-list-in-Object.ensures.means)
+    subst (Means (written_in flat) c.args.place.now) (sym (ap plain_view c.found_here-in-Ok-walk_fields.ensures.plain ∙ object_view c.in-Ok-walk_fields.list)) (means_parts there c.in-Ok-walk_fields.ensures.means)
 
-pub walk_on-returns-in_ok-list-in-Object-clause-kind : goal.walk_on-returns-in_ok-list-in-Object-clause-kind
-walk_on-returns-in_ok-list-in-Object-clause-kind t c = λ at.
+pub walk_on-returns-in-Ok-walk_fields-clause-kind : goal.walk_on-returns-in-Ok-walk_fields-clause-kind
+walk_on-returns-in-Ok-walk_fields-clause-kind t c = λ at.
     let flat = c.args.flat.now in
     let spot = spot_at c.args.place.now c.args.token c.args.start c.args.content in
-    alone (written_in flat) (own_in flat) (group_in flat) spot.place (parts object (steps_of (parts_by_name (fields_view c.in-Object.fields)))) c.kind_here-in-Object.result (spot_shows flat spot _ c.requires.at c.in-Object.is) refl at (kinds_at flat spot c.kind_here-in-Object.result c.requires.at c.kind_here-in-Object.ensures)
+    alone (written_in flat) (own_in flat) (group_in flat) spot.place (parts object (steps_of (parts_by_name (fields_view c.in-Object.fields)))) c.found_here-in-Ok-walk_fields.result.kind (spot_shows flat spot _ c.requires.at c.in-Object.is) refl at (kinds_at flat spot c.found_here-in-Ok-walk_fields.result.kind c.requires.at c.found_here-in-Ok-walk_fields.ensures.kind)
 
-pub walk_on-returns-in_ok-list-in-Object-clause-links : goal.walk_on-returns-in_ok-list-in-Object-clause-links
-walk_on-returns-in_ok-list-in-Object-clause-links t c =
+pub walk_on-returns-in-Ok-walk_fields-clause-links : goal.walk_on-returns-in-Ok-walk_fields-clause-links
+walk_on-returns-in-Ok-walk_fields-clause-links t c =
     let flat = c.args.flat.now in
     let there = spot_shows flat (spot_at c.args.place.now c.args.token c.args.start c.args.content) _ c.requires.at c.in-Object.is in
-    grown_parts (written_in flat) (own_in flat) (group_in flat) c.args.own c.args.place.now (steps_of (parts_by_name (fields_view c.in-Object.fields))) c.args.links.now c.walk_fields.new.links there c.in_ok-list-in-Object.ensures.links
+    grown_parts (written_in flat) (own_in flat) (group_in flat) c.args.own c.args.place.now (steps_of (parts_by_name (fields_view c.in-Object.fields))) c.args.links.now c.walk_fields.new.links there c.in-Ok-walk_fields.ensures.links
 
-pub walk_on-returns-in_err-found-in-Refers-clause-seen : goal.walk_on-returns-in_err-found-in-Refers-clause-seen
-walk_on-returns-in_err-found-in-Refers-clause-seen t c =
-    let T = written_in c.args.flat.now in
-    let branch = c.args.trace.now.places.items in
-    let f = c.in_err-found-in-Refers.field-0.0 in
-    let p = err_from_is_err_and c.from_residual-in_err-found-in-Refers.result c.from_residual-in_err-found-in-Refers.ensures.1 in
-    rw (p.1, p.2) (subst (λ w. IsFault f (first_break T c.args.trace.now.visits (walk_written T (settle_by T (passed T branch)) (walked T branch) c.args.place.now (Some w))))
-    (sym (ap content_view c.in-Refers.is)) c.in_err-found-in-Refers.ensures.seen)
-
-pub walk_on-returns-in_ok-kind-in-Refers : goal.walk_on-returns-in_ok-kind-in-Refers
-walk_on-returns-in_ok-kind-in-Refers t c =
+pub walk_on-returns-in-Ok-walk_reference : goal.walk_on-returns-in-Ok-walk_reference
+walk_on-returns-in-Ok-walk_reference t c =
     let T = written_in c.args.flat.now in
     let flat = c.args.flat.now in
     let spot = spot_at c.args.place.now c.args.token c.args.start c.args.content in
@@ -234,18 +221,18 @@ walk_on-returns-in_ok-kind-in-Refers t c =
     let trail = c.in-Refers.named.trail in
     let view = ap content_view c.in-Refers.is in
     let is = spot_written flat spot c.requires.at ∙ ap (λ w. Some w) view in
-    let found = c.in_ok-found-in-Refers in
+    let found = c.in-Ok-walk_reference in
     let target = found.ensures.target in
     let q = target.place in
-    let refer = c.in_ok-kind-in-Refers in
+    let refer = c.in_ok-kind-in-Ok-walk_reference in
     let own = own_is flat spot.place spot.token.now c.requires.at.value c.requires.at.stands in
     let group = group_is flat spot.place spot.token.now c.requires.at.value c.requires.at.stands in
     record {
       seen = subst (λ w. Clean T c.args.trace.now.visits c.walk_reference.new.trace.visits (walk_written T settle walk spot.place (Some w))) (sym view) found.ensures.seen;
       means = means_target (lead_by T branch spot.place q token trail is target.ends) target.means;
-      kind = λ at. refers_kind T (own_in flat) (group_in flat) settle spot.place q token trail found.found.kind refer.kind is target.ends target.kind
-          (refer.ensures.kind ∙ ap₂ (λ x y. either x (either (lent found.found.kind trail) y)) (sym own) (sym group)) at;
-      links = refers_grown T (own_in flat) (group_in flat) c.args.own settle spot.place q token trail found.found.kind c.args.links.now c.walk_reference.new.links c.refer.new.links is target.ends target.kind found.ensures.links refer.ensures.links;
+      kind = λ at. refers_kind T (own_in flat) (group_in flat) settle spot.place q token trail found.target.kind refer.kind is target.ends target.kind
+          (refer.ensures.kind ∙ ap₂ (λ x y. either x (either (lent found.target.kind trail) y)) (sym own) (sym group)) at;
+      links = refers_grown T (own_in flat) (group_in flat) c.args.own settle spot.place q token trail found.target.kind c.args.links.now c.walk_reference.new.links c.refer.new.links is target.ends target.kind found.ensures.links refer.ensures.links;
       branch = found.ensures.branch;
     }
 
@@ -315,14 +302,11 @@ walk_part-returns-in_ok-visit_leaf-in-Leaf-clause-links t c =
 
 pub walk_target-returns-in-Some : goal.walk_target-returns-in-Some
 walk_target-returns-in-Some t c =
-    let flat = c.args.flat.now in
-    let f = c.args.spot.token.now in
-    let k : IsLiteralVisit c.args.trace.now c.visit_literal.new.self c.args.spot.place f.def (plain_view c.in-Some.plain) = search rules in
-    let found = literal_visited flat f c.requires.at.stands k in
+    let told = c.in-Some.ensures.told c.args.flat.now c.requires.at in
     record {
-      seen = visited_clean flat f k found;
-      means = found.means;
-      kind = found.kind _ c.kind_here.ensures;
-      links = refl;
-      branch = c.in_ok-plain.ensures.branch;
+      seen = told.seen;
+      means = told.means;
+      kind = told.kind;
+      links = on_ok c.in-Some.found refl;
+      branch = on_ok c.in-Some.found c.in-Some.ensures.branch;
     }
