@@ -26,7 +26,7 @@ pub use making::{Made, make};
 pub use one_tree::{FlatStop, flat_of};
 pub use outcome::Outcome;
 pub use parts::{CellMap, Parts};
-pub use permutation::{source_text, tree_text};
+pub use permutation::{put_sheets, source_text, tree_text};
 pub use planning::refused_plan;
 pub use sources::{first_file, home_of, resolver_is_utf8};
 pub use token_cells::Earlier;

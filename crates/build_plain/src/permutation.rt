@@ -112,8 +112,11 @@ pub(crate) fn put_tree_break(
     put_output(alloc, name, "/REFUSED", body, outputs)
 }
 
-// Puts a file in each format.
-fn put_sheets(
+/// Puts the four files of a permutation whose tokens break no rule, beside those of others.
+///
+/// # Errors
+/// `NoMemory`. Some of the files may be put then.
+pub fn put_sheets(
     alloc: Global,
     name: &str,
     cells: &Cells<'_>,

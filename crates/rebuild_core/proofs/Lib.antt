@@ -1,3 +1,4 @@
+pub mod CleanOutcomes
 pub mod Decided
 pub mod Summing
 pub mod ReachesDecided

@@ -1,5 +1,6 @@
 pub mod Below
 pub mod Built
+pub mod Clean
 pub mod Contents
 pub mod Evaluating
 pub mod Merging

@@ -6,6 +6,7 @@ ghost use Rattle.rebuild_core.specs.inner.Past.{IsPast};
 
 use crate::past::Past;
 use file_plan::{Files, Plan, Trees};
+use source_trees::Shapes;
 use std::alloc::Global;
 use std::marker::Model;
 use tk_io::TextMap;
@@ -55,12 +56,14 @@ fn no_past<'s>(alloc: Global) -> Past<'s>
 {
     let used = TextMap::new(alloc);
     let trees = Trees::new(alloc);
+    let shapes = Shapes::new(alloc);
     let plan = Plan::new(alloc);
     let outcomes = Vec::new(alloc);
     Past {
         files: Files::new(alloc),
         used,
         trees,
+        shapes,
         config: Config::plain(alloc),
         plan,
         outcomes,

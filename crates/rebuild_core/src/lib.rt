@@ -13,6 +13,7 @@ mod laws;
 mod merging;
 mod past;
 mod plan_perms;
+mod putting;
 mod reading;
 mod renewing;
 mod twice;

@@ -87,6 +87,7 @@ fn merged_tree<'s, M: Ledger, N: Ledger>(
 // What a permutation comes to whose sources come to this tree, which is merged for it.
 fn tree_done<'s, M: Ledger, N: Ledger>(
     alloc: Global,
+    files: &Files<'s>,
     cfg: &Config,
     tree: &Group<'s>,
     old: Option<&Evaluated<'s>>,
@@ -106,7 +107,7 @@ fn tree_done<'s, M: Ledger, N: Ledger>(
         → EvalsOf (option_map (λ tree. tree.now.tokens) old.entry) m n → evals.new ≤ evals.old + n }
 {
     let made = merged_tree(alloc, cfg, tree, old, last, merges, evals)?;
-    let shared = Shared::new(alloc, made.0)?;
+    let shared = Shared::new(alloc, files, made.0)?;
     Ok(Done {
         shared,
         merged: 1,
@@ -115,11 +116,15 @@ fn tree_done<'s, M: Ledger, N: Ledger>(
 }
 
 // What a permutation comes to of which a source has this break: nothing is merged for it.
-fn broken_done<'s>(alloc: Global, found: SourceBreak<'s>) -> Result<Done<'s>, NoMemory>
+fn broken_done<'s>(
+    alloc: Global,
+    files: &Files<'s>,
+    found: SourceBreak<'s>,
+) -> Result<Done<'s>, NoMemory>
     ensures outcome { IfOk result (λ done. outcome_of done.shared ≡ Outcome.SourceBreak found.entry) }
     ensures nothing { IfOk result (λ done. done_view done ≡ work 0 0 0) }
 {
-    let shared = Shared::new(alloc, Outcome::SourceBreak(found))?;
+    let shared = Shared::new(alloc, files, Outcome::SourceBreak(found))?;
     Ok(Done {
         shared,
         merged: 0,
@@ -163,14 +168,15 @@ pub(crate) fn merged_anew<'s, M: Ledger, N: Ledger>(
     let home = home_of(files);
     let sources = perm.sources.as_slice();
     match merged_sources(alloc, shapes, home, sources)? {
-        Merged::Tree(tree) => tree_done(alloc, cfg, &tree, old, last, merges, evals),
-        Merged::Broken(found) => broken_done(alloc, found),
+        Merged::Tree(tree) => tree_done(alloc, files, cfg, &tree, old, last, merges, evals),
+        Merged::Broken(found) => broken_done(alloc, files, found),
     }
 }
 
-// The same under another configuration.
+// The same under another configuration, of the files that are present.
 fn recast<'s, N: Ledger>(
     alloc: Global,
+    present: &Files<'s>,
     cfg: &Config,
     kept: &Shared<'s>,
     last: Option<&Evaluated<'s>>,
@@ -189,7 +195,7 @@ fn recast<'s, N: Ledger>(
         Some(tree) => {
             let flat = copy_flat(alloc, tree.tokens())?;
             let counted = evaluated_anew(alloc, flat, cfg, last, evals)?;
-            let shared = Shared::new(alloc, Outcome::Tokens(counted.tree))?;
+            let shared = Shared::new(alloc, present, Outcome::Tokens(counted.tree))?;
             Ok(Done {
                 shared,
                 merged: 0,
@@ -208,9 +214,11 @@ fn recast<'s, N: Ledger>(
 }
 
 /// What a permutation comes to whose sources hold what they held, when it came to this under that configuration: the same,
-/// and under another configuration all its tokens are evaluated. `last` is the tree of another permutation.
+/// and under another configuration all its tokens are evaluated. `last` is the tree of another permutation, and `present`
+/// are the files.
 pub(crate) fn kept_again<'s, N: Ledger>(
     alloc: Global,
+    present: &Files<'s>,
     cfg: &Config,
     config: &Config,
     kept: &Shared<'s>,
@@ -241,5 +249,5 @@ pub(crate) fn kept_again<'s, N: Ledger>(
             evaluated: 0,
         });
     }
-    recast(alloc, cfg, kept, last, evals)
+    recast(alloc, present, cfg, kept, last, evals)
 }

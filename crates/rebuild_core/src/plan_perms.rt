@@ -23,7 +23,8 @@ use crate::below::laws_below;
 use crate::contents::holds_the_same;
 use crate::merging::{Done, kept_again, merged_anew, tree_in};
 use crate::past::{Past, Shared};
-use build_plain::{Outcome, put_outcome};
+use crate::putting::put_shared;
+use build_plain::Outcome;
 use file_plan::{Files, PlanPerm};
 use source_trees::{Shapes, merged_by_content};
 use std::alloc::Global;
@@ -143,7 +144,7 @@ fn renewed_at<'s, M: Ledger, N: Ledger>(
     let kept = &outcomes[i];
     let is_same = holds_the_same(&past.files, old, files, perm);
     if is_same {
-        return kept_again(alloc, cfg, &past.config, kept, last, evals);
+        return kept_again(alloc, files, cfg, &past.config, kept, last, evals);
     }
     let tree = tree_under(&past.config, cfg, kept.outcome());
     merged_anew(alloc, files, cfg, shapes, perm, tree, last, merges, evals)
@@ -234,7 +235,7 @@ pub(crate) fn outputs_of<'s>(
 {
     let mut outputs = Outputs::new(alloc);
     for (i, perm) in plan.iter().enumerate() {
-        put_outcome(alloc, files, cfg, perm, outcomes[i].outcome(), &mut outputs)?;
+        put_shared(alloc, files, cfg, perm, &outcomes[i], &mut outputs)?;
     }
     Ok(outputs)
 }

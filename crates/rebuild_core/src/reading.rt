@@ -1,16 +1,18 @@
-//! The trees of the files in use. A file that was in use with an equal text keeps its tree.
+//! The trees and the shapes of the files in use. A file that was in use with an equal text keeps both.
 
 ghost use Rattle.std.specs.Prelude.{◌≡◌, ◌≢◌, ◌+◌, ◌≤◌, ℕ, List, Some, None, IfOk, IfSome, OnOk, true, false};
 ghost use Rattle.std.specs.FinMap as map;
 ghost use Rattle.file_plan.specs.InUse.{AreAmong, files_in_use, resolver_in, resolver_path};
 ghost use Rattle.file_plan.specs.Trees.{AreTreesIn, IsRead, IsTreeOf};
 ghost use Rattle.file_plan.specs.View.{plan_view};
+ghost use Rattle.source_trees.specs.Trees.{AreShapesAmong};
 ghost use Rattle.rebuild_core.specs.inner.Reading.{AddsOther, AreInUse, ReadOthers, ReadsFirst, ReadsOne, ReadsOther};
 
 use crate::copying::copy_tree;
 use crate::past::{Past, UsedTexts};
 use crate::used::{RESOLVER, used_texts};
 use file_plan::{Files, PlanPerm, Tree, Trees, in_use_laws, read_tree};
+use source_trees::{Shapes, shapes_since};
 use std::alloc::Global;
 use std::sync::ledger::Ledger;
 use tk_io::{NoMemory, Steps};
@@ -20,6 +22,7 @@ use tk_io::{NoMemory, Steps};
 pub(crate) struct InUse<'s> {
     pub(crate) used: UsedTexts<'s>,
     pub(crate) trees: Trees<'s>,
+    pub(crate) shapes: Shapes<'s>,
     pub(crate) read: usize,
 }
 
@@ -160,7 +163,7 @@ fn add_trees<'s, L: Ledger>(
     Ok(read)
 }
 
-/// The files in use for these permutations, with their trees. That of the resolver document is there.
+/// The files in use for these permutations, with their trees and shapes. The tree of the resolver document is there.
 pub(crate) fn in_use<'s, L: Ledger>(
     alloc: Global,
     files: &Files<'s>,
@@ -170,6 +173,7 @@ pub(crate) fn in_use<'s, L: Ledger>(
     parses: &mut Steps<L>,
 ) -> Result<InUse<'s>, NoMemory>
     requires past { AreTreesIn past.now.used past.now.trees }
+    requires shapes { AreShapesAmong past.now.files past.now.shapes }
     requires trees { AreTreesIn (resolver_in files.now) trees }
     ensures are { IfOk result (AreInUse files.now (plan_view plan.now)) }
     ensures count { IfOk result (λ r.
@@ -182,5 +186,11 @@ pub(crate) fn in_use<'s, L: Ledger>(
     let used = used_texts(alloc, files, plan)?;
     let mut trees = trees;
     let read = add_trees(alloc, files, past, &used, &mut trees, parses)?;
-    Ok(InUse { used, trees, read })
+    let shapes = shapes_since(alloc, files, &trees, &past.files, &past.shapes)?;
+    Ok(InUse {
+        used,
+        trees,
+        shapes,
+        read,
+    })
 }

@@ -7,6 +7,7 @@ ghost use Rattle.file_plan.specs.InUse.{files_in_use, resolver_in, resolver_path
 ghost use Rattle.file_plan.specs.Plan.{Plans, planned};
 ghost use Rattle.file_plan.specs.Trees.{AreTreesIn};
 ghost use Rattle.file_plan.specs.View.{IsPlanRefusal, plan_view};
+ghost use Rattle.source_trees.specs.Trees.{AreShapesIn};
 ghost use Rattle.build_plain.specs.Out.{Builds, GivesFrom, IsConfigFault, settings_of};
 ghost use Rattle.build_plain.specs.Work.{RiseWithin, added, work};
 ghost use Rattle.rebuild_core.specs.Engine.{counts_view};
@@ -23,7 +24,7 @@ use crate::reading::{InUse, in_use, resolver_tree};
 use crate::used::RESOLVER;
 use build_plain::{config_of, refused_config, refused_plan};
 use file_plan::{Files, Plan, PlanPerm, PlanRefusal, Trees, file_plan_laws, plan_of};
-use source_trees::{shapes_known, shapes_of};
+use source_trees::{Shapes, shapes_known};
 use std::alloc::Global;
 use std::sync::ledger::Ledger;
 use tk_io::{NoMemory, Outputs, Steps, TextMap};
@@ -67,12 +68,14 @@ fn bare_past<'s>(
     ensures { IfOk result (IsBare files.now used.entry trees.entry) }
 {
     let files = files.copy()?;
+    let shapes = Shapes::new(alloc);
     let plan = Plan::new(alloc);
     let outcomes = Vec::new(alloc);
     Ok(Past {
         files,
         used,
         trees,
+        shapes,
         config,
         plan,
         outcomes,
@@ -93,12 +96,14 @@ fn planned_past<'s>(
     let InUse {
         used,
         trees,
+        shapes,
         read: _,
     } = now;
     Ok(Past {
         files,
         used,
         trees,
+        shapes,
         config,
         plan,
         outcomes,
@@ -153,20 +158,20 @@ fn renewed_by<'s>(
     with_outputs(alloc, past, counts)
 }
 
-// What the permutations of a plan come to, where these are the trees of the files in use.
+// What the permutations of a plan come to, where these are the shapes of the files in use.
 fn perms_under<'s, M: Ledger, N: Ledger>(
     alloc: Global,
     files: &Files<'s>,
     cfg: &Config,
     past: &Past<'s>,
     plan: &[PlanPerm<'s>],
-    trees: &Trees<'s>,
+    shapes: &Shapes<'s>,
     merges: &mut Steps<M>,
     evals: &mut Steps<N>,
 ) -> Result<AllDone<'s>, NoMemory>
     requires past { (before : Option FilesData) × IsPast before past.now }
     requires plan { Plans (map.get files.now resolver_path) (planned (plan_view plan.now)) }
-    requires trees { AreTreesIn (files_in_use files.now (plan_view plan.now)) trees.now }
+    requires shapes { AreShapesIn (files_in_use files.now (plan_view plan.now)) shapes.now }
     ensures outcomes { IfOk result (λ all.
         CameTo cfg.now files.now (plan_view plan.now) all.outcomes.items) }
     ensures work { (before : Option FilesData) → IsPast before past.now → IfOk result (λ all.
@@ -179,8 +184,7 @@ fn perms_under<'s, M: Ledger, N: Ledger>(
 {
     file_plan_laws();
     shapes_known();
-    let shapes = shapes_of(alloc, files, trees)?;
-    renewed_perms(alloc, files, cfg, &shapes, past, plan, merges, evals)
+    renewed_perms(alloc, files, cfg, shapes, past, plan, merges, evals)
 }
 
 // Files with this plan, of which the resolver document is read.
@@ -214,7 +218,7 @@ fn renewed_plan<'s, L: Ledger, M: Ledger, N: Ledger>(
     let list = plan.as_slice();
     let now = in_use(alloc, files, past, list, trees, parses)?;
     let others = now.read;
-    let all = perms_under(alloc, files, &cfg, past, list, &now.trees, merges, evals)?;
+    let all = perms_under(alloc, files, &cfg, past, list, &now.shapes, merges, evals)?;
     renewed_by(alloc, files, cfg, plan, now, all, first, others)
 }
 
@@ -231,7 +235,12 @@ fn bare_renewed<'s>(
     ensures outputs { IfOk result (λ r. r.outputs ≡ outputs) }
     ensures counts { IfOk result (λ r. counts_view r.counts ≡ work (first + now.entry.read) 0 0) }
 {
-    let InUse { used, trees, read } = now;
+    let InUse {
+        used,
+        trees,
+        shapes: _,
+        read,
+    } = now;
     let counts = counts_of(first, read, 0, 0)?;
     let past = bare_past(alloc, files, cfg, used, trees)?;
     Ok(Renewed {

@@ -8,6 +8,7 @@ use Rattle.permutations.specs.Permutation.{Permutation}
 use Rattle.tk_io.specs.Entries.{PutsEntry}
 use Rattle.tk_io.specs.FilesData.{FilesData}
 use Rattle.tk_io.specs.Order.{text_cmp}
+use Rattle.source_trees.specs.Trees.{AreShapesIn}
 use Rattle.rebuild_core.specs.Sums.{IsOneUnless, IsSum}
 use Rattle.rebuild_core.specs.declared.reading.InUse.{InUse}
 
@@ -37,7 +38,8 @@ AddsOther path text old new =
     ((path ≡ resolver_path) × (new ≡ old))
     ⊎ ((path ≢ resolver_path) × ((tree : Tree) × IsTreeOf text tree × PutsEntry old new path tree))
 
--- the files in use for these permutations, and their trees
+-- the files in use for these permutations, their trees and their shapes
 pub record AreInUse (files : FilesData) (perms : List Permutation) (r : InUse) : Type 0 where
   pub used : r.used ≡ files_in_use files perms
   pub trees : AreTreesIn r.used r.trees
+  pub shapes : AreShapesIn r.used r.shapes

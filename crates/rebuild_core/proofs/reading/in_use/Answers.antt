@@ -24,8 +24,20 @@ add_trees-requires g c =
       only = first_only files used c.args.trees c.requires.trees same;
     }
 
+pub shapes_since-requires : goal.shapes_since-requires
+shapes_since-requires g c =
+    let files = c.args.files.now in
+    record {
+      trees = (c.in_ok-used.used, subst (λ (m : FilesData). AreAmong m files) (sym c.in_ok-used.ensures) (in_use_among files (plan_view c.args.plan.now)), c.in_ok-read.ensures.trees);
+      past = c.requires.shapes;
+    }
+
 pub returns-clause-are : goal.returns-clause-are
-returns-clause-are g c = record { used = c.in_ok-used.ensures; trees = c.in_ok-read.ensures.trees }
+returns-clause-are g c = record {
+  used = c.in_ok-used.ensures;
+  trees = c.in_ok-read.ensures.trees;
+  shapes = c.in_ok-shapes.ensures c.in_ok-used.used (subst (λ (m : FilesData). AreAmong m c.args.files.now) (sym c.in_ok-used.ensures) (in_use_among c.args.files.now (plan_view c.args.plan.now))) c.in_ok-read.ensures.trees;
+}
 
 pub returns-clause-count : goal.returns-clause-count
 returns-clause-count g c = subst (λ (m : FilesData). ReadOthers c.args.past.now.used m c.in_ok-read.read) c.in_ok-used.ensures c.in_ok-read.ensures.count
@@ -35,3 +47,6 @@ returns-clause-at_most g c = λ n others. c.add_trees.ensures.at_most n (subst (
 
 pub returns-in_err-read-clause-at_most : goal.returns-in_err-read-clause-at_most
 returns-in_err-read-clause-at_most g c = λ n others. c.add_trees.ensures.at_most n (subst (λ (m : FilesData). ReadOthers c.args.past.now.used m n) (sym c.in_ok-used.ensures) others)
+
+pub returns-in_err-shapes-clause-at_most : goal.returns-in_err-shapes-clause-at_most
+returns-in_err-shapes-clause-at_most g c = λ n others. c.add_trees.ensures.at_most n (subst (λ (m : FilesData). ReadOthers c.args.past.now.used m n) (sym c.in_ok-used.ensures) others)

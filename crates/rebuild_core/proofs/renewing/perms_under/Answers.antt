@@ -1,15 +1,7 @@
-use Rattle.file_plan.specs.InUse.{files_in_use}
 use Rattle.file_plan.specs.View.{plan_view}
-use Rattle.file_plan.proofs.FilesInUse.{in_use_among}
 use Rattle.build_plain.proofs.Shapes.{all_known}
 use Rattle.build_plain.proofs.Stands.{all_stand}
 use Rattle.rebuild_core.proofs.renewing.perms_under.Goals as goal
-
-pub shapes_of-requires : goal.shapes_of-requires
-shapes_of-requires g c =
-    let files = c.args.files.now in
-    let perms = plan_view c.args.plan.now in
-    (files_in_use files perms, in_use_among files perms, c.requires.trees)
 
 pub renewed_perms-requires : goal.renewed_perms-requires
 renewed_perms-requires g c =
@@ -17,6 +9,6 @@ renewed_perms-requires g c =
     let perms = plan_view c.args.plan.now in
     record {
       stand = all_stand files perms c.file_plan_laws.ensures.stand c.requires.plan;
-      known = all_known c.shapes_known.ensures files perms c.in_ok-shapes.shapes (c.in_ok-shapes.ensures (files_in_use files perms) (in_use_among files perms) c.requires.trees);
+      known = all_known c.shapes_known.ensures files perms c.args.shapes.now c.requires.shapes;
       past = c.requires.past;
     }

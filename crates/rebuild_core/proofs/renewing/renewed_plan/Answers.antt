@@ -4,7 +4,7 @@ use Rattle.std.specs.FinMap as finite
 use Rattle.tk_io.specs.FilesData.{FilesData}
 use Rattle.file_plan.specs.InUse.{resolver_path}
 use Rattle.file_plan.specs.Plan.{Plans, planned}
-use Rattle.file_plan.specs.Trees.{AreTreesIn}
+use Rattle.source_trees.specs.Trees.{AreShapesIn}
 use Rattle.file_plan.specs.View.{plan_view}
 use Rattle.file_plan.specs.declared.source.PlanPerm.{PlanPerm}
 use Rattle.build_plain.specs.Work.{added, work}
@@ -17,13 +17,13 @@ use Rattle.rebuild_core.proofs.FilesWork.{planned_done, plan_most}
 use Rattle.rebuild_core.proofs.renewing.renewed_plan.Goals as goal
 
 pub in_use-requires : goal.in_use-requires
-in_use-requires g c = record { past = c.requires.past.1.trees; trees = c.requires.trees }
+in_use-requires g c = record { past = c.requires.past.1.trees; shapes = c.requires.past.1.shapes; trees = c.requires.trees }
 
 pub perms_under-requires : goal.perms_under-requires
 perms_under-requires g c = record {
   past = c.requires.past;
   plan = subst (λ (l : List PlanPerm). Plans (finite.get c.args.files.now resolver_path) (planned (plan_view l))) (sym c.as_slice-list.ensures) c.requires.plan;
-  trees = subst (λ (m : FilesData). AreTreesIn m c.in_ok-now.now.trees) c.in_ok-now.ensures.are.used c.in_ok-now.ensures.are.trees;
+  shapes = subst (λ (m : FilesData). AreShapesIn m c.in_ok-now.now.shapes) c.in_ok-now.ensures.are.used c.in_ok-now.ensures.are.shapes;
 }
 
 pub renewed_by-requires : goal.renewed_by-requires

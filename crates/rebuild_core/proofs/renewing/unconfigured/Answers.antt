@@ -18,7 +18,7 @@ returns c =
     record {
       renewed = record {
         files_are = bare.files_are;
-        past = λ same. unconfigured_past files fault _ is (bare.used_are ∙ c.new-used.ensures) (bare.trees_are ∙ c.new-trees.ensures) bare.no_plan bare.no_outcomes;
+        past = λ same. unconfigured_past files fault _ is (bare.used_are ∙ c.new-used.ensures) (bare.trees_are ∙ c.new-trees.ensures) bare.no_shapes bare.no_plan bare.no_outcomes;
         outputs = subst (λ (r : Result Settings ConfigFault). BuildsUnder files r c.in_ok-outputs.outputs) (sym is) told;
       };
       work = λ before. subst (λ (r : Result Settings ConfigFault). WorkUnderFrom before files r (work 0 0 0)) (sym is) refl;

@@ -16,7 +16,7 @@ use Rattle.rebuild_core.proofs.PermWorks.{if_both}
 use Rattle.rebuild_core.proofs.renewing.unplanned.Goals as goal
 
 pub in_use-requires : goal.in_use-requires
-in_use-requires g c = record { past = c.requires.past.1.trees; trees = c.requires.trees }
+in_use-requires g c = record { past = c.requires.past.1.trees; shapes = c.requires.past.1.shapes; trees = c.requires.trees }
 
 pub returns-in_err-outputs-clause-at_most : goal.returns-in_err-outputs-clause-at_most
 returns-in_err-outputs-clause-at_most g c = λ before start m e is begun.
