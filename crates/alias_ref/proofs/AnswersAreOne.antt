@@ -19,7 +19,7 @@ use Rattle.alias_ref.proofs.OneMeaning.{means_once}
 use Rattle.alias_ref.proofs.RingsAreReal.{walk_break-ring}
 
 module _ (flat : Flat) (token : List Step) where
-  pub one_resolved : (r s : Resolved) → IsResolved flat token r → IsResolved flat token s → (r.kind ≡ s.kind) × (plain_view r.plain ≡ plain_view s.plain) × (r.links ≡ s.links)
+  pub one_resolved : (r s : Resolved) → IsResolved flat token r → IsResolved flat token s → (r.kind ≡ s.kind) × (plain_view r.plain.value ≡ plain_view s.plain.value) × (r.links ≡ s.links)
   one_resolved r s k l =
       let same : Some r.kind ≡ Some s.kind = kind_once (written_in flat) (own_in flat) (group_in flat) k.kind l.kind in
       (cc, means_once (written_in flat) k.meaning l.meaning, links_once (written_in flat) (own_in flat) (group_in flat) k.links l.links)

@@ -50,4 +50,5 @@ mod PlainCopies
 mod RememberedTokens
 mod AliasChains
 mod SharedAliases
+mod SharedMeanings
 mod Targets

@@ -29,7 +29,7 @@ module _ (T : WrittenPlaces) where
     settle_once (follows {q = q} {r = r} a b) (follows {q = q'} {r = r'} c d) =
         settle_once b (subst (λ y. Settles T y r') (sym (lead_once a c)) d)
 
-  leaf_or_lead : {p q : Place} {v : Value} → T p ≡ Some (leaf v) → Leads T p q → ⊥
+  pub leaf_or_lead : {p q : Place} {v : Value} → T p ≡ Some (leaf v) → Leads T p q → ⊥
   leaf_or_lead e l = not_plain (ap is_reference e) l
 
   pub parts_or_lead : {p q : Place} {c : Container} {ss : List Step} → T p ≡ Some (parts c ss) → Leads T p q → ⊥

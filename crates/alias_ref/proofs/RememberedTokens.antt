@@ -17,19 +17,21 @@ use Rattle.ring.specs.Lists.{In}
 use Rattle.name_path.specs.declared.place.Place.{Place}
 use Rattle.group_inherit.specs.Flattening.{Flattened, TokenAt}
 use Rattle.json_span.specs.PlainView.{Value, plain_view}
+use Rattle.json_span.specs.declared.plain.Plain.{Plain}
 use Rattle.alias_ref.specs.Written.{Step, refers, WrittenPlaces, whole, is_written, written_in}
 use Rattle.alias_ref.specs.Meaning.{leads, Means, means_leaf, means_parts, means_target}
-use Rattle.alias_ref.specs.Kinds.{KindOf, own_in, group_in}
+use Rattle.alias_ref.specs.Kinds.{KindOf, LinksAt, own_in, group_in}
 use Rattle.alias_ref.specs.Visits.{walked, most_on_branch, most_visits}
 use Rattle.alias_ref.specs.Refs.{refs_of}
 use Rattle.alias_ref.specs.Laws.{Flat}
 use Rattle.alias_ref.specs.Answer.{IsResolved}
 use Rattle.alias_ref.specs.declared.memory.Known.{Known}
+use Rattle.alias_ref.specs.declared.resolved.Resolved.{Resolved}
 use Rattle.alias_ref.specs.declared.trace.Trace.{Trace}
 use Rattle.alias_ref.specs.declared.walking.Found.{Found}
 use Rattle.alias_ref.specs.inner.Seen.{Clean}
 use Rattle.alias_ref.specs.inner.Spots.{IsSameBranch}
-use Rattle.alias_ref.specs.inner.Remembering.{Memories, known_at, IsBlank, PathStandsAt, IsRemembered, IsKnownOf, Remembers, Serves, HasHome, CountsVisits, IsRecalled, AreAt, all_known, IsKept}
+use Rattle.alias_ref.specs.inner.Remembering.{Memories, known_at, IsBlank, PathStandsAt, IsRemembered, IsKnownOf, Remembers, Serves, HasHome, CountsVisits, IsRecalled, AreAt, all_known, IsKept, IsSame}
 use Rattle.alias_ref.proofs.RefsAreWritten.{reference_listed, In-either}
 use Rattle.alias_ref.proofs.RememberedWalks.{counts_below}
 use Rattle.alias_ref.proofs.ClosedTokens.{among_avoid}
@@ -187,10 +189,19 @@ meant_written (means_leaf e) = ap is_written e
 meant_written (means_parts e each) = ap is_written e
 meant_written (means_target (leads e w goes) means) = ap is_written e
 
+-- what comes to the same is resolved too
+pub same_resolved : (flat : Flat) (token : List Step) (r s : Resolved) → IsSame r s → IsResolved flat token r → IsResolved flat token s
+same_resolved flat token r s same x = record {
+  unbroken = x.unbroken;
+  meaning = subst (λ (v : Plain). Means (written_in flat) (whole token) (plain_view v)) (sym same.plain) x.meaning;
+  kind = subst (λ k. KindOf (written_in flat) (own_in flat) (group_in flat) token (Some k)) (sym same.kind) x.kind;
+  links = subst (LinksAt (written_in flat) (own_in flat) (group_in flat) (whole token)) (sym same.links) x.links;
+}
+
 -- what is remembered of a token that is named without steps is taken
 pub recalled : (flat : Flat) (m : Memories) (own : Bool) (named : Place) (token : List Step) (old new : Trace) (i : ℕ) (k : Known) (found : Found)
     → PathStandsAt (flat_map.entries flat) named.token i → known_at m i ≡ Some k → own ≡ true → named.trail ≡ [] → CountsVisits old new k.visits
-    → plain_view found.plain ≡ plain_view k.resolved.value.plain → found.kind ≡ Some k.resolved.value.kind → HasHome own flat m old token → IsRecalled flat old new named found
+    → plain_view found.plain ≡ plain_view k.resolved.plain.value → found.kind ≡ Some k.resolved.kind → HasHome own flat m old token → IsRecalled flat old new named found
 recalled flat m own named token old new i k found stands is its no_steps counts plain kind h =
     let T = written_in flat in
     let s : Serves flat m old.places.items token = subst (λ b. HasHome b flat m old token) its h in
@@ -263,7 +274,7 @@ named_known tokens m i (p ∷ paths) (j ∷ places) (here, at) e path h =
 
 -- the token of a place is remembered, whose named tokens are
 pub remembers_more : (flat : Flat) (old new : Memories) (i : ℕ) (token : TokenAt) (k : Known) (named : List ℕ) → Remembers flat old → IsKept old new i k
-    → slice_get (flat_map.entries flat) i ≡ Some token → IsResolved flat token.0 k.resolved.value → length (walked (written_in flat) [] (whole token.0)) ≡ k.visits
+    → slice_get (flat_map.entries flat) i ≡ Some token → IsResolved flat token.0 k.resolved → length (walked (written_in flat) [] (whole token.0)) ≡ k.visits
     → AreAt (flat_map.entries flat) (refs_of token.1.def) named → all_known old i named ≡ true → Remembers flat new
 remembers_more flat old new i token k named right kept there resolved counted at known j t x stands is =
     elim (kept.only j x is) as (λ _. IsKnownOf flat new t x) [

@@ -48,7 +48,7 @@ module _ (flat : Flat) (m : Memories) (i j : ℕ) (token : TokenAt) (k : Known) 
   pub alias_counted : length (walked (written_in flat) [] (whole token.0)) ≡ k.visits + 1
   alias_counted = omega (arith, alias_clean.counted)
 
-  pub alias_resolved : (r : Resolved) → IsShared a.named token.1 k.resolved.value r → IsResolved flat token.0 r
+  pub alias_resolved : (r : Resolved) → IsShared a.named token.1 k.resolved r → IsResolved flat token.0 r
   alias_resolved r s =
       let T = written_in flat in
       let x = right j (a.named, a.stands.0) k a.stands.1 is in
@@ -60,6 +60,6 @@ module _ (flat : Flat) (m : Memories) (i j : ℕ) (token : TokenAt) (k : Known) 
         unbroken = alias_clean.unbroken;
         meaning = subst (Means T (whole token.0)) (sym s.plain) (means_target (leads a.written written arrived) x.resolved.meaning);
         kind = kind_linked (ap link_token a.written) x.resolved.kind
-            (ap Some s.kind ∙ own_first token.1.def.kind (group_in flat token.0) k.resolved.value.kind ∙ ap (λ o. either o (either (Some k.resolved.value.kind) (group_in flat token.0))) (sym own));
+            (ap Some s.kind ∙ own_first token.1.def.kind (group_in flat token.0) k.resolved.kind ∙ ap (λ o. either o (either (Some k.resolved.kind) (group_in flat token.0))) (sym own));
         links = links_one a.written x.resolved.kind s.links;
       }

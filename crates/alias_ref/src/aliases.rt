@@ -1,7 +1,13 @@
 //! Aliases by the places of tokens: tokens whose whole values refer to others without steps.
 
-ghost use Rattle.std.specs.Prelude.{◌≡◌, IfOk, IsTrue};
-ghost use Rattle.alias_ref.specs.inner.Chains.{target_at, HasNone, is_marked, IsLed, IsMarkedAt};
+ghost use Rattle.std.specs.Prelude.{◌≡◌, Some, IfOk, IsTrue};
+ghost use Rattle.std.specs.FinMap as map;
+ghost use Rattle.std.specs.List.{slice_get};
+ghost use Rattle.group_inherit.specs.Flattening.{TokenAt};
+ghost use Rattle.alias_ref.specs.Answer.{MeansAsAt};
+ghost use Rattle.alias_ref.specs.Laws.{Flat as FlatTree};
+ghost use Rattle.alias_ref.specs.inner.Chains.{target_at, AreAliases, HasNone, is_marked};
+ghost use Rattle.alias_ref.specs.inner.Chains.{IsLed, IsMarkedAt};
 
 use std::alloc::Global;
 use tk_io::NoMemory;
@@ -49,7 +55,10 @@ impl Aliases {
     }
 
     /// Where the aliases that are known end which lead on from a place, at most so many places on.
-    pub(crate) fn end_of(&self, i: usize, most: usize) -> usize {
+    pub(crate) fn end_of(&self, i: usize, most: usize) -> usize
+        ensures { (flat : FlatTree) (token : TokenAt) → AreAliases flat self.now.targets.items
+            → slice_get (map.entries flat) i ≡ Some token → MeansAsAt flat token.0 result }
+    {
         let mut at = i;
         let mut left = most;
         while left > 0 {

@@ -3,7 +3,8 @@
 ghost use Rattle.std.specs.Prelude.{◌≡◌, ◌+◌, Some, IfOk, IfErr, IfSome};
 ghost use Rattle.std.specs.FinMap as map;
 ghost use Rattle.std.specs.List.{slice_get};
-ghost use Rattle.alias_ref.specs.Answer.{IsResolved, IsRefBreak, HasRealRing};
+ghost use Rattle.group_inherit.specs.Flattening.{TokenAt};
+ghost use Rattle.alias_ref.specs.Answer.{IsResolved, IsRefBreak, HasRealRing, MeansAsAt};
 ghost use Rattle.alias_ref.specs.Laws.{Flat as FlatTree};
 ghost use Rattle.alias_ref.specs.Written.{written_in};
 ghost use Rattle.alias_ref.specs.inner.Remembering.{Remembers};
@@ -20,7 +21,6 @@ use name_path::Path;
 use std::alloc::Global;
 use std::fmt;
 use std::marker::Model;
-use std::rc::Rc;
 use std::sync::ledger::Ledger;
 use tk_io::{NoMemory, Steps};
 
@@ -63,21 +63,17 @@ fn at_hand<'s>(
     memory: &Memory<'s>,
     i: usize,
     token: &(Path<'s>, Entry<'s>),
-) -> Result<Option<Rc<Resolved<'s>>>, NoMemory>
+) -> Result<Option<Resolved<'s>>, NoMemory>
     ensures { (flat : FlatTree) → slice_get (map.entries flat) i ≡ Some token.now
         → Remembers flat memory.now.known.items
-        → IfOk result (λ o. IfSome o (λ r. IsResolved flat token.now.0 r.value)) }
+        → IfOk result (λ o. IfSome o (IsResolved flat token.now.0)) }
 {
     if let Some(known) = memory.at(i) {
-        let resolved = known.resolved.clone()?;
+        let resolved = known.resolved.share(alloc)?;
         return Ok(Some(resolved));
     }
     let mut visits = 0;
-    let Some(resolved) = resolve_literal(alloc, &token.1, &mut visits)? else {
-        return Ok(None);
-    };
-    let resolved = Rc::new(alloc, resolved)?;
-    Ok(Some(resolved))
+    resolve_literal(alloc, &token.1, &mut visits)
 }
 
 /// What the token of a place comes to, which may be remembered. A chain of aliases that breaks a rule is told at once.
@@ -88,24 +84,22 @@ fn answer<'s>(
     aliases: &mut Aliases,
     i: usize,
     token: &(Path<'s>, Entry<'s>),
-) -> Result<Rc<Resolved<'s>>, RefFault<'s>>
+) -> Result<Resolved<'s>, RefFault<'s>>
     requires token { slice_get (map.entries flat.now) i ≡ Some token.now }
     requires right { Remembers flat.now memory.now.known.items }
     requires aliases { AreAliases flat.now aliases.old.targets.items }
     ensures targets { aliases.new.targets ≡ aliases.old.targets }
-    ensures resolved { IfOk result (λ r. IsResolved flat.now token.now.0 r.value) }
+    ensures resolved { IfOk result (IsResolved flat.now token.now.0) }
     ensures broken { IfErr result (λ e. IsRefBreak flat.now token.now.0 e) }
     ensures ring { IfErr result (λ e. HasRealRing (written_in flat.now) e) }
 {
     if let Some(known) = memory.at(i) {
-        let resolved = known.resolved.clone()?;
+        let resolved = known.resolved.share(alloc)?;
         return Ok(resolved);
     }
     follow_aliases(alloc, flat, aliases, i)?;
     let mut visits = 0;
-    let resolved = resolve(alloc, flat, memory, &token.0, &token.1, &mut visits)?;
-    let resolved = Rc::new(alloc, resolved)?;
-    Ok(resolved)
+    resolve(alloc, flat, memory, &token.0, &token.1, &mut visits)
 }
 
 impl<'a, 's> Evaluator<'a, 's> {
@@ -122,6 +116,18 @@ impl<'a, 's> Evaluator<'a, 's> {
         })
     }
 
+    /// The place of a token that means what the i-th means: the one at which the aliases end that lead on from it. None where
+    /// it is not known to be an alias; one that was evaluated is.
+    pub fn end_of(&self, i: usize) -> Option<usize>
+        ensures { (token : TokenAt) → slice_get (map.entries self.now) i ≡ Some token
+            → IfSome result (MeansAsAt self.now token.0) }
+    {
+        match self.aliases.target(i) {
+            Some(_) => Some(self.aliases.end_of(i, FARTHEST)),
+            None => None,
+        }
+    }
+
     /// What the i-th token of the tree comes to, as [`evaluate`](crate::evaluate). One step of `evals`, whatever it answers.
     ///
     /// # Errors
@@ -132,11 +138,11 @@ impl<'a, 's> Evaluator<'a, 's> {
         i: usize,
         token: &(Path<'s>, Entry<'s>),
         evals: &mut Steps<N>,
-    ) -> Result<Rc<Resolved<'s>>, RefFault<'s>>
+    ) -> Result<Resolved<'s>, RefFault<'s>>
         requires token { slice_get (map.entries self.old) i ≡ Some token.now }
         ensures tree { self.new ≡ self.old }
         ensures step { evals.new ≡ evals.old + 1 }
-        ensures resolved { IfOk result (λ r. IsResolved self.old token.now.0 r.value) }
+        ensures resolved { IfOk result (IsResolved self.old token.now.0) }
         ensures broken { IfErr result (λ e. IsRefBreak self.old token.now.0 e) }
         ensures ring { IfErr result (λ e. HasRealRing (written_in self.old) e) }
     {

@@ -8,14 +8,13 @@ use group_inherit::Entry;
 use name_path::Path;
 use std::alloc::Global;
 use std::cmp::Ordering;
-use std::rc::Rc;
 use tk_io::NoMemory;
 
 /// What a token came to whose walk breaks no rule, and how many visits that walk makes.
 #[derive(Drop)]
 pub(crate) struct Known<'s> {
     pub(crate) visits: u32,
-    pub(crate) resolved: Rc<Resolved<'s>>,
+    pub(crate) resolved: Resolved<'s>,
 }
 
 /// What is remembered of the tokens of a flat tree, at their places in path order, and which of them were looked at.

@@ -19,7 +19,6 @@ use crate::sharing::shared;
 use group_inherit::{Entry, Flat};
 use name_path::{Path, Paths};
 use std::alloc::Global;
-use std::rc::Rc;
 use tk_io::NoMemory;
 
 /// How far from a token others are prepared that its references lead to. A walk reaches no further.
@@ -96,7 +95,7 @@ fn known_of<'s>(
     requires new { known_at memory.now.known.items i ≡ None }
     requires aliases { AreAliases flat.now aliases.now.targets.items }
     ensures resolved { IfOk result (λ o. IfSome o (λ k.
-        IsResolved flat.now token.now.0 k.resolved.value)) }
+        IsResolved flat.now token.now.0 k.resolved)) }
     ensures counted { IfOk result (λ o. IfSome o (λ k.
         length (walked (written_in flat.now) [] (whole token.now.0)) ≡ k.visits)) }
 {
@@ -105,10 +104,7 @@ fn known_of<'s>(
     }
     let mut visits = 0;
     match resolve(alloc, flat, memory, &token.0, &token.1, &mut visits) {
-        Ok(resolved) => {
-            let resolved = Rc::new(alloc, resolved)?;
-            Ok(Some(Known { visits, resolved }))
-        }
+        Ok(resolved) => Ok(Some(Known { visits, resolved })),
         Err(RefFault::Broken { .. }) => Ok(None),
         Err(RefFault::NoMemory) => Err(NoMemory),
     }

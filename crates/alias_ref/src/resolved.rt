@@ -7,7 +7,7 @@ ghost use Rattle.alias_ref.specs.Answer.{IsResolved, IsRefBreak, HasRealRing};
 ghost use Rattle.alias_ref.specs.Laws.{Flat as FlatTree};
 ghost use Rattle.alias_ref.specs.Written.{Step, whole, written_in};
 ghost use Rattle.alias_ref.specs.Visits.{walk_break, walked};
-ghost use Rattle.alias_ref.specs.inner.Remembering.{Serves};
+ghost use Rattle.alias_ref.specs.inner.Remembering.{IsSame, Serves};
 ghost use Rattle.alias_ref.specs.inner.Seen.{IsFault};
 ghost use Rattle.alias_ref.specs.inner.Walks.{IsMeantAt, IsKindAt, HasLinks};
 
@@ -19,9 +19,10 @@ use crate::trace::{Trace, broken};
 use crate::walking::{Found, kind_here, walk};
 use group_inherit::{Entry, Flat};
 use json_span::Plain;
-use name_path::{Kind, Links, Path, Place, Trail};
+use name_path::{Kind, Link, Links, Path, Place, Trail};
 use std::alloc::Global;
 use std::fmt;
+use std::rc::Rc;
 use std::sync::ledger::Ledger;
 use tk_io::{NoMemory, Steps};
 
@@ -30,8 +31,8 @@ use tk_io::{NoMemory, Steps};
 pub struct Resolved<'s> {
     /// Its own `$type`; else the kind of the token that its whole value refers to; else the `$type` of the nearest group.
     pub kind: Kind,
-    /// Its value without references.
-    pub plain: Plain<'s>,
+    /// Its value without references, which a token shares with those that are aliases of it.
+    pub plain: Rc<Plain<'s>>,
     /// The references without steps that are written in its value, in written order.
     pub links: Links<'s>,
 }
@@ -39,6 +40,43 @@ pub struct Resolved<'s> {
 impl<'s> fmt::Debug for Resolved<'s> {
     fn fmt<W: fmt::Write>(&self, f: &mut fmt::Formatter<W>) -> fmt::Result {
         f.write_str("Resolved")
+    }
+}
+
+// The same link.
+fn copy_link<'s>(link: &Link<'s>) -> Result<Link<'s>, NoMemory>
+    ensures { IfOk result (λ copy. copy ≡ link.now) }
+{
+    Ok(Link {
+        trail: link.trail.copy()?,
+        target: link.target.copy()?,
+        kind: link.kind,
+    })
+}
+
+// The same links.
+fn copy_links<'s>(alloc: Global, links: &Links<'s>) -> Result<Links<'s>, NoMemory>
+    ensures { IfOk result (λ copy. copy ≡ links.now) }
+{
+    let mut copy = Links::new(alloc);
+    let items = links.as_slice();
+    for link in items {
+        let same = copy_link(link)?;
+        copy.push(same)?;
+    }
+    Ok(copy)
+}
+
+impl<'s> Resolved<'s> {
+    /// The same, of which the value is not copied.
+    pub(crate) fn share(&self, alloc: Global) -> Result<Resolved<'s>, NoMemory>
+        ensures { IfOk result (IsSame self.now) }
+    {
+        Ok(Resolved {
+            kind: self.kind,
+            plain: self.plain.clone()?,
+            links: copy_links(alloc, &self.links)?,
+        })
     }
 }
 
@@ -111,10 +149,12 @@ pub(crate) fn resolve_literal<'s>(
         return Ok(None);
     };
     *visits = values;
+    let value = Rc::new(alloc, plain)?;
+    let links = Links::new(alloc);
     Ok(Some(Resolved {
         kind,
-        plain,
-        links: Links::new(alloc),
+        plain: value,
+        links,
     }))
 }
 
@@ -150,7 +190,7 @@ pub(crate) fn resolve<'s>(
     };
     Ok(Resolved {
         kind,
-        plain: found.plain,
+        plain: Rc::new(alloc, found.plain)?,
         links,
     })
 }

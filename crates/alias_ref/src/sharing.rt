@@ -10,14 +10,12 @@ ghost use Rattle.alias_ref.specs.inner.Remembering.{known_at, Remembers};
 ghost use Rattle.alias_ref.specs.inner.Chains.{AreAliases, IsShared};
 
 use crate::aliases::Aliases;
-use crate::copying::copy_plain;
 use crate::memory::{Known, Memory};
 use crate::resolved::Resolved;
 use crate::trace::MOST_ON_BRANCH;
 use group_inherit::{Entry, Flat};
 use name_path::{Kind, Link, Links, Path, Trail};
 use std::alloc::Global;
-use std::rc::Rc;
 use tk_io::NoMemory;
 
 /// The link of an alias to the token of a path, which has this kind.
@@ -44,7 +42,7 @@ fn same_value<'s>(
     ensures { IfOk result (IsShared path.now entry.now other.now) }
 {
     let kind = entry.def.kind.unwrap_or(other.kind);
-    let plain = copy_plain(alloc, &other.plain)?;
+    let plain = other.plain.clone()?;
     let links = link_to(alloc, path, other.kind)?;
     Ok(Resolved { kind, plain, links })
 }
@@ -64,7 +62,7 @@ pub(crate) fn shared<'s>(
     requires new { known_at memory.now.known.items i ≡ None }
     requires aliases { AreAliases flat.now aliases.now.targets.items }
     ensures resolved { IfOk result (λ o. IfSome o (λ k.
-        IsResolved flat.now token.now.0 k.resolved.value)) }
+        IsResolved flat.now token.now.0 k.resolved)) }
     ensures counted { IfOk result (λ o. IfSome o (λ k.
         length (walked (written_in flat.now) [] (whole token.now.0)) ≡ k.visits)) }
 {
@@ -82,7 +80,6 @@ pub(crate) fn shared<'s>(
         return Ok(None);
     }
     let resolved = same_value(alloc, &token.1, &other.0, &known.resolved)?;
-    let resolved = Rc::new(alloc, resolved)?;
     Ok(Some(Known {
         visits: known.visits + 1,
         resolved,

@@ -23,6 +23,7 @@ mod NamedAlike
 mod AlikeRows
 mod UnchangedTokens
 mod Known
+mod TypedTokens
 mod Unreached
 mod KeptRows
 mod RowsTellFirst

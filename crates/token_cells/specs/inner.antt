@@ -3,3 +3,4 @@ pub mod Kept
 pub mod AddedToPages
 pub mod Earlier
 pub mod Turns
+pub mod Typing

@@ -14,7 +14,7 @@ ghost use Rattle.token_cells.specs.inner.Kept.{open_texts, rows_view, texts_of};
 use crate::earlier::{Earlier, KeptRows, kept_in, rows_at};
 use crate::evaluated::Evaluated;
 use crate::gathering::{grown, grown_since};
-use crate::pages::{OpenPages, Pages};
+use crate::pages::{OpenPages, Pages, Room};
 use crate::row::Row;
 use group_inherit::Flat;
 use std::alloc::Global;
@@ -64,6 +64,11 @@ impl<'s> Cells<'s> {
     {
         (self.rows.as_slice(), &self.pages)
     }
+
+    // About how many bytes each token gave to each file.
+    fn room(&self) -> Room {
+        Room::like(&self.pages, self.rows.len())
+    }
 }
 
 /// What each token of the flat tree comes to, in path order, and the files that they give. Each token is one step. A token
@@ -84,7 +89,7 @@ pub fn cells_of<'s, N: Ledger>(
     ensures at_most { evals.new ≤ evals.old + length (map.entries flat.entry) }
 {
     let KeptRows { rows, lone } = earlier.kept(alloc, cfg, &flat)?;
-    let growing = grown(alloc, &flat, cfg, rows.as_slice(), evals)?;
+    let growing = grown(alloc, &flat, cfg, rows.as_slice(), Room::USUAL, evals)?;
     growing.end(flat, cfg, lone)
 }
 
@@ -105,7 +110,8 @@ pub fn cells_beside<'s, N: Ledger>(
     ensures at_most { evals.new ≤ evals.old + length (map.entries flat.entry) }
 {
     let KeptRows { rows, lone } = kept_in(alloc, other, &flat)?;
-    let growing = grown(alloc, &flat, cfg, rows.as_slice(), evals)?;
+    let room = other.cells().room();
+    let growing = grown(alloc, &flat, cfg, rows.as_slice(), room, evals)?;
     growing.end(flat, cfg, lone)
 }
 
@@ -133,6 +139,7 @@ pub fn cells_since<'s, N: Ledger>(
     ensures at_most { evals.new ≤ evals.old + count_by is_none places.now }
 {
     let rows = rows_at(alloc, old, &flat, places)?;
-    let growing = grown_since(alloc, &flat, cfg, rows.as_slice(), evals)?;
+    let room = old.cells().room();
+    let growing = grown_since(alloc, &flat, cfg, rows.as_slice(), room, evals)?;
     growing.end(flat, cfg, lone)
 }

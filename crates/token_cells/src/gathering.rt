@@ -14,14 +14,15 @@ ghost use Rattle.token_cells.specs.inner.Earlier.{AreKept};
 ghost use Rattle.token_cells.specs.inner.Kept.{kept_view};
 ghost use Rattle.token_cells.specs.inner.Making.{ComesTo};
 ghost use Rattle.token_cells.specs.inner.Turns.{HasAdded};
+ghost use Rattle.token_cells.specs.inner.Typing.{AreTyped};
 
 use crate::cells::Cells;
-use crate::drafts::Drafts;
 use crate::evaluated::Evaluated;
 use crate::keeping::Kept;
-use crate::pages::OpenPages;
+use crate::pages::{OpenPages, Room};
 use crate::row::Row;
 use crate::token_cell::evaluated_row;
+use crate::typing::Workbench;
 use alias_ref::Evaluator;
 use group_inherit::{Entry, Flat};
 use name_path::Path;
@@ -43,7 +44,7 @@ fn kept_of<'a, 's>(kepts: &[Option<Kept<'a, 's>>], i: usize) -> Option<Kept<'a, 
 // What the i-th token of the flat tree comes to. It is one step.
 fn token_row<'s, N: Ledger>(
     alloc: Global,
-    drafts: &mut Drafts,
+    bench: &mut Workbench<'s>,
     pages: &mut OpenPages,
     evaluator: &mut Evaluator<'_, 's>,
     i: usize,
@@ -54,37 +55,39 @@ fn token_row<'s, N: Ledger>(
 ) -> Result<Row<'s>, NoMemory>
     requires token { slice_get (map.entries evaluator.old) i ≡ Some token.now }
     requires kept { IfSome kept (λ k. IsCell evaluator.old cfg.now token.now.0 (kept_view k)) }
+    requires typed { AreTyped evaluator.old cfg.now bench.old.values.known.items }
     ensures tree { evaluator.new ≡ evaluator.old }
     ensures step { evals.new ≡ evals.old + 1 }
     ensures row { IfOk result
         (ComesTo (IsCell evaluator.old cfg.now token.now.0) pages.old pages.new) }
+    ensures typed { AreTyped evaluator.old cfg.now bench.new.values.known.items }
 {
     if let Some(kept) = kept {
         evals.tick();
         let row = kept.add_to(pages)?;
         return Ok(row);
     }
-    evaluated_row(alloc, drafts, pages, evaluator, i, token, cfg, evals)
+    evaluated_row(alloc, bench, pages, evaluator, i, token, cfg, evals)
 }
 
 /// What the tokens that were added come to, and the files that grow by them.
 #[derive(Drop)]
 pub(crate) struct Growing<'s> {
-    drafts: Drafts,
+    bench: Workbench<'s>,
     pages: OpenPages,
     rows: Vec<Row<'s>>,
 }
 
 impl<'s> Growing<'s> {
     /// No token yet, of so many.
-    fn new(alloc: Global, tokens: usize) -> Result<Growing<'s>, NoMemory>
+    fn new(alloc: Global, tokens: usize, room: Room) -> Result<Growing<'s>, NoMemory>
         ensures { IfOk result (λ g. (flat : FlatTree) (settings : Settings)
             → HasAdded flat settings [] g) }
     {
-        let pages = OpenPages::new(alloc, tokens)?;
+        let pages = OpenPages::new(alloc, tokens, room)?;
         let rows = Vec::with_capacity(alloc, tokens)?;
         Ok(Growing {
-            drafts: Drafts::new(alloc),
+            bench: Workbench::new(alloc),
             pages,
             rows,
         })
@@ -103,15 +106,16 @@ impl<'s> Growing<'s> {
     ) -> Result<(), NoMemory>
         requires token { slice_get (map.entries evaluator.old) i ≡ Some token.now }
         requires kept { IfSome kept (λ k. IsCell evaluator.old cfg.now token.now.0 (kept_view k)) }
+        requires typed { AreTyped evaluator.old cfg.now self.old.bench.values.known.items }
         ensures tree { evaluator.new ≡ evaluator.old }
         ensures added { OnOk result ((tokens : List TokenAt)
             → HasAdded evaluator.old cfg.now tokens self.old
             → HasAdded evaluator.old cfg.now (tokens ++ token.now ∷ []) self.new) }
         ensures step { evals.new ≡ evals.old + 1 }
     {
-        let drafts = &mut self.drafts;
+        let bench = &mut self.bench;
         let pages = &mut self.pages;
-        let row = token_row(alloc, drafts, pages, evaluator, i, token, cfg, kept, evals)?;
+        let row = token_row(alloc, bench, pages, evaluator, i, token, cfg, kept, evals)?;
         self.rows.push(row)?;
         Ok(())
     }
@@ -141,6 +145,7 @@ impl<'s> Growing<'s> {
     ) -> Result<(), NoMemory>
         requires token { slice_get (map.entries evaluator.old) i ≡ Some token.now }
         requires kept { IfSome kept (λ k. IsCell evaluator.old cfg.now token.now.0 (kept_view k)) }
+        requires typed { AreTyped evaluator.old cfg.now self.old.bench.values.known.items }
         ensures tree { evaluator.new ≡ evaluator.old }
         ensures added { OnOk result ((tokens : List TokenAt)
             → HasAdded evaluator.old cfg.now tokens self.old
@@ -216,7 +221,7 @@ impl<'s> Growing<'s> {
             AreCells flat.entry cfg.now (map.entries flat.entry) tree.cells) }
     {
         let Growing {
-            drafts: _,
+            bench: _,
             pages,
             rows,
         } = self;
@@ -225,12 +230,13 @@ impl<'s> Growing<'s> {
     }
 }
 
-/// Adds all tokens of the flat tree, in path order, of which this is kept. Each is one step.
+/// Adds all tokens of the flat tree, in path order, of which this is kept, to files with this room. Each is one step.
 pub(crate) fn grown<'s, N: Ledger>(
     alloc: Global,
     flat: &Flat<'s>,
     cfg: &Config,
     kepts: &[Option<Kept<'_, 's>>],
+    room: Room,
     evals: &mut Steps<N>,
 ) -> Result<Growing<'s>, NoMemory>
     requires { AreKept flat.now cfg.now kepts.now }
@@ -238,7 +244,7 @@ pub(crate) fn grown<'s, N: Ledger>(
     ensures steps { OnOk result (evals.new ≡ evals.old + length (map.entries flat.now)) }
     ensures at_most { evals.new ≤ evals.old + length (map.entries flat.now) }
 {
-    let mut growing = Growing::new(alloc, flat.len())?;
+    let mut growing = Growing::new(alloc, flat.len(), room)?;
     growing.add_all(alloc, flat, cfg, kepts, evals)?;
     Ok(growing)
 }
@@ -249,6 +255,7 @@ pub(crate) fn grown_since<'s, N: Ledger>(
     flat: &Flat<'s>,
     cfg: &Config,
     kepts: &[Option<Kept<'_, 's>>],
+    room: Room,
     evals: &mut Steps<N>,
 ) -> Result<Growing<'s>, NoMemory>
     requires kept { AreKept flat.now cfg.now kepts.now }
@@ -257,7 +264,7 @@ pub(crate) fn grown_since<'s, N: Ledger>(
     ensures steps { OnOk result (evals.new ≡ evals.old + count_by is_none kepts.now) }
     ensures at_most { evals.new ≤ evals.old + count_by is_none kepts.now }
 {
-    let mut growing = Growing::new(alloc, flat.len())?;
+    let mut growing = Growing::new(alloc, flat.len(), room)?;
     growing.add_all_since(alloc, flat, cfg, kepts, evals)?;
     Ok(growing)
 }

@@ -25,6 +25,7 @@ mod row;
 mod sheet;
 mod telling;
 mod token_cell;
+mod typing;
 mod verdict;
 
 pub use cells::{Cells, cells_beside, cells_of, cells_since};

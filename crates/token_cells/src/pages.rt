@@ -16,8 +16,43 @@ use std::alloc::Global;
 use tk_io::{Body, Bytes, NoMemory};
 use transforms::{Platform, Rising, Sheet, Texts};
 
-/// About as many bytes as a token gives to a file, so that memory is seldom asked for.
-const ROOM: usize = 48;
+/// About how many bytes a token gives to each file, which decides how often memory is asked for.
+#[derive(Clone, Copy)]
+pub(crate) struct Room {
+    css: usize,
+    android: usize,
+    swift: usize,
+    json: usize,
+}
+
+impl Room {
+    /// What tokens of all types give on the average.
+    pub(crate) const USUAL: Room = Room {
+        css: 44,
+        android: 52,
+        swift: 60,
+        json: 124,
+    };
+
+    /// What so many tokens gave to these files on the average.
+    pub(crate) fn like(pages: &Pages, tokens: usize) -> Room {
+        Room {
+            css: for_one(&pages.css, tokens),
+            android: for_one(&pages.android, tokens),
+            swift: for_one(&pages.swift, tokens),
+            json: for_one(&pages.json, tokens),
+        }
+    }
+}
+
+// What each of so many tokens gave to the file, and a byte more.
+fn for_one(page: &Body, tokens: usize) -> usize {
+    let all = page.as_slice().len();
+    match all.checked_div(tokens) {
+        Some(each) => each.saturating_add(1),
+        None => all,
+    }
+}
 
 /// The files of the tokens so far, and the names of these tokens, one behind another.
 #[derive(Debug, Drop)]
@@ -39,11 +74,11 @@ pub(crate) struct Pages {
     pub(crate) names: Texts,
 }
 
-// An empty sheet with room for so many tokens.
-fn open(alloc: Global, format: Format, tokens: usize) -> Result<Sheet, NoMemory>
+// An empty sheet with room for so many tokens, of which each gives so many bytes.
+fn open(alloc: Global, format: Format, tokens: usize, room: usize) -> Result<Sheet, NoMemory>
     ensures { IfOk result (λ sheet. HoldsCells format sheet []) }
 {
-    Sheet::start(alloc, format.frame(), tokens.saturating_mul(ROOM))
+    Sheet::start(alloc, format.frame(), tokens.saturating_mul(room))
 }
 
 // The finished bytes of a sheet.
@@ -56,15 +91,15 @@ fn close(sheet: Sheet) -> Result<Body, NoMemory>
 }
 
 impl OpenPages {
-    /// The files of no token, with room for about so many.
-    pub(crate) fn new(alloc: Global, tokens: usize) -> Result<OpenPages, NoMemory>
+    /// The files of no token, with room for so many.
+    pub(crate) fn new(alloc: Global, tokens: usize, room: Room) -> Result<OpenPages, NoMemory>
         ensures { IfOk result (λ pages. HoldAll pages []) }
     {
         Ok(OpenPages {
-            css: open(alloc, Format::Css, tokens)?,
-            android: open(alloc, Format::Android, tokens)?,
-            swift: open(alloc, Format::Swift, tokens)?,
-            json: open(alloc, Format::Json, tokens)?,
+            css: open(alloc, Format::Css, tokens, room.css)?,
+            android: open(alloc, Format::Android, tokens, room.android)?,
+            swift: open(alloc, Format::Swift, tokens, room.swift)?,
+            json: open(alloc, Format::Json, tokens, room.json)?,
             names: Texts::new(alloc),
         })
     }

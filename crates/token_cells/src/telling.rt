@@ -56,7 +56,8 @@ fn add_all_refused<'s>(
     texts: &mut BreakTexts,
 ) -> Result<(), NoMemory>
     ensures { OnOk result (texts.new ≡ texts.old ++ each (report_text files.now)
-        (flat_map (cell_reports flat.now) (zip tokens.now (rows_view (texts_of pages.now) rows.now)))) }
+        (flat_map (cell_reports flat.now)
+        (zip tokens.now (rows_view (texts_of pages.now) rows.now)))) }
 {
     for (token, row) in tokens.iter().zip(rows) {
         add_refused(alloc, files, flat, token, pages, row, texts)?;

@@ -1,27 +1,31 @@
 //! What tokens come to.
 
-ghost use Rattle.std.specs.Prelude.{◌≡◌, ◌+◌, [], ◌∷◌, Ok, Some, IfOk, unwrap_or, option_map};
+ghost use Rattle.std.specs.Prelude.{◌≡◌, ◌+◌, [], ◌∷◌, Ok, Some, IfOk, IfSome, unwrap_or, option_map};
 ghost use Rattle.std.specs.FinMap as map;
 ghost use Rattle.std.specs.List.{slice_get};
 ghost use Rattle.json_span.specs.PlainView.{plain_view};
 ghost use Rattle.group_inherit.specs.Flattening.{Flattened};
 ghost use Rattle.group_inherit.specs.Merging.{either};
 ghost use Rattle.json_out.specs.Properties.{extras_view};
-ghost use Rattle.alias_ref.specs.Answer.{IsResolved, IsRefBreak};
+ghost use Rattle.alias_ref.specs.Answer.{IsResolved, IsRefBreak, MeansAsAt};
 ghost use Rattle.composite_rules.specs.Value.{value_of};
 ghost use Rattle.alias_ref.specs.Laws.{Flat as FlatTree};
+ghost use Rattle.alias_ref.specs.declared.resolved.Resolved.{Resolved as Resolution};
+ghost use Rattle.type_rules.specs.Answer.{IsBreak};
 ghost use Rattle.transforms.specs.Config.{Settings};
 ghost use Rattle.token_cells.specs.Cell.{IsCell, IsJsonOf, TokenPath, extras_of};
 ghost use Rattle.token_cells.specs.declared.pages.OpenPages.{OpenPages};
 ghost use Rattle.token_cells.specs.TokenCell.{TokenCell, Refused};
 ghost use Rattle.token_cells.specs.inner.Kept.{PageTexts, row_view};
 ghost use Rattle.token_cells.specs.inner.Making.{AddsJson, IsMadeOf, ComesTo};
+ghost use Rattle.token_cells.specs.inner.Typing.{AreTyped};
 
 use crate::adding::{add_android, add_css, add_json, add_swift};
 use crate::cells::Cells;
 use crate::drafts::Drafts;
-use crate::pages::OpenPages;
+use crate::pages::{OpenPages, Room};
 use crate::row::{Fragments, Refusal, Row};
+use crate::typing::{Workbench, typed_value};
 use alias_ref::{Evaluator, RefFault, Resolved, evaluate_entry};
 use composite_rules::{Typed, check, value_laws};
 use group_inherit::{Entry, Flat};
@@ -125,7 +129,7 @@ fn made<'s>(
     typed: &Typed<'s>,
     cfg: &Config,
 ) -> Result<Row<'s>, NoMemory>
-    requires { value_of cfg.now.legacy resolved.now.kind (plain_view resolved.now.plain)
+    requires { value_of cfg.now.legacy resolved.now.kind (plain_view resolved.now.plain.value)
         ≡ Ok typed.now }
     ensures { IfOk result (ComesTo
         (IsMadeOf cfg.now path.now entry.now resolved.now.links typed.now)
@@ -176,8 +180,21 @@ fn made<'s>(
     }))
 }
 
+// The row of a token whose value breaks a rule.
+fn value_row<'s>(alloc: Global, path: &Path<'s>, fault: ValueFault<'s>) -> Result<Row<'s>, NoMemory>
+    ensures { (flat : FlatTree) (settings : Settings) (r : Resolution) (pages : OpenPages)
+        → IsBreak (value_of settings.legacy r.kind (plain_view r.plain.value)) fault.entry
+        → IsResolved flat path.now r
+        → IfOk result (ComesTo (IsCell flat settings path.now) pages pages) }
+{
+    match fault {
+        ValueFault::Broken { rule, trail } => refused_value(alloc, path, rule, trail),
+        ValueFault::NoMemory => Err(NoMemory),
+    }
+}
+
 // What a token comes to whose references break no rule.
-fn resolved_row<'s>(
+fn own_row<'s>(
     alloc: Global,
     drafts: &mut Drafts,
     pages: &mut OpenPages,
@@ -192,8 +209,64 @@ fn resolved_row<'s>(
 {
     match check(alloc, resolved.kind, &resolved.plain, cfg.legacy) {
         Ok(typed) => made(alloc, drafts, pages, path, entry, resolved, &typed, cfg),
-        Err(ValueFault::Broken { rule, trail }) => refused_value(alloc, path, rule, trail),
-        Err(ValueFault::NoMemory) => Err(NoMemory),
+        Err(fault) => value_row(alloc, path, fault),
+    }
+}
+
+// The same of a token that means what the one at the place means, whose value may be known.
+fn shared_row<'s>(
+    alloc: Global,
+    bench: &mut Workbench<'s>,
+    pages: &mut OpenPages,
+    path: &Path<'s>,
+    entry: &Entry<'s>,
+    resolved: &Resolved<'s>,
+    place: usize,
+    cfg: &Config,
+) -> Result<Row<'s>, NoMemory>
+    requires { (flat : FlatTree) × IsResolved flat path.now resolved.now
+        × MeansAsAt flat path.now place
+        × AreTyped flat cfg.now bench.old.values.known.items }
+    ensures row { (flat : FlatTree) → map.get flat path.now ≡ Some entry.now
+        → IsResolved flat path.now resolved.now
+        → IfOk result (ComesTo (IsCell flat cfg.now path.now) pages.old pages.new) }
+    ensures typed { (flat : FlatTree) → IsResolved flat path.now resolved.now
+        → MeansAsAt flat path.now place
+        → AreTyped flat cfg.now bench.old.values.known.items
+        → AreTyped flat cfg.now bench.new.values.known.items }
+{
+    let drafts = &mut bench.drafts;
+    match typed_value(alloc, &mut bench.values, path, resolved, place, cfg) {
+        Ok(typed) => made(alloc, drafts, pages, path, entry, resolved, &typed, cfg),
+        Err(fault) => value_row(alloc, path, fault),
+    }
+}
+
+// The same of a token that means what the one at the place means, where one is told.
+fn resolved_row<'s>(
+    alloc: Global,
+    bench: &mut Workbench<'s>,
+    pages: &mut OpenPages,
+    path: &Path<'s>,
+    entry: &Entry<'s>,
+    resolved: &Resolved<'s>,
+    place: Option<usize>,
+    cfg: &Config,
+) -> Result<Row<'s>, NoMemory>
+    requires { (flat : FlatTree) × IsResolved flat path.now resolved.now
+        × IfSome place (MeansAsAt flat path.now)
+        × AreTyped flat cfg.now bench.old.values.known.items }
+    ensures row { (flat : FlatTree) → map.get flat path.now ≡ Some entry.now
+        → IsResolved flat path.now resolved.now
+        → IfOk result (ComesTo (IsCell flat cfg.now path.now) pages.old pages.new) }
+    ensures typed { (flat : FlatTree) → IsResolved flat path.now resolved.now
+        → IfSome place (MeansAsAt flat path.now)
+        → AreTyped flat cfg.now bench.old.values.known.items
+        → AreTyped flat cfg.now bench.new.values.known.items }
+{
+    match place {
+        Some(i) => shared_row(alloc, bench, pages, path, entry, resolved, i, cfg),
+        None => own_row(alloc, &mut bench.drafts, pages, path, entry, resolved, cfg),
     }
 }
 
@@ -212,11 +285,11 @@ fn fault_row<'s>(alloc: Global, fault: RefFault<'s>) -> Result<Row<'s>, NoMemory
     }
 }
 
-/// What the i-th token of the flat tree comes to. What it gives is added to the pages; its lines are made in the drafts,
-/// whatever they hold. Else as [`cell`].
+/// What the i-th token of the flat tree comes to. What it gives is added to the pages; its lines are made on the bench,
+/// whatever its drafts hold. Else as [`cell`].
 pub(crate) fn evaluated_row<'s, N: Ledger>(
     alloc: Global,
-    drafts: &mut Drafts,
+    bench: &mut Workbench<'s>,
     pages: &mut OpenPages,
     evaluator: &mut Evaluator<'_, 's>,
     i: usize,
@@ -225,13 +298,20 @@ pub(crate) fn evaluated_row<'s, N: Ledger>(
     evals: &mut Steps<N>,
 ) -> Result<Row<'s>, NoMemory>
     requires token { slice_get (map.entries evaluator.old) i ≡ Some token.now }
+    requires typed { AreTyped evaluator.old cfg.now bench.old.values.known.items }
     ensures tree { evaluator.new ≡ evaluator.old }
     ensures step { evals.new ≡ evals.old + 1 }
     ensures row { IfOk result
         (ComesTo (IsCell evaluator.old cfg.now token.now.0) pages.old pages.new) }
+    ensures typed { AreTyped evaluator.old cfg.now bench.new.values.known.items }
 {
     match evaluator.evaluate(alloc, i, token, evals) {
-        Ok(resolved) => resolved_row(alloc, drafts, pages, &token.0, &token.1, &resolved, cfg),
+        Ok(resolved) => {
+            let place = evaluator.end_of(i);
+            resolved_row(
+                alloc, bench, pages, &token.0, &token.1, &resolved, place, cfg,
+            )
+        }
         Err(fault) => fault_row(alloc, fault),
     }
 }
@@ -252,7 +332,7 @@ fn row_of_entry<'s, N: Ledger>(
 {
     let mut drafts = Drafts::new(alloc);
     match evaluate_entry(alloc, flat, path, entry, evals) {
-        Ok(resolved) => resolved_row(alloc, &mut drafts, pages, path, entry, &resolved, cfg),
+        Ok(resolved) => own_row(alloc, &mut drafts, pages, path, entry, &resolved, cfg),
         Err(fault) => fault_row(alloc, fault),
     }
 }
@@ -274,7 +354,7 @@ pub fn cell<'s, N: Ledger>(
     let Some(entry) = flat.get(path) else {
         unreachable!();
     };
-    let Ok(mut pages) = OpenPages::new(alloc, 1) else {
+    let Ok(mut pages) = OpenPages::new(alloc, 1, Room::USUAL) else {
         evals.tick();
         return Err(NoMemory);
     };

@@ -74,7 +74,8 @@ fn first_refused<'s>(
     rows: &[Row<'s>],
 ) -> Result<Option<Bytes>, NoMemory>
     ensures { IfOk result (λ text. text ≡ verdict_text files.now
-        (flat_map (cell_reports flat.now) (zip tokens.now (rows_view (texts_of pages.now) rows.now)))) }
+        (flat_map (cell_reports flat.now)
+        (zip tokens.now (rows_view (texts_of pages.now) rows.now)))) }
 {
     for (token, row) in tokens.iter().zip(rows) {
         if let Row::Broken(refusal) = row {

@@ -41,7 +41,7 @@ IsLed old new i j = (k x : ℕ) → target_at new k ≡ Some x → ((k ≡ i) ×
 -- what an alias comes to, by what the token comes to that it names
 pub record IsShared (named : List Step) (f : Flattened) (other r : Resolved) : Type 0 where
   pub kind : r.kind ≡ unwrap_or f.def.kind other.kind
-  pub plain : plain_view r.plain ≡ plain_view other.plain
+  pub plain : plain_view r.plain.value ≡ plain_view other.plain.value
   pub links : r.links ≡ record { trail = []; target = named; kind = Some other.kind } ∷ []
 
 -- the whole value of the token at a place

@@ -11,6 +11,7 @@ use Rattle.alias_ref.specs.Refs.{refs_of}
 use Rattle.alias_ref.specs.Laws.{Flat}
 use Rattle.alias_ref.specs.Answer.{IsResolved}
 use Rattle.alias_ref.specs.declared.memory.Known.{Known}
+use Rattle.alias_ref.specs.declared.resolved.Resolved.{Resolved}
 use Rattle.alias_ref.specs.declared.trace.Trace.{Trace}
 use Rattle.alias_ref.specs.declared.walking.Found.{Found}
 use Rattle.alias_ref.specs.inner.Seen.{Clean}
@@ -36,9 +37,15 @@ PathStandsAt tokens path i = (f : Flattened) × (slice_get tokens i ≡ Some (pa
 abbrev pub IsRemembered : Flat → Memories → List Step → Type 0
 IsRemembered flat m token = (i : ℕ) × (k : Known) × PathStandsAt (flat_map.entries flat) token i × (known_at m i ≡ Some k)
 
+-- what one token comes to, another does
+pub record IsSame (r s : Resolved) : Type 0 where
+  pub kind : s.kind ≡ r.kind
+  pub plain : s.plain.value ≡ r.plain.value
+  pub links : s.links ≡ r.links
+
 -- What is remembered of a token is what it comes to, and how many visits its walk makes; and something is remembered of each token that it names.
 pub record IsKnownOf (flat : Flat) (m : Memories) (token : TokenAt) (k : Known) : Type 0 where
-  pub resolved : IsResolved flat token.0 k.resolved.value
+  pub resolved : IsResolved flat token.0 k.resolved
   pub counted : length (walked (written_in flat) [] (whole token.0)) ≡ k.visits
   pub closed : (named : List Step) → In named (refs_of token.1.def) → IsRemembered flat m named
 

@@ -4,7 +4,6 @@ use Rattle.std.specs.FinMap as map
 use Rattle.alias_ref.specs.declared.memory.Known.{Known}
 use Rattle.alias_ref.specs.inner.Remembering.{known_at, PathStandsAt, CountsVisits}
 use Rattle.json_span.specs.PlainView.{plain_view}
-use Rattle.alias_ref.specs.declared.resolved.Resolved.{Resolved}
 use Rattle.alias_ref.proofs.RememberedTokens.{none_of, recalled}
 use Rattle.alias_ref.proofs.recalling.recall.Goals as goal
 
@@ -20,4 +19,4 @@ returns-clause-some c = λ token h.
     let empty : c.is_empty.result ≡ true = search rules in
     let none : named.trail ≡ [] = none_of named.trail (sym c.is_empty.ensures ∙ empty) in
     let counts : CountsVisits c.args.trace.now c.visit_known.new.self known.now.visits = search rules in
-    recalled c.args.flat.now m c.args.own named token c.args.trace.now c.visit_known.new.self i known.now _ stands is own none counts (c.in_ok-plain.ensures ∙ ap (λ (r : Resolved). plain_view r.plain) c.deref.ensures) (search rules) h
+    recalled c.args.flat.now m c.args.own named token c.args.trace.now c.visit_known.new.self i known.now _ stands is own none counts (c.in_ok-plain.ensures ∙ ap plain_view c.deref.ensures) (search rules) h

@@ -1,9 +1,8 @@
-use Rattle.std.proofs.Common.{rules, ◌≡◌, ◌+◌, ◌≤◌, List, Some, option_map, arith, sym, ap, ◌∙◌, subst}
+use Rattle.std.proofs.Common.{◌≡◌, ◌+◌, ◌≤◌, List, Some, option_map, arith, sym, ap, ◌∙◌, subst}
 use Rattle.std.specs.Borrow.{Bor}
 use Rattle.std.specs.FinMap as map
 use Rattle.std.specs.List.{slice_get}
 use Rattle.group_inherit.specs.Flattening.{TokenAt}
-use Rattle.alias_ref.specs.Answer.{IsResolved}
 use Rattle.alias_ref.specs.Visits.{most_on_branch}
 use Rattle.alias_ref.specs.declared.memory.Known.{Known}
 use Rattle.alias_ref.specs.declared.resolved.Resolved.{Resolved}
@@ -31,10 +30,8 @@ returns-clause-resolved c =
     let same : other.0 ≡ a.named = ap (λ (t : TokenAt). t.0) (some_same other (a.named, a.stands.0) (sym at ∙ a.stands.1)) in
     let room : 1 + known.visits ≤ most_on_branch = omega (arith, c.if-known-ge-MOST_ON_BRANCH.false) in
     let r : Resolved = c.in_ok-resolved.resolved in
-    let shown : IsShared other.0 token.1 known.resolved.value r = subst (λ (o : Resolved). IsShared other.0 token.1 o r) c.deref.ensures c.in_ok-resolved.ensures in
-    let its : c.in_ok-resolved-2.resolved.value ≡ r = search rules in
-    subst (IsResolved flat token.0) (sym its)
-    (alias_resolved flat m i j token known c.requires.right c.requires.token c.requires.new a is room r (subst (λ n. IsShared n token.1 known.resolved.value r) same shown))
+    let shown : IsShared other.0 token.1 known.resolved r = c.in_ok-resolved.ensures in
+    alias_resolved flat m i j token known c.requires.right c.requires.token c.requires.new a is room r (subst (λ n. IsShared n token.1 known.resolved r) same shown)
 
 pub returns-clause-counted : goal.returns-clause-counted
 returns-clause-counted c =

@@ -12,5 +12,5 @@ returns-in-Some-clause-resolved g c =
     let token = c.args.token.now in
     let same : flat ≡ c.args.self.now = search rules in
     let there = subst (λ (x : Flat). slice_get (map.entries x) c.args.i ≡ Some token) (sym same) c.requires.token in
-    subst (λ (x : Flat). IsResolved x token.0 c.in-Some.resolved.value) same
-    (some_case c.in_ok-resolved.field-0 c.in-Some.resolved (λ r. IsResolved flat token.0 r.value) c.in-Some.is (c.in_ok-resolved.ensures flat there c.self.invariant.0))
+    subst (λ (x : Flat). IsResolved x token.0 c.in-Some.resolved) same
+    (some_case c.in_ok-resolved.field-0 c.in-Some.resolved (IsResolved flat token.0) c.in-Some.is (c.in_ok-resolved.ensures flat there c.self.invariant.0))

@@ -9,6 +9,7 @@ use Rattle.alias_ref.specs.Laws.{Flat}
 use Rattle.token_cells.specs.Cell.{IsCell}
 use Rattle.token_cells.specs.inner.Kept.{kept_view}
 use Rattle.token_cells.specs.inner.Turns.{HasAdded}
+use Rattle.token_cells.specs.inner.Typing.{AreTyped}
 use Rattle.token_cells.proofs.KeptRows.{kept_if}
 use Rattle.token_cells.proofs.gathering.Growing.add_all.Goals as goal
 
@@ -26,6 +27,7 @@ add-requires g c =
     record {
       token = subst (λ (f : Flat). slice_get (map.entries f) i ≡ Some token) (sym c.loop-i.invariant.1) at;
       kept = subst (λ (f : Flat). IfSome kept (λ k. IsCell f c.args.cfg.now token.0 (kept_view k))) (sym c.loop-i.invariant.1) comes;
+      typed = subst (λ (f : Flat). AreTyped f c.args.cfg.now c.loop-i.self.bench.values.known.items) (sym c.loop-i.invariant.1) c.loop-i.invariant.0.typed;
     }
 
 pub loop-i-preserved : goal.loop-i-preserved

@@ -11,6 +11,7 @@ use Rattle.token_cells.specs.Cell.{IsCell}
 use Rattle.token_cells.specs.declared.keeping.Kept.{Kept}
 use Rattle.token_cells.specs.inner.Kept.{kept_view}
 use Rattle.token_cells.specs.inner.Turns.{HasAdded}
+use Rattle.token_cells.specs.inner.Typing.{AreTyped}
 use Rattle.token_cells.proofs.KeptRows.{kept_if, count_next, count_front}
 use Rattle.token_cells.proofs.gathering.Growing.add_all_since.Goals as goal
 
@@ -33,6 +34,7 @@ add_since-requires g c =
     record {
       token = subst (λ (f : Flat). slice_get (map.entries f) i ≡ Some token) (sym c.loop-i.invariant.1) at;
       kept = subst (λ (f : Flat). IfSome kept (λ k. IsCell f c.args.cfg.now token.0 (kept_view k))) (sym c.loop-i.invariant.1) comes;
+      typed = subst (λ (f : Flat). AreTyped f c.args.cfg.now c.loop-i.self.bench.values.known.items) (sym c.loop-i.invariant.1) c.loop-i.invariant.0.typed;
     }
 
 pub loop-i-preserved : goal.loop-i-preserved
