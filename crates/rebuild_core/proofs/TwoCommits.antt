@@ -4,7 +4,7 @@ use Rattle.tk_io.specs.FilesData.{FilesData}
 use Rattle.tk_io.specs.declared.faults.NoMemory.{NoMemory}
 use Rattle.build_plain.specs.Out.{Builds}
 use Rattle.build_plain.specs.Work.{work}
-use Rattle.rebuild_core.specs.Engine.{EngineState, counts_view, state, with_files}
+use Rattle.rebuild_core.specs.Engine.{EngineState, committed, counts_view, edited, refused}
 use Rattle.rebuild_core.specs.Laws.{FromTheSame}
 use Rattle.rebuild_core.specs.Work.{IsWorkFrom}
 use Rattle.rebuild_core.specs.declared.commit.Commit.{Commit}
@@ -15,14 +15,14 @@ Answer = Result Commit NoMemory
 -- what a commit of an engine leaves
 abbrev pub Leaves : EngineState → EngineState → Answer → Type 0
 Leaves e f r =
-    OnOk r (Builds e.files f.held) × OnOk r (f ≡ state e.files f.held (Some e.files))
-    × IfOk r (λ done. IsWorkFrom e.kept e.files (counts_view done.counts)) × OnErr r (f ≡ state e.files e.held None)
+    OnOk r (Builds e.files f.held) × OnOk r (f ≡ committed e.files f.held)
+    × IfOk r (λ done. IsWorkFrom e.kept e.files (counts_view done.counts)) × OnErr r (f ≡ refused e)
 
 files_stay : (e f : EngineState) (r : Answer) → Leaves e f r → f.files ≡ e.files
 files_stay e f (Ok done) (builds, is, counts, none) = ap (λ (x : EngineState). x.files) is
 files_stay e f (Err out) (builds, is, counts, none) = ap (λ (x : EngineState). x.files) none
 
-module _ (old put middle last : EngineState) (files : FilesData) (first second : Answer) (with_it : put ≡ with_files old files) (one : Leaves put middle first) (two : Leaves middle last second) where
+module _ (old put middle last : EngineState) (files : FilesData) (first second : Answer) (with_it : put ≡ edited old files) (one : Leaves put middle first) (two : Leaves middle last second) where
   here : put.files ≡ files
   here = ap (λ (x : EngineState). x.files) with_it
 

@@ -1,11 +1,11 @@
 //! The engine.
 
-ghost use Rattle.std.specs.Prelude.{◌≡◌, None, Some, true, IfOk, OnOk, OnErr};
+ghost use Rattle.std.specs.Prelude.{◌≡◌, None, Some, false, true, IfOk, OnOk, OnErr};
 ghost use Rattle.std.specs.FinMap as map;
 ghost use Rattle.std.specs.Option.{option_map};
 ghost use Rattle.build_plain.specs.Out.{Builds};
 ghost use Rattle.build_plain.specs.Work.{RiseWithin, added, work};
-ghost use Rattle.rebuild_core.specs.Engine.{counts_view, state, with_files};
+ghost use Rattle.rebuild_core.specs.Engine.{committed, counts_view, edited, refused, state};
 ghost use Rattle.rebuild_core.specs.Work.{IsWorkFrom};
 ghost use Rattle.rebuild_core.specs.inner.Past.{IsPast};
 
@@ -19,15 +19,15 @@ use std::mem::replace;
 use std::sync::ledger::Ledger;
 use tk_io::{NoMemory, Outputs, Steps};
 
-/// Files under edits, and the outputs of the last commit that ended well; seen as the files, the outputs that are held, and
-/// the files that they are of, where that is known. What was made of those is kept with them, so that the next commit makes
-/// only what changed.
+/// Files under edits, and the outputs of the last commit that ended well; seen as the files, the outputs that are held, the
+/// files that they are of, where that is known, and whether no file was put or taken away since. What was made of those is
+/// kept with them, so that the next commit makes only what changed.
 #[derive(Drop)]
 pub struct Engine<'s> {
     files: Files<'s>,
     held: Outputs,
     kept: Option<Kept<'s>>,
-    /// Whether no file changed since these were kept.
+    /// Whether no file was put or taken away since these were kept.
     is_built: bool,
 }
 
@@ -40,16 +40,16 @@ impl<'s> Model for Engine<'s> {
 
     ghost coded = { Prim.hlevel (codes, coded_files) };
 
-    ghost view = { λ e. state e.files e.held e.kept };
+    ghost view = { λ e. state e.files e.held e.kept e.is_built };
 
-    ghost invariant = { λ e. HoldsKept (state e.files e.held e.kept)
-        × IsBuilt e.is_built (state e.files e.held e.kept) };
+    ghost invariant = { λ e. HoldsKept (state e.files e.held e.kept e.is_built)
+        × IsBuilt e.is_built (state e.files e.held e.kept e.is_built) };
 }
 
 impl<'s> Engine<'s> {
     /// No file and no output, and nothing kept.
     pub fn new(alloc: Global) -> Engine<'s>
-        ensures { result ≡ state map.empty map.empty None }
+        ensures { result ≡ state map.empty map.empty None false }
     {
         Engine {
             files: Files::new(alloc),
@@ -65,16 +65,17 @@ impl<'s> Engine<'s> {
     /// `NoMemory`. Nothing changes then.
     pub fn put(&mut self, path: &'s str, text: &'s str) -> Result<(), NoMemory>
         ensures ok { OnOk result (self.new
-            ≡ with_files self.old (map.insert self.old.files path.entry.now text.entry.now)) }
+            ≡ edited self.old (map.insert self.old.files path.entry.now text.entry.now)) }
         ensures err { OnErr result (self.new ≡ self.old) }
     {
+        self.files.put(path, text)?;
         self.is_built = false;
-        self.files.put(path, text)
+        Ok(())
     }
 
     /// Takes the file away. Where there is no such file nothing changes. What is held stays until the next commit.
     pub fn del(&mut self, path: &str)
-        ensures { self.new ≡ with_files self.old (map.remove self.old.files path.now) }
+        ensures { self.new ≡ edited self.old (map.remove self.old.files path.now) }
     {
         self.is_built = false;
         self.files.del(path)
@@ -94,9 +95,10 @@ impl<'s> Engine<'s> {
         &self.held
     }
 
-    /// Whether no file was added, replaced or taken away since a commit that ended well: the outputs that are held are those
-    /// of the files then, and a commit would do nothing.
+    /// Whether no file was put or taken away since the last commit, and that one ended well: the outputs that are held are
+    /// those of the files then, and a commit would do nothing.
     pub fn is_built(&self) -> bool
+        ensures state { result ≡ self.now.is_built }
         ensures kept { result ≡ true → self.now.kept ≡ Some self.now.files }
         ensures held { result ≡ true → Builds self.now.files self.now.held }
     {
@@ -119,15 +121,14 @@ impl<'s> Engine<'s> {
         evals: &mut Steps<N>,
     ) -> Result<Commit, NoMemory>
         ensures held { OnOk result (Builds self.old.files self.new.held) }
-        ensures kept { OnOk result
-            (self.new ≡ state self.old.files self.new.held (Some self.old.files)) }
+        ensures kept { OnOk result (self.new ≡ committed self.old.files self.new.held) }
         ensures before { IfOk result (λ done. done.before ≡ self.old.held) }
         ensures counts { IfOk result (λ done.
             IsWorkFrom self.old.kept self.old.files (counts_view done.counts)) }
         // Each counter rose by exactly its number.
         ensures counted { IfOk result (λ done. work parses.new merges.new evals.new
             ≡ added (work parses.old merges.old evals.old) (counts_view done.counts)) }
-        ensures err { OnErr result (self.new ≡ state self.old.files self.old.held None) }
+        ensures err { OnErr result (self.new ≡ refused self.old) }
         // Where memory runs out, less may have been done.
         ensures at_most { RiseWithin (IsWorkFrom self.old.kept self.old.files)
             (work parses.old merges.old evals.old) (work parses.new merges.new evals.new) }
@@ -146,7 +147,7 @@ impl<'s> Engine<'s> {
         requires past { IsPast (Some made.past.files) made.past }
         requires outputs { Builds made.past.files made.outputs }
         ensures state { self.new
-            ≡ state self.old.files made.entry.outputs (Some made.entry.past.files) }
+            ≡ state self.old.files made.entry.outputs (Some made.entry.past.files) true }
         ensures before { result.before ≡ self.old.held }
         ensures counts { counts_view result.counts ≡ counts_view made.entry.counts }
     {

@@ -127,7 +127,8 @@ pub(crate) fn evaluated_tree<'s, N: Ledger>(
     ensures count { IfOk result (λ r.
         AreReached (option_map (λ tree. tree.now.tokens) old.entry) flat.entry r.evaluated) }
     ensures steps { IfOk result (λ r. evals.new ≡ evals.old + r.evaluated) }
-    ensures at_most { (n : ℕ) → AreReached (option_map (λ tree. tree.now.tokens) old.entry) flat.entry n
+    ensures at_most { (n : ℕ)
+        → AreReached (option_map (λ tree. tree.now.tokens) old.entry) flat.entry n
         → evals.new ≤ evals.old + n }
 {
     match old {

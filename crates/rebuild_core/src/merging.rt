@@ -121,7 +121,8 @@ fn broken_done<'s>(
     files: &Files<'s>,
     found: SourceBreak<'s>,
 ) -> Result<Done<'s>, NoMemory>
-    ensures outcome { IfOk result (λ done. outcome_of done.shared ≡ Outcome.SourceBreak found.entry) }
+    ensures outcome { IfOk result (λ done.
+        outcome_of done.shared ≡ Outcome.SourceBreak found.entry) }
     ensures nothing { IfOk result (λ done. done_view done ≡ work 0 0 0) }
 {
     let shared = Shared::new(alloc, files, Outcome::SourceBreak(found))?;
@@ -187,9 +188,11 @@ fn recast<'s, N: Ledger>(
         → IsOutcome settings files p (outcome_of kept.now)
         → IfOk result (λ done. IsOutcome cfg.now files p (outcome_of done.shared)) }
     ensures merge { IfOk result (λ done. done.merged ≡ 0) }
-    ensures count { IfOk result (λ done. AllReached (flat_of (outcome_of kept.now)) done.evaluated) }
+    ensures count { IfOk result (λ done.
+        AllReached (flat_of (outcome_of kept.now)) done.evaluated) }
     ensures steps { IfOk result (λ done. evals.new ≡ evals.old + done.evaluated) }
-    ensures at_most { (n : ℕ) → AllReached (flat_of (outcome_of kept.now)) n → evals.new ≤ evals.old + n }
+    ensures at_most { (n : ℕ) → AllReached (flat_of (outcome_of kept.now)) n
+        → evals.new ≤ evals.old + n }
 {
     match tree_in(kept.outcome()) {
         Some(tree) => {
@@ -226,7 +229,8 @@ pub(crate) fn kept_again<'s, N: Ledger>(
     evals: &mut Steps<N>,
 ) -> Result<Done<'s>, NoMemory>
     requires { IfSome last (λ tree. AreCellsOf cfg.now tree.now) }
-    ensures outcome { (files : FilesData) (p : Permutation) → IsOutcome config.now files p (outcome_of kept.now)
+    ensures outcome { (files : FilesData) (p : Permutation)
+        → IsOutcome config.now files p (outcome_of kept.now)
         → IfOk result (λ done. IsOutcome cfg.now files p (outcome_of done.shared)) }
     ensures work { (files : FilesData) (p : Permutation) (before : KeptPerm)
         → IsKeptAgain files p config.now (outcome_of kept.now) before

@@ -179,7 +179,8 @@ pub(crate) fn in_use<'s, L: Ledger>(
     ensures count { IfOk result (λ r.
         ReadOthers past.now.used (files_in_use files.now (plan_view plan.now)) r.read) }
     ensures step { IfOk result (λ r. parses.new ≡ parses.old + r.read) }
-    ensures at_most { (n : ℕ) → ReadOthers past.now.used (files_in_use files.now (plan_view plan.now)) n
+    ensures at_most { (n : ℕ)
+        → ReadOthers past.now.used (files_in_use files.now (plan_view plan.now)) n
         → parses.new ≤ parses.old + n }
 {
     in_use_laws();

@@ -5,7 +5,7 @@ use Rattle.tk_io.specs.FilesData.{FilesData}
 use Rattle.edit_script.specs.Delta.{Delta, IsDelta}
 use Rattle.build_plain.specs.Out.{Builds}
 use Rattle.build_plain.specs.Work.{Work}
-use Rattle.rebuild_core.specs.Engine.{EngineState, state}
+use Rattle.rebuild_core.specs.Engine.{EngineState, committed}
 use Rattle.rebuild_core.specs.Work.{IsWorkFrom}
 use Rattle.token_cli.specs.Told.{commit_text}
 use Rattle.token_cli.specs.inner.Step.{CommitFails, Cuts, IsCommitTold, State}
@@ -19,7 +19,7 @@ module _ (told : Telling) (s : State) (e : EngineState) (n : ℕ) where
   after = record { files = e.files; made = s.made; taken = s.taken; held = e.held; kept = e.kept; commits = n }
 
   module _ (work : Work) (before next : FilesData) (old new : Option (List ℕ)) (builds : Builds s.files e.held) (done : IsWorkFrom s.kept s.files work) (was : before ≡ s.held) (holds : next ≡ e.held) (number : n ≡ s.commits + 1) where
-    pub commit_told : e ≡ state s.files e.held (Some s.files) → (d : Delta) × IsDelta before next d × Appends old new (commit_text told n work d) → IsCommitTold told s after old new
+    pub commit_told : e ≡ committed s.files e.held → (d : Delta) × IsDelta before next d × Appends old new (commit_text told n work d) → IsCommitTold told s after old new
     commit_told is (d, leads, text) = record {
       files = ap (λ (x : EngineState). x.files) is;
       made = refl;

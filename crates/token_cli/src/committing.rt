@@ -2,7 +2,7 @@
 
 ghost use Rattle.std.specs.Prelude.{◌≡◌, ◌<◌, Some, IfOk, OnOk};
 ghost use Rattle.build_plain.specs.Out.{Builds};
-ghost use Rattle.rebuild_core.specs.Engine.{counts_view, state};
+ghost use Rattle.rebuild_core.specs.Engine.{committed, counts_view};
 ghost use Rattle.rebuild_core.specs.Work.{IsWorkFrom};
 
 use rebuild_core::{Commit, Engine};
@@ -24,7 +24,7 @@ fn counted<'s, L: Ledger, M: Ledger, N: Ledger>(
     requires evals { (evals.name ≡ N.name) × (evals.parts ≡ N.parts) × (0 < N.parts) }
     ensures held { OnOk result (Builds engine.old.files engine.new.held) }
     ensures kept { OnOk result
-        (engine.new ≡ state engine.old.files engine.new.held (Some engine.old.files)) }
+        (engine.new ≡ committed engine.old.files engine.new.held) }
     ensures before { IfOk result (λ done. done.before ≡ engine.old.held) }
     ensures counts { IfOk result (λ done.
         IsWorkFrom engine.old.kept engine.old.files (counts_view done.counts)) }
@@ -43,7 +43,7 @@ fn counted<'s, L: Ledger, M: Ledger, N: Ledger>(
 pub fn commit_files<'s>(alloc: Global, engine: &mut Engine<'s>) -> Result<Commit, NoMemory>
     ensures held { OnOk result (Builds engine.old.files engine.new.held) }
     ensures kept { OnOk result
-        (engine.new ≡ state engine.old.files engine.new.held (Some engine.old.files)) }
+        (engine.new ≡ committed engine.old.files engine.new.held) }
     ensures before { IfOk result (λ done. done.before ≡ engine.old.held) }
     ensures counts { IfOk result (λ done.
         IsWorkFrom engine.old.kept engine.old.files (counts_view done.counts)) }

@@ -6,8 +6,7 @@ ghost use Rattle.std.specs.Option.{option_map};
 ghost use Rattle.edit_script.specs.Effect.{files_by};
 ghost use Rattle.edit_script.specs.Files.{most_patched, present_of};
 ghost use Rattle.edit_script.specs.View.{event_view, outcome_view};
-ghost use Rattle.rebuild_core.specs.Engine.{with_files};
-ghost use Rattle.token_cli.specs.inner.Step.{IsRefusedBy, IsTakenBy};
+ghost use Rattle.token_cli.specs.inner.Step.{HoldsAs, IsRefusedBy, IsTakenBy};
 
 use bumpalo::Bump;
 use edit_script::{Event, Outcome, effect, made_length};
@@ -32,8 +31,9 @@ fn move_file<'s>(
     second: &'s str,
     text: &'s str,
 ) -> Result<(), NoMemory>
-    ensures { OnOk result (engine.new ≡ with_files engine.old
-        (map.insert (map.remove engine.old.files first.now) second.entry.now text.entry.now)) }
+    ensures files { OnOk result (engine.new.files
+        ≡ map.insert (map.remove engine.old.files first.now) second.entry.now text.entry.now) }
+    ensures held { OnOk result (HoldsAs engine.old engine.new) }
 {
     engine.del(first);
     engine.put(second, text)
@@ -41,8 +41,9 @@ fn move_file<'s>(
 
 // Does what comes of an event.
 fn apply<'s>(engine: &mut Engine<'s>, outcome: &Outcome<'s>) -> Result<(), NoMemory>
-    ensures { OnOk result (engine.new
-        ≡ with_files engine.old (files_by (outcome_view outcome.now) engine.old.files)) }
+    ensures files { OnOk result
+        (engine.new.files ≡ files_by (outcome_view outcome.now) engine.old.files) }
+    ensures held { OnOk result (HoldsAs engine.old engine.new) }
 {
     match outcome {
         Outcome::Put(path, text) => engine.put(path, text),

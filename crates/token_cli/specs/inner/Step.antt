@@ -15,7 +15,7 @@ use Rattle.edit_script.specs.declared.line.Line.TheVariants.{Commit}
 use Rattle.build_plain.specs.Out.{Builds}
 use Rattle.build_plain.specs.Work.{Work}
 use Rattle.file_plan.specs.Loading.{FitsFiles, IsTaken}
-use Rattle.rebuild_core.specs.Engine.{EngineState, with_files}
+use Rattle.rebuild_core.specs.Engine.{EngineState}
 use Rattle.rebuild_core.specs.Work.{IsWorkFrom}
 use Rattle.token_cli.specs.Told.{commit_text}
 use Rattle.token_cli.specs.declared.telling.Telling.{Telling}
@@ -37,9 +37,13 @@ pub record State : Type 0 where
 abbrev pub first_state : State
 first_state = record { files = map.empty; made = 0; taken = 0; held = map.empty; kept = None; commits = 0 }
 
+-- an engine holds and keeps what it held and kept
+abbrev pub HoldsAs : EngineState → EngineState → Type 0
+HoldsAs old new = (new.held ≡ old.held) × (new.kept ≡ old.kept)
+
 -- an event that fits leads from an engine's files to others, and from what the patches made to what they made with it
 abbrev pub IsTakenBy : EventData → ℕ → EngineState → EngineState → ℕ → Type 0
-IsTakenBy event before old new sum = IsTaken event before old.files new.files sum × (new ≡ with_files old new.files)
+IsTakenBy event before old new sum = IsTaken event before old.files new.files sum × HoldsAs old new
 
 -- an event that does not fit an engine's files changes nothing
 abbrev pub IsRefusedBy : EventData → ℕ → EngineState → EngineState → Type 0
