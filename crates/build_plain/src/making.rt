@@ -81,7 +81,8 @@ pub trait Made<'s>: Drop {
         earlier: &mut Earlier<'s>,
     ) -> Result<(), NoMemory>
         requires outcome { IsOutcome cfg.now files.now (plan_perm_view perm.now) outcome }
-        requires stand { AllInlineStand (home_of files.now).text (plan_sources_view perm.now.sources) }
+        requires stand { AllInlineStand (home_of files.now).text
+            (plan_sources_view perm.now.sources) }
         requires known { AreKnown files.now shapes.now (plan_sources_view perm.now.sources) }
         ensures { (all others : List Permutation)
             → is_making cfg.now files.now all (plan_perm_view perm.now ∷ others) self.old

@@ -143,7 +143,8 @@ fn flat_planned<'s, L: Ledger, M: Ledger>(
 ) -> Result<Flat<'s>, FlatStop>
     requires plan { Plans (map.get files.now resolver_path) (planned (plan_view plan.now)) }
     requires trees { AreTreesIn (resolver_in files.now) trees }
-    ensures ok { IfOk result (λ flat. ComesToIn files.now (plan_view plan.now) name.now (has_tree flat)) }
+    ensures ok { IfOk result (λ flat.
+        ComesToIn files.now (plan_view plan.now) name.now (has_tree flat)) }
     ensures stop { IfErr result (IsStop (ComesToIn files.now (plan_view plan.now) name.now)) }
     ensures parses { parses.new + text_count (map.get files.now resolver_path)
         ≤ parses.old + map.len (files_in_use files.now (plan_view plan.now)) }

@@ -22,7 +22,8 @@ pub(crate) struct Row<'p> {
 
 // A row with one choice more.
 fn longer<'p>(alloc: Global, row: &Row<'p>, choice: Choice<'p>) -> Result<Row<'p>, NoMemory>
-    ensures { IfOk result (λ longer. row_view longer ≡ row_view row.now ++ choice_view choice.entry ∷ []) }
+    ensures { IfOk result (λ longer.
+        row_view longer ≡ row_view row.now ++ choice_view choice.entry ∷ []) }
 {
     let mut choices = Vec::with_capacity(alloc, row.choices.len())?;
     choices.extend_from_slice(row.choices.as_slice())?;

@@ -41,7 +41,8 @@ fn is_modifier(name: &str) -> bool
 // The first of the contexts whose name can't be printed.
 fn bad_context<'p>(contexts: &'p [SetDef<'_, '_>]) -> Option<&'p str>
     ensures { option_map (λ name. name.now) result
-        ≡ slice_get (filter (λ c. not (is_printable c)) (map (λ c. c.name) (sets_view contexts.entry.now))) 0 }
+        ≡ slice_get (filter (λ c. not (is_printable c))
+        (map (λ c. c.name) (sets_view contexts.entry.now))) 0 }
 {
     for context in contexts {
         if !is_printable(context.name.as_str()) {

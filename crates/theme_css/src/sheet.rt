@@ -98,7 +98,8 @@ fn sheet_of_resolver(
     outputs: &Outputs,
     resolver: &Resolver<'_, '_>,
 ) -> Result<Bytes, ThemeStop>
-    ensures sheet { IfOk result (λ sheet. IsSheetOfOrder outputs.now (order_view resolver.now.order) sheet) }
+    ensures sheet { IfOk result (λ sheet.
+        IsSheetOfOrder outputs.now (order_view resolver.now.order) sheet) }
     ensures stop { IfErr result (IsBadName (order_view resolver.now.order)) }
 {
     let Ok(perms) = list(alloc, resolver) else {
@@ -110,7 +111,8 @@ fn sheet_of_resolver(
 
 // The sheet of a resolver document's tree. The outputs hold no refusal, so that the document breaks no rule.
 fn sheet_of_document(alloc: Global, outputs: &Outputs, root: &Node<'_>) -> Result<Bytes, ThemeStop>
-    ensures { (text : List ℕ) → IsAnswer text (shows (node_view root.now)) → IsAnswerOf outputs.now (Resolves (Some text)) result }
+    ensures { (text : List ℕ) → IsAnswer text (shows (node_view root.now))
+        → IsAnswerOf outputs.now (Resolves (Some text)) result }
 {
     let Ok(resolver) = read_resolver(alloc, root) else {
         return Err(ThemeStop::NoMemory);
@@ -120,7 +122,8 @@ fn sheet_of_document(alloc: Global, outputs: &Outputs, root: &Node<'_>) -> Resul
 
 // The sheet by what the text of the resolver document reads as.
 fn sheet_of_tree(alloc: Global, outputs: &Outputs, tree: &Tree<'_>) -> Result<Bytes, ThemeStop>
-    ensures { (text : List ℕ) → IsTreeOf text tree.now → IsAnswerOf outputs.now (Resolves (Some text)) result }
+    ensures { (text : List ℕ) → IsTreeOf text tree.now
+        → IsAnswerOf outputs.now (Resolves (Some text)) result }
 {
     match tree {
         Tree::Read(root) => sheet_of_document(alloc, outputs, root),
@@ -130,7 +133,8 @@ fn sheet_of_tree(alloc: Global, outputs: &Outputs, tree: &Tree<'_>) -> Result<By
 
 // The sheet by the tree of the resolver document, where there is one.
 fn sheet_by(alloc: Global, outputs: &Outputs, tree: &Option<Tree<'_>>) -> Result<Bytes, ThemeStop>
-    ensures { (text : Option (List ℕ)) → IsRead text tree.now → IsAnswerOf outputs.now (Resolves text) result }
+    ensures { (text : Option (List ℕ)) → IsRead text tree.now
+        → IsAnswerOf outputs.now (Resolves text) result }
 {
     match tree {
         Some(read) => sheet_of_tree(alloc, outputs, read),
