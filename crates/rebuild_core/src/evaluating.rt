@@ -104,9 +104,9 @@ fn evaluated_since<'s, N: Ledger>(
     ensures at_most { (n : ℕ) → AreReached (Some old.now.tokens) flat.entry n
         → evals.new ≤ evals.old + n }
 {
-    let (places, lone) = kept_places(alloc, old.tokens(), old.lone(), &flat)?;
+    let (places, named) = kept_places(alloc, old.tokens(), old.named(), &flat)?;
     let evaluated = places_left(places.as_slice());
-    let tree = cells_since(alloc, flat, cfg, old, places.as_slice(), lone, evals)?;
+    let tree = cells_since(alloc, flat, cfg, old, places.as_slice(), named, evals)?;
     Ok(Counted { tree, evaluated })
 }
 

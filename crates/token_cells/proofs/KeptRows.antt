@@ -14,7 +14,8 @@ use Rattle.group_inherit.specs.Flattening.{TokenAt}
 use Rattle.alias_ref.specs.Laws.{Flat}
 use Rattle.alias_ref.specs.Unchanged.{AreDefinitions}
 use Rattle.transforms.specs.Config.{Settings}
-use Rattle.tree_changes.specs.Lone.{AreLone}
+use Rattle.tree_changes.specs.Named.{AllNameAs}
+use Rattle.tree_changes.specs.declared.named.Named.{Named}
 use Rattle.tree_changes.specs.Standing.{KeepsAt}
 use Rattle.token_cells.specs.Cell.{IsCell, AreCells}
 use Rattle.token_cells.specs.Laws.{UnreachedIsAlike}
@@ -83,8 +84,8 @@ kept_if flat settings kepts i token (Some k) are at from = are i token k at (fro
 pub none_kept : (flat : Flat) (settings : Settings) (kepts : List (Option Kept)) → kepts ≡ [] → AreKept flat settings kepts
 none_kept flat settings kepts none i token kept at is = absurd (none_is (ap (λ (ks : List (Option Kept)). slice_get ks i) (sym none) ∙ is))
 
-pub none_lone : (flat : Flat) (lone : List Bool) → lone ≡ [] → AreLone (finite.entries flat) lone
-none_lone flat lone none i token is at said = absurd (none_is (ap (λ (bs : List Bool). slice_get bs i) (sym none) ∙ said))
+pub none_known : (flat : Flat) (named : List Named) → named ≡ [] → AllNameAs (finite.entries flat) named
+none_known flat named none i token is at said = absurd (none_is (ap (λ (ns : List Named). slice_get ns i) (sym none) ∙ said))
 
 -- Places that are kept are those of rows.
 pub within_rows : (old new : Flat) (settings : Settings) (pages : PageTexts) (rows : List Row) (places : List (Option ℕ))

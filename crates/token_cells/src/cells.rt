@@ -4,7 +4,7 @@ ghost use Rattle.std.specs.Prelude.{◌≡◌, ◌+◌, ◌≤◌, List, IfOk, O
 ghost use Rattle.std.specs.FinMap as map;
 ghost use Rattle.std.specs.List.{AllZip, count_by};
 ghost use Rattle.std.specs.Option.{is_none};
-ghost use Rattle.tree_changes.specs.Lone.{AreLone};
+ghost use Rattle.tree_changes.specs.Named.{AllNameAs};
 ghost use Rattle.tree_changes.specs.Standing.{KeepsAt};
 ghost use Rattle.token_cells.specs.Cell.{AreCells};
 ghost use Rattle.token_cells.specs.TokenCell.{TokenCell};
@@ -22,6 +22,7 @@ use std::marker::Model;
 use std::sync::ledger::Ledger;
 use tk_io::{NoMemory, Steps};
 use transforms::Config;
+use tree_changes::Named;
 
 /// What tokens come to, in path order, and the files that they give, of which each token's lines are a part; seen as the
 /// list of what they come to.
@@ -88,9 +89,9 @@ pub fn cells_of<'s, N: Ledger>(
     // Where memory runs out, some tokens are not evaluated.
     ensures at_most { evals.new ≤ evals.old + length (map.entries flat.entry) }
 {
-    let KeptRows { rows, lone } = earlier.kept(alloc, cfg, &flat)?;
+    let KeptRows { rows, named } = earlier.kept(alloc, cfg, &flat)?;
     let growing = grown(alloc, &flat, cfg, rows.as_slice(), Room::USUAL, evals)?;
-    growing.end(flat, cfg, lone)
+    growing.end(flat, cfg, named)
 }
 
 /// The same, with what was evaluated before under the same configuration in another tree.
@@ -109,15 +110,15 @@ pub fn cells_beside<'s, N: Ledger>(
     // Where memory runs out, some tokens are not evaluated.
     ensures at_most { evals.new ≤ evals.old + length (map.entries flat.entry) }
 {
-    let KeptRows { rows, lone } = kept_in(alloc, other, &flat)?;
+    let KeptRows { rows, named } = kept_in(alloc, other, &flat)?;
     let room = other.cells().room();
     let growing = grown(alloc, &flat, cfg, rows.as_slice(), room, evals)?;
-    growing.end(flat, cfg, lone)
+    growing.end(flat, cfg, named)
 }
 
 /// What each token of the flat tree comes to, in path order, with what was evaluated before under the same configuration,
 /// where its tokens keep these places in the tree that was. A token that keeps its place is taken from there, and each
-/// other one is one step. `lone` says of tokens of the flat tree that they are known to name no other; both are what
+/// other one is one step. `named` is what is known of the names of tokens of the flat tree; both are what
 /// `kept_places` tells.
 pub fn cells_since<'s, N: Ledger>(
     alloc: Global,
@@ -125,12 +126,12 @@ pub fn cells_since<'s, N: Ledger>(
     cfg: &Config,
     old: &Evaluated<'s>,
     places: &[Option<usize>],
-    lone: Vec<bool>,
+    named: Vec<Named>,
     evals: &mut Steps<N>,
 ) -> Result<Evaluated<'s>, NoMemory>
     requires old { AreCells old.now.tokens cfg.now (map.entries old.now.tokens) old.now.cells }
     requires places { AllZip (KeepsAt old.now.tokens flat) (map.entries flat) places.now }
-    requires lone { AreLone (map.entries flat) lone.items }
+    requires named { AllNameAs (map.entries flat) named.items }
     ensures tokens { IfOk result (λ tree. tree.tokens ≡ flat.entry) }
     ensures ok { IfOk result (λ tree.
         AreCells flat.entry cfg.now (map.entries flat.entry) tree.cells) }
@@ -141,5 +142,5 @@ pub fn cells_since<'s, N: Ledger>(
     let rows = rows_at(alloc, old, &flat, places)?;
     let room = old.cells().room();
     let growing = grown_since(alloc, &flat, cfg, rows.as_slice(), room, evals)?;
-    growing.end(flat, cfg, lone)
+    growing.end(flat, cfg, named)
 }

@@ -20,7 +20,7 @@ use std::alloc::Global;
 use std::marker::Model;
 use tk_io::NoMemory;
 use transforms::Config;
-use tree_changes::{definitions_stand, kept_places};
+use tree_changes::{Named, definitions_stand, kept_places};
 
 /// A tree that was evaluated, and the configuration under which it was.
 #[derive(Debug, Drop)]
@@ -122,12 +122,12 @@ pub(crate) fn rows_at<'a, 's>(
     kept_rows(alloc, rows, pages, places)
 }
 
-/// What is kept for the tokens of a flat tree, at their places, where something is, and of each whether it is known to name
-/// no other.
+/// What is kept for the tokens of a flat tree, at their places, where something is, and what is known of the names of
+/// each.
 #[derive(Drop)]
 pub(crate) struct KeptRows<'a, 's> {
     pub(crate) rows: Vec<Option<Kept<'a, 's>>>,
-    pub(crate) lone: Vec<bool>,
+    pub(crate) named: Vec<Named>,
 }
 
 /// What those tokens of the flat tree come to, at their places, which come to what they came to in an earlier one.
@@ -142,9 +142,9 @@ pub(crate) fn kept_in<'a, 's>(
         → AreCells tree.now.tokens settings (map.entries tree.now.tokens) tree.now.cells
         → IsKept flat.now settings kept) }
 {
-    let (places, lone) = kept_places(alloc, tree.tokens(), tree.lone(), flat)?;
+    let (places, named) = kept_places(alloc, tree.tokens(), tree.named(), flat)?;
     let rows = rows_at(alloc, tree, flat, places.as_slice())?;
-    Ok(KeptRows { rows, lone })
+    Ok(KeptRows { rows, named })
 }
 
 impl<'s> Known<'s> {
@@ -215,7 +215,7 @@ impl<'s> Earlier<'s> {
             Some(known) => known.kept(alloc, flat),
             None => Ok(KeptRows {
                 rows: Vec::new(alloc),
-                lone: Vec::new(alloc),
+                named: Vec::new(alloc),
             }),
         }
     }

@@ -2,19 +2,20 @@
 
 ghost use Rattle.std.specs.Prelude.{◌≡◌};
 ghost use Rattle.std.specs.FinMap as map;
-ghost use Rattle.tree_changes.specs.Lone.{AreLone};
+ghost use Rattle.tree_changes.specs.Named.{AllNameAs};
 
 use crate::cells::Cells;
 use group_inherit::Flat;
 use std::marker::Model;
+use tree_changes::Named;
 
 /// A flat tree, and what its tokens come to.
 #[derive(Debug, Drop)]
 pub struct Evaluated<'s> {
     tokens: Flat<'s>,
     cells: Cells<'s>,
-    /// Of each token, as far as it is said, whether it is known to name no other.
-    lone: Vec<bool>,
+    /// What is known of the names of each token, in path order, as far as it is said.
+    named: Vec<Named>,
 }
 
 impl<'s> Model for Evaluated<'s> {
@@ -28,22 +29,22 @@ impl<'s> Model for Evaluated<'s> {
 
     ghost view = { λ e. record { tokens = e.tokens; cells = e.cells } };
 
-    ghost use Rattle.tree_changes.specs.Lone.{AreLone};
+    ghost use Rattle.tree_changes.specs.Named.{AllNameAs};
 
-    ghost invariant = { λ e. AreLone (map.entries e.tokens) e.lone.items };
+    ghost invariant = { λ e. AllNameAs (map.entries e.tokens) e.named.items };
 }
 
 impl<'s> Evaluated<'s> {
-    /// Tokens with what each comes to, and which of them are known to name no other.
-    pub(crate) fn new(tokens: Flat<'s>, cells: Cells<'s>, lone: Vec<bool>) -> Evaluated<'s>
-        requires { AreLone (map.entries tokens) lone.items }
+    /// Tokens with what each comes to, and what is known of their names.
+    pub(crate) fn new(tokens: Flat<'s>, cells: Cells<'s>, named: Vec<Named>) -> Evaluated<'s>
+        requires { AllNameAs (map.entries tokens) named.items }
         ensures tokens { result.tokens ≡ tokens.entry }
         ensures cells { result.cells ≡ cells.entry }
     {
         Evaluated {
             tokens,
             cells,
-            lone,
+            named,
         }
     }
 
@@ -69,10 +70,10 @@ impl<'s> Evaluated<'s> {
         (self.tokens, self.cells)
     }
 
-    /// Of each token, as far as it is said, whether it is known to name no other.
-    pub fn lone(&self) -> &[bool]
-        ensures { AreLone (map.entries self.now.tokens) result.now }
+    /// What is known of the names of each token, in path order, as far as it is said.
+    pub fn named(&self) -> &[Named]
+        ensures { AllNameAs (map.entries self.now.tokens) result.now }
     {
-        self.lone.as_slice()
+        self.named.as_slice()
     }
 }

@@ -8,7 +8,7 @@ ghost use Rattle.group_inherit.specs.Flattening.{TokenAt};
 ghost use Rattle.alias_ref.specs.Laws.{Flat as FlatTree};
 ghost use Rattle.transforms.specs.Config.{Settings};
 ghost use Rattle.token_cells.specs.Cell.{AreCells, IsCell};
-ghost use Rattle.tree_changes.specs.Lone.{AreLone};
+ghost use Rattle.tree_changes.specs.Named.{AllNameAs};
 ghost use Rattle.token_cells.specs.declared.keeping.Kept.{Kept as KeptRow};
 ghost use Rattle.token_cells.specs.inner.Earlier.{AreKept};
 ghost use Rattle.token_cells.specs.inner.Kept.{kept_view};
@@ -30,6 +30,7 @@ use std::alloc::Global;
 use std::sync::ledger::Ledger;
 use tk_io::{NoMemory, Steps};
 use transforms::Config;
+use tree_changes::Named;
 
 // What is kept of the i-th token.
 fn kept_of<'a, 's>(kepts: &[Option<Kept<'a, 's>>], i: usize) -> Option<Kept<'a, 's>>
@@ -212,10 +213,10 @@ impl<'s> Growing<'s> {
         self,
         flat: Flat<'s>,
         cfg: &Config,
-        lone: Vec<bool>,
+        named: Vec<Named>,
     ) -> Result<Evaluated<'s>, NoMemory>
         requires added { HasAdded flat cfg.now (map.entries flat) self }
-        requires lone { AreLone (map.entries flat) lone.items }
+        requires named { AllNameAs (map.entries flat) named.items }
         ensures tokens { IfOk result (λ tree. tree.tokens ≡ flat.entry) }
         ensures cells { IfOk result (λ tree.
             AreCells flat.entry cfg.now (map.entries flat.entry) tree.cells) }
@@ -226,7 +227,7 @@ impl<'s> Growing<'s> {
             rows,
         } = self;
         let cells = Cells::new(pages, rows)?;
-        Ok(Evaluated::new(flat, cells, lone))
+        Ok(Evaluated::new(flat, cells, named))
     }
 }
 

@@ -5,9 +5,7 @@
 //! tree give, with the names of all tokens one behind another, and for each token a *row*, which says where its lines and
 //! names stand in the pages, or which rule it breaks. In a row, `Shown` is what a token shows on one platform: the place of
 //! its lines in the file and a *run* of names, from the first to behind the last. The *drafts* are the buffers in which a
-//! token's lines and names are made before they are added to the pages; one token after another uses them. A token is *lone*
-//! where it is known to refer to no other token, so that its cell can be taken from an earlier tree in which it stands the
-//! same.
+//! token's lines and names are made before they are added to the pages; one token after another uses them.
 #![tactic(auto)]
 
 mod adding;

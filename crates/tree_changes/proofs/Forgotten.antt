@@ -1,5 +1,5 @@
 -- Places of tokens that are reached are forgotten, and those that are left are kept.
-use Rattle.std.proofs.Common.{◌≡◌, ◌≢◌, inl, inr, ℕ, zero, suc, ◌+◌, ◌<◌, Bool, List, [], ◌∷◌, ◌++◌, length, get_or, set, take, Option, Some, None, All, Contains, refl, sym, ap, subst, ◌∙◌, arith, length-set, get_or-set_same}
+use Rattle.std.proofs.Common.{◌≡◌, ◌≢◌, inl, inr, ℕ, zero, suc, ◌+◌, ◌<◌, List, [], ◌∷◌, ◌++◌, length, get_or, set, take, Option, Some, None, All, Contains, refl, sym, ap, subst, ◌∙◌, arith, length-set, get_or-set_same}
 use Rattle.std.proofs.lemmas.Bool.{cases_eq}
 use Rattle.std.proofs.lemmas.List.{take_all, take_more}
 use Rattle.std.proofs.lemmas.Option.{slice_get-get_or}
@@ -11,8 +11,8 @@ use Rattle.ring.proofs.ListWords.{in_has_place, has_place_in}
 use Rattle.ref_graph.specs.Walk.{WalksTo}
 use Rattle.group_inherit.specs.Flattening.{TokenAt}
 use Rattle.alias_ref.specs.Laws.{Flat}
-use Rattle.tree_changes.specs.Reached.{IsReached}
-use Rattle.tree_changes.specs.Lone.{IsLone, AreLone}
+use Rattle.tree_changes.specs.Named.{AllNameAs, NamesAs}
+use Rattle.tree_changes.specs.declared.named.Named.{Named}
 use Rattle.tree_changes.specs.Standing.{StandsAt, KeepsAt}
 use Rattle.tree_changes.specs.inner.Forgetting.{IsForgotten, AreForgotten}
 use Rattle.tree_changes.specs.inner.Links.{AreLinked}
@@ -25,7 +25,7 @@ none_some e = cc
 pub none_forgotten : (places : List (Option ℕ)) → AreForgotten [] places places
 none_forgotten places = record { long = refl; each = λ i. inr ((λ m. m), refl) }
 
-got_other : {X : Type 0} (xs : List X) (i j : ℕ) (x : X) → i ≢ j → slice_get (set xs j x) i ≡ slice_get xs i
+pub got_other : {X : Type 0} (xs : List X) (i j : ℕ) (x : X) → i ≢ j → slice_get (set xs j x) i ≡ slice_get xs i
 got_other [] i j x n = refl
 got_other (y ∷ ys) zero zero x n = absurd (n refl)
 got_other (y ∷ ys) zero (suc j) x n = refl
@@ -125,6 +125,6 @@ pub places_long : (places : List (Option ℕ)) (tokens : List TokenAt) (R : Toke
 places_long places tokens R all = long_zip R tokens places all
 
 -- what is known of all tokens
-pub all_lone : (tokens : List TokenAt) (lone : List Bool) → AllZip IsLone (take (length tokens) tokens) lone → AreLone tokens lone
-all_lone tokens lone all i token is at said =
-    at_places IsLone tokens lone i token is (subst (λ (ts : List TokenAt). AllZip IsLone ts lone) (take_all (length tokens) tokens (omega arith)) all) at said
+pub all_known : (tokens : List TokenAt) (named : List Named) → AllZip (NamesAs tokens) (take (length tokens) tokens) named → AllNameAs tokens named
+all_known tokens named all i token is at said =
+    at_places (NamesAs tokens) tokens named i token is (subst (λ (ts : List TokenAt). AllZip (NamesAs tokens) ts named) (take_all (length tokens) tokens (omega arith)) all) at said

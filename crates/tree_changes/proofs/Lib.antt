@@ -5,4 +5,5 @@ pub mod LinksReach
 pub mod Naming
 pub mod Linking
 pub mod Forgotten
+pub mod Calm
 pub mod AllDefined

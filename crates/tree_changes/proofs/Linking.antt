@@ -1,5 +1,5 @@
 -- Tokens are linked to those that they name, one after another.
-use Rattle.std.proofs.Common.{◌≡◌, ◌≢◌, ◌⊎◌, inl, inr, ℕ, zero, suc, ◌+◌, ◌<◌, ◌≤◌, Bool, true, false, List, [], ◌∷◌, ◌++◌, length, get_or, set, take, replicate, is_some, Option, Some, None, option_map, All, refl, sym, ap, subst, ◌∙◌, arith, length-set, get_or-set_same, get_or-set_other}
+use Rattle.std.proofs.Common.{◌≡◌, ◌≢◌, ◌⊎◌, inl, inr, ℕ, zero, suc, ◌+◌, ◌<◌, Bool, true, false, List, [], ◌∷◌, ◌++◌, length, get_or, set, take, replicate, is_some, Option, Some, None, option_map, All, refl, sym, ap, subst, ◌∙◌, arith, length-set, get_or-set_same, get_or-set_other}
 use Rattle.std.proofs.lemmas.Bool.{cases_eq, cases_lt}
 use Rattle.std.proofs.lemmas.Bool.Decides.{Decides-eqb}
 use Rattle.std.proofs.lemmas.List.{length-replicate, take_more}
@@ -12,17 +12,19 @@ use Rattle.ring.specs.Lists.{In}
 use Rattle.ring.proofs.Ends.{in_cases, in_last, in_left}
 use Rattle.ring.proofs.ListWords.{has_place_in}
 use Rattle.ref_graph.specs.Walk.{targets_of}
-use Rattle.group_inherit.specs.Flattening.{Flattened, TokenAt}
-use Rattle.token_tree.specs.Promise.{IsDefinition}
-use Rattle.alias_ref.specs.Laws.{Flat, RefsOfSource}
+use Rattle.group_inherit.specs.Flattening.{TokenAt}
+use Rattle.alias_ref.specs.Laws.{Flat}
 use Rattle.alias_ref.specs.Refs.{refs_of}
 use Rattle.alias_ref.specs.Unchanged.{raw_of, raw_in, DifferDecides, at_start}
 use Rattle.alias_ref.specs.Written.{Step}
 use Rattle.tree_changes.specs.Reached.{is_changed, IsReached}
-use Rattle.tree_changes.specs.Lone.{IsLone, AreLone}
+use Rattle.tree_changes.specs.Named.{NamesAs}
 use Rattle.tree_changes.specs.Standing.{StandsAt}
-use Rattle.tree_changes.specs.inner.Links.{IsThere, IsStillEnd, IsListed, IsNameOf, AreNamed, NamesChanged, BeginsAt, IsLinked, AreLinked, IsMissed}
-use Rattle.tree_changes.proofs.LinksReach.{some_is, there_found}
+use Rattle.tree_changes.specs.inner.Links.{IsThere, IsCalm, IsListed, IsNameOf, AreNamed, NamesChanged, BeginsAt, IsLinked, AreLinked, AreUnsettled}
+use Rattle.tree_changes.specs.inner.Settling.{AreSettled}
+use Rattle.tree_changes.specs.declared.named.Named.{Named}
+use Rattle.tree_changes.specs.declared.named.Named.TheVariants.{One}
+use Rattle.tree_changes.proofs.LinksReach.{got_in, some_is, there_found}
 use Rattle.tree_changes.proofs.Walks.{begun}
 
 -- No token was looked at.
@@ -106,12 +108,13 @@ module _ (old new : Flat) (i : ℕ) (token : TokenAt) (edges : List (List ℕ)) 
           go (inl h) = kept (so_far.all place other h there)
           go (inr e) = inl (subst (λ (k : ℕ). In k after) (sym e) (subst (In i) (sym added) (in_last begins i)))
 
-  -- It names no other.
-  pub alone_more : is_changed old new token.0 ≡ false → refs_of token.1.def ≡ [] → AreLinked old new (i + 1) edges begins
-  alone_more same none = record { long = so_far.long; named = so_far.named; begun = so_far.begun; all = all }
+  -- No change is reached from those that it names.
+  pub calm_more : is_changed old new token.0 ≡ false → ((name : List Step) → In name (refs_of token.1.def) → IsCalm old new name)
+      → AreLinked old new (i + 1) edges begins
+  calm_more same calm = record { long = so_far.long; named = so_far.named; begun = so_far.begun; all = all }
     where
       linked : IsLinked old new edges i token
-      linked = record { same = same; all = λ name j. absurd (subst (In name) none j) }
+      linked = record { same = same; all = λ name j. inr (calm name j) }
 
       all : (place : ℕ) (other : TokenAt) → place < i + 1 → slice_get tokens place ≡ Some other → In place begins ⊎ IsLinked old new edges place other
       all place other less there = go (below_next place i less)
@@ -158,13 +161,13 @@ module _ (old new : Flat) (i : ℕ) (token : TokenAt) (edges : List (List ℕ)) 
     linked : IsLinked old new after i token
     linked = record {
       same = same;
-      all = λ name j. subst (λ (ps : List ℕ). IsListed new ps name ⊎ IsStillEnd old new name) (sym (at_it i refl)) (named.all name j);
+      all = λ name j. subst (λ (ps : List ℕ). IsListed new ps name ⊎ IsCalm old new name) (sym (at_it i refl)) (named.all name j);
     }
 
     moved : (place : ℕ) (other : TokenAt) → place ≢ i → IsLinked old new edges place other → IsLinked old new after place other
     moved place other n l = record {
       same = l.same;
-      all = λ name j. subst (λ (ps : List ℕ). IsListed new ps name ⊎ IsStillEnd old new name) (sym (elsewhere place n)) (l.all name j);
+      all = λ name j. subst (λ (ps : List ℕ). IsListed new ps name ⊎ IsCalm old new name) (sym (elsewhere place n)) (l.all name j);
     }
 
     all_linked : (place : ℕ) (other : TokenAt) → place < i + 1 → slice_get tokens place ≡ Some other → In place begins ⊎ IsLinked old new after place other
@@ -200,49 +203,128 @@ begins_within old new n edges begins are k d h =
     same_at (x ∷ xs) zero h = refl
     same_at (x ∷ xs) (suc k) h = same_at xs k (omega (arith, h))
 
--- What is known of tokens that are lone.
+-- What is known of the names of tokens.
 
 -- one more
-pub lone_more : (new : Flat) (i : ℕ) (token : TokenAt) (lone more : List Bool) (is : Bool) → slice_get (finite.entries new) i ≡ Some token
-    → AllZip IsLone (take i (finite.entries new)) lone → IsLone token is → more ≡ lone ++ is ∷ [] → AllZip IsLone (take (i + 1) (finite.entries new)) more
-lone_more new i token lone more is at so_far known made =
+pub named_more : (new : Flat) (i : ℕ) (token : TokenAt) (named more : List Named) (known : Named) → slice_get (finite.entries new) i ≡ Some token
+    → AllZip (NamesAs (finite.entries new)) (take i (finite.entries new)) named → NamesAs (finite.entries new) token known → more ≡ named ++ known ∷ []
+    → AllZip (NamesAs (finite.entries new)) (take (i + 1) (finite.entries new)) more
+named_more new i token named more known at so_far knows made =
     let tokens : List TokenAt = finite.entries new in
     let longer : take (i + 1) tokens ≡ take i tokens ++ token ∷ [] =
     take_more tokens i token (slice_get_within tokens i token at) ∙ ap (λ x. take i tokens ++ x ∷ []) (get_or_from_slice_get tokens i token token at) in
-    subst (λ (ts : List TokenAt). AllZip IsLone ts more) (sym longer)
-    (subst (λ (bs : List Bool). AllZip IsLone (take i tokens ++ token ∷ []) bs) (sym made) (all_zipped_more IsLone (take i tokens) lone token is so_far known))
-
--- a token that stands as one that is lone is lone
-pub lone_there : RefsOfSource → (old new : Flat) (lone : List Bool) (token there : TokenAt) (place : ℕ) (is : Bool) → AreLone (finite.entries old) lone
-    → IsDefinition there.1.def → IsDefinition token.1.def → slice_get (finite.entries old) place ≡ Some there → slice_get lone place ≡ Some is
-    → StandsAt old new token (Some place) → IsLone token is
-lone_there refs old new lone token there place is known of_there of_token at said (other, other_at, path, same) e =
-    let one : other ≡ there = some_is (sym other_at ∙ at) in
-    let source : there.1.def.source ≡ token.1.def.source = ap (λ r. r.source) (subst (λ (t : TokenAt). raw_of t.1 ≡ raw_of token.1) one same) in
-    sym (refs there.1.def token.1.def of_there of_token source) ∙ known place there is at said e
-
--- .. and where it is named, it is an end as before
-pub lone_missed : DifferDecides → (old new : Flat) (i : ℕ) (token : TokenAt) (place : Option ℕ) (name : List Step) (row : List ℕ)
-    → slice_get (finite.entries new) i ≡ Some token → token.0 ≡ name → StandsAt old new token place → is_some place ≡ true → IsLone token true
-    → IsMissed old new name row row false
-lone_missed decides old new i token place name row at named stands some lone =
-    let there : finite.get new name ≡ Some token.1 = subst (λ (p : List Step). finite.get new p ≡ Some token.1) named (there_found new token.0 token.1 i at) in
-    record {
-      ends = λ f e. subst (λ (g : Flattened). refs_of g.def ≡ []) (some_is (sym there ∙ e)) (lone refl);
-      same_row = refl;
-      changed = subst (λ (p : List Step). false ≡ is_changed old new p) named (sym (stands_same decides old new i token place at stands some));
-    }
-
-pub none_lone : (token : TokenAt) → IsLone token false
-none_lone token e = cc
+    subst (λ (ts : List TokenAt). AllZip (NamesAs tokens) ts more) (sym longer)
+    (subst (λ (ns : List Named). AllZip (NamesAs tokens) (take i tokens ++ token ∷ []) ns) (sym made)
+    (all_zipped_more (NamesAs tokens) (take i tokens) named token known so_far knows))
 
 -- what is read at a place of a list
 pub read_there : {X : Type 0} (xs : List X) (i : ℕ) (x : X) → i < length xs → ((d : X) → x ≡ get_or xs i d) → slice_get xs i ≡ Some x
 read_there xs i x within is = slice_get-get_or xs i x within ∙ ap Some (sym (is x))
 
+pub no_items : {X : Type 0} (xs : List X) → length xs ≡ 0 → xs ≡ []
+no_items [] h = refl
+no_items (x ∷ xs) h = absurd (omega (arith, h))
+
 pub no_names : {X : Type 0} (xs : List X) → (length xs == 0) ≡ true → xs ≡ []
-no_names {X} xs e = go xs ((Decides-eqb (length xs) 0).0 e)
+no_names xs e = no_items xs ((Decides-eqb (length xs) 0).0 e)
+
+pub one_item : {X : Type 0} (xs : List X) → length xs ≡ 1 → (x : X) × (xs ≡ x ∷ [])
+one_item [] h = absurd (omega (arith, h))
+one_item (x ∷ []) h = (x, refl)
+one_item (x ∷ y ∷ xs) h = absurd (omega (arith, h))
+
+-- the places of one name alone
+pub one_name : (old new : Flat) (token : TokenAt) (names : List (List Step)) (targets : List ℕ) (place : ℕ) → refs_of token.1.def ≡ names
+    → length names ≡ 1 → AreNamed old new names targets → slice_get targets 0 ≡ Some place → NamesAs (finite.entries new) token (One place)
+one_name old new token names targets place are short named first =
+    let (name, one) = one_item names short in
+    let n = named.each place (got_in targets 0 place first) in (
+      (n.name, n.there.0),
+      n.there.1,
+      are ∙ (one ∙ ap (λ (p : List Step). p ∷ []) (sym (only name n.name (subst (In n.name) one n.among)))),
+    )
   where
-    go : (ys : List X) → length ys ≡ 0 → ys ≡ []
-    go [] h = refl
-    go (y ∷ ys) h = absurd (omega (arith, h))
+    only : (name other : List Step) → In other (name ∷ []) → other ≡ name
+    only name other (inl e) = e
+    only name other (inr none) = absurd none
+
+-- one token alone is named, and it stands at this place
+pub one_named : (old new : Flat) (path : List Step) (place : ℕ) → IsThere new path place → AreNamed old new (path ∷ []) (place ∷ [])
+one_named old new path place there = record { each = each; all = all }
+  where
+    each : (other : ℕ) → In other (place ∷ []) → IsNameOf new (path ∷ []) other
+    each other (inl e) = record { name = path; among = inl refl; there = subst (IsThere new path) (sym e) there }
+    each other (inr none) = absurd none
+
+    all : (name : List Step) → In name (path ∷ []) → IsListed new (place ∷ []) name ⊎ IsCalm old new name
+    all name (inl e) = inl (record { place = place; among = inl refl; there = subst (λ (p : List Step). IsThere new p place) (sym e) there })
+    all name (inr none) = absurd none
+
+-- Edges from which a change may be reached.
+
+pub unsettled_named : (old new : Flat) (names : List (List Step)) (settled : List Bool) (targets edges : List ℕ) → AreSettled old new settled
+    → AreNamed old new names targets → AreUnsettled settled targets edges → AreNamed old new names edges
+unsettled_named old new names settled targets edges calm named left = record { each = λ place m. named.each place (left.among place m); all = all }
+  where
+    all : (name : List Step) → In name names → IsListed new edges name ⊎ IsCalm old new name
+    all name m = go (named.all name m)
+      where
+        go : IsListed new targets name ⊎ IsCalm old new name → IsListed new edges name ⊎ IsCalm old new name
+        go (inr c) = inr c
+        go (inl l) = elim (left.others l.place l.among) [
+          | inl e ↦ inl (record { place = l.place; among = e; there = l.there })
+          | inr s ↦ inr (calm l.place (name, l.there.0) l.there.1 s)
+        ]
+
+-- where there are none, no change is reached from any
+pub calm_names : (old new : Flat) (names : List (List Step)) (edges : List ℕ) → edges ≡ [] → AreNamed old new names edges
+    → (name : List Step) → In name names → IsCalm old new name
+calm_names old new names edges none named name m = go (named.all name m)
+  where
+    go : IsListed new edges name ⊎ IsCalm old new name → IsCalm old new name
+    go (inl l) = absurd (subst (In l.place) none l.among)
+    go (inr c) = c
+
+pub none_unsettled : (settled : List Bool) (edges : List ℕ) → edges ≡ [] → AreUnsettled settled [] edges
+none_unsettled settled edges none = record { among = λ place m. absurd (subst (In place) none m); others = λ place m. absurd m }
+
+module _ (settled : List Bool) (targets edges : List ℕ) (k place : ℕ) (within : k < length targets) (is : place ≡ get_or targets k 0)
+    (so_far : AreUnsettled settled (take k targets) edges) where
+  more : take (k + 1) targets ≡ take k targets ++ place ∷ []
+  more = take_more targets k 0 within ∙ ap (λ x. take k targets ++ x ∷ []) (sym is)
+
+  Went : List ℕ → ℕ → Type 0
+  Went after other = In other after ⊎ (slice_get settled other ≡ Some true)
+
+  others : (after : List ℕ) → ((other : ℕ) → In other edges → In other after) → Went after place → (other : ℕ)
+      → In other (take (k + 1) targets) → Went after other
+  unfolding Went
+  others after kept last other m = go (in_cases (take k targets) (place ∷ []) other (subst (In other) more m))
+    where
+      was : Went edges other → Went after other
+      was (inl i) = inl (kept other i)
+      was (inr s) = inr s
+
+      go : In other (take k targets) ⊎ In other (place ∷ []) → Went after other
+      go (inl i) = was (so_far.others other i)
+      go (inr (inl e)) = subst (Went after) (sym e) last
+      go (inr (inr none)) = absurd none
+
+  pub one_settled_edge : slice_get settled place ≡ Some true → AreUnsettled settled (take (k + 1) targets) edges
+  unfolding Went
+  one_settled_edge s = record {
+    among = λ other m. subst (In other) (sym more) (in_left (take k targets) (place ∷ []) other (so_far.among other m));
+    others = others edges (λ other m. m) (inr s);
+  }
+
+  pub one_open_edge : (after : List ℕ) → after ≡ edges ++ place ∷ [] → AreUnsettled settled (take (k + 1) targets) after
+  unfolding Went
+  one_open_edge after made = record { among = among; others = others after (λ other m. subst (In other) (sym made) (in_left edges (place ∷ []) other m)) (inl (subst (In place) (sym made) (in_last edges place))) }
+    where
+      among : (other : ℕ) → In other after → In other (take (k + 1) targets)
+      among other m = subst (In other) (sym more) (go (in_cases edges (place ∷ []) other (subst (In other) made m)))
+        where
+          go : In other edges ⊎ In other (place ∷ []) → In other (take k targets ++ place ∷ [])
+          go (inl i) = in_left (take k targets) (place ∷ []) other (so_far.among other i)
+          go (inr (inl e)) = subst (λ (p : ℕ). In p (take k targets ++ place ∷ [])) (sym e) (in_last (take k targets) place)
+          go (inr (inr none)) = absurd none

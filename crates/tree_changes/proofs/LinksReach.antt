@@ -1,5 +1,5 @@
 -- Against the links of a flat tree a change spreads to the tokens that are reached, and to no others.
-use Rattle.std.proofs.Common.{◌≡◌, ◌⊎◌, ◌↔◌, inl, inr, ℕ, zero, suc, Bool, true, false, List, [], ◌∷◌, length, Option, Some, None, Contains, refl, sym, ap, subst, ◌∙◌}
+use Rattle.std.proofs.Common.{◌≡◌, ◌⊎◌, ◌↔◌, inl, inr, ℕ, zero, suc, Bool, true, false, List, [], ◌∷◌, length, Some, None, Contains, sym, subst, ◌∙◌}
 use Rattle.std.proofs.lemmas.Cmp.{lists_total}
 use Rattle.std.proofs.lemmas.Option.{slice_get_within}
 use Rattle.std.specs.Cmp.Lexicographic.{nat_list_cmp_total}
@@ -14,8 +14,8 @@ use Rattle.alias_ref.specs.Laws.{Flat}
 use Rattle.alias_ref.specs.Refs.{refs_of}
 use Rattle.alias_ref.specs.Unchanged.{Reaches, at_start, by_reference}
 use Rattle.alias_ref.specs.Written.{Step}
-use Rattle.tree_changes.specs.Reached.{is_changed, IsReached}
-use Rattle.tree_changes.specs.inner.Links.{IsThere, IsStillEnd, IsListed, IsNameOf, BeginsAt, IsLinked, AreLinked}
+use Rattle.tree_changes.specs.Reached.{IsReached}
+use Rattle.tree_changes.specs.inner.Links.{IsThere, IsCalm, IsListed, BeginsAt, IsLinked, AreLinked}
 use Rattle.tree_changes.proofs.MapEntries.{entry_found}
 use Rattle.tree_changes.proofs.Walks.{begun}
 
@@ -64,21 +64,24 @@ module _ (old new : Flat) (edges : List (List ℕ)) (begins : List ℕ) (are : A
         changed = next.changed;
       }
 
-  -- A walk of references from a token: a change begins on its way, or a walk of edges goes along with it, or it ends at a
-  -- name from which none leads on, as before.
+  -- A walk of references from a token: a change begins on its way, or a walk of edges goes along with it, or it passes a
+  -- path from which no change is reached.
   abbrev ComesAlong : ℕ → List Step → Type 0
   ComesAlong v end = (u : ℕ) × IsThere new end u × Walk edges v u
 
+  abbrev Passes : List Step → Type 0
+  Passes end = (path : List Step) × IsCalm old new path × Reaches new path end
+
   abbrev Leads : ℕ → List Step → Type 0
-  Leads v end = WalksTo edges begins v ⊎ (ComesAlong v end ⊎ IsStillEnd old new end)
+  Leads v end = WalksTo edges begins v ⊎ (ComesAlong v end ⊎ Passes end)
 
   one_further : (v u : ℕ) (middle end : List Step) (g : Flattened) → slice_get tokens u ≡ Some (middle, g) → Walk edges v u
       → In end (refs_of g.def) → Leads v end
   one_further v u middle end g at so_far i = go (are.all u (middle, g) (slice_get_within tokens u (middle, g) at) at)
     where
-      next : IsListed new (targets_of edges u) end ⊎ IsStillEnd old new end → Leads v end
+      next : IsListed new (targets_of edges u) end ⊎ IsCalm old new end → Leads v end
       next (inl n) = inr (inl (n.place, n.there, further edges v u n.place so_far (in_has_place n.place (targets_of edges u) n.among)))
-      next (inr still) = inr (inr still)
+      next (inr calm) = inr (inr (end, calm, at_start))
 
       go : In u begins ⊎ IsLinked old new edges u (middle, g) → Leads v end
       go (inl b) = inl (u, in_has_place u begins b, so_far)
@@ -95,7 +98,7 @@ module _ (old new : Flat) (edges : List (List ℕ)) (begins : List ℕ) (are : A
       go (inl done) = inl done
       go (inr (inl (u, is, so_far))) =
           one_further v u middle end is.0 is.1 so_far (subst (λ (h : Flattened). In end (refs_of h.def)) (same is.0 u is.1) i)
-      go (inr (inr still)) = absurd (subst (In end) (still.ends f there) i)
+      go (inr (inr (path, calm, rest))) = inr (inr (path, calm, by_reference end rest there i))
 
   back : (v : ℕ) (token : TokenAt) → slice_get tokens v ≡ Some token → IsReached old new token.0 → WalksTo edges begins v
   back v token at r = go (leads v token r.end at r.walk)
@@ -107,7 +110,7 @@ module _ (old new : Flat) (edges : List (List ℕ)) (begins : List ℕ) (are : A
       go : Leads v r.end → WalksTo edges begins v
       go (inl done) = done
       go (inr (inl (u, is, walk))) = last u is walk (are.all u (r.end, is.0) (slice_get_within tokens u (r.end, is.0) is.1) is.1)
-      go (inr (inr still)) = absurd (both_ways still.same r.changed)
+      go (inr (inr (path, calm, rest))) = absurd (calm (record { end = r.end; walk = rest; changed = r.changed }))
 
   there : (v : ℕ) (token : TokenAt) → slice_get tokens v ≡ Some token → WalksTo edges begins v → IsReached old new token.0
   there v token at (u, c, walk) = against v u token walk (are.begun u (has_place_in u begins c)) at

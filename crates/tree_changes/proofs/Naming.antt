@@ -13,9 +13,11 @@ use Rattle.group_inherit.specs.Flattening.{Flattened, TokenAt}
 use Rattle.alias_ref.specs.Laws.{Flat}
 use Rattle.alias_ref.specs.Unchanged.{raw_of, raw_in, differ}
 use Rattle.alias_ref.specs.Written.{Step}
+use Rattle.tree_changes.specs.Laws.{RefersToReached}
 use Rattle.tree_changes.specs.Reached.{is_changed}
-use Rattle.tree_changes.specs.inner.Links.{IsThere, EndsAt, IsStillEnd, IsFound, IsMissed, IsNamed, IsListed, IsNameOf, AreNamed, NamesChanged}
+use Rattle.tree_changes.specs.inner.Links.{IsThere, IsCalm, IsFound, IsMissed, IsNamed, IsListed, IsNameOf, AreNamed, NamesChanged}
 use Rattle.tree_changes.specs.inner.Places.{IsPlaceOf}
+use Rattle.tree_changes.proofs.Walks.{reached_by_one}
 
 both_ways : {b : Bool} → b ≡ false → b ≡ true → ⊥
 both_ways e f = cc
@@ -42,9 +44,13 @@ missed_absent flat tokens path are none = finite.get-entries flat path ∙ (ap (
 some_none : {X : Type 0} {x : X} → None ≡ Some x → ⊥
 some_none e = cc
 
--- no reference leads on from a path at which no token stands
-pub none_ends : (flat : Flat) (path : List Step) → finite.get flat path ≡ None → EndsAt flat path
-none_ends flat path absent f e = absurd (some_none (sym absent ∙ e))
+-- no change is reached from a path at which no token stands, unless it is changed
+absent_calm : (old new : Flat) (path : List Step) → finite.get new path ≡ None → is_changed old new path ≡ false → IsCalm old new path
+absent_calm old new path absent same reached = go ((reached_by_one old new path).0 reached)
+  where
+    go : (is_changed old new path ≡ true) ⊎ RefersToReached old new path → ⊥
+    go (inl e) = both_ways same e
+    go (inr r) = some_none (sym absent ∙ r.there)
 
 changed_if : (o : Option Flattened) → is_some o ≡ differ (option_map raw_of o) None
 changed_if None = refl
@@ -89,14 +95,14 @@ module _ (old new : Flat) (names : List (List Step)) (name : List Step) (before 
         go (inr (inl e)) = record { name = name; among = in_last names name; there = subst (IsThere new name) (sym e) f.there }
         go (inr (inr none)) = absurd none
 
-    all_found : (q : List Step) → In q more → IsListed new after q ⊎ IsStillEnd old new q
+    all_found : (q : List Step) → In q more → IsListed new after q ⊎ IsCalm old new q
     all_found q i = go (in_cases names (name ∷ []) q i)
       where
-        earlier : IsListed new before q ⊎ IsStillEnd old new q → IsListed new after q ⊎ IsStillEnd old new q
+        earlier : IsListed new before q ⊎ IsCalm old new q → IsListed new after q ⊎ IsCalm old new q
         earlier (inl l) = inl (record { place = l.place; among = listed l.place (in_left before (f.place ∷ []) l.place l.among); there = l.there })
         earlier (inr still) = inr still
 
-        go : In q names ⊎ In q (name ∷ []) → IsListed new after q ⊎ IsStillEnd old new q
+        go : In q names ⊎ In q (name ∷ []) → IsListed new after q ⊎ IsCalm old new q
         go (inl j) = earlier (so_far.all q j)
         go (inr (inl e)) = inl (record {
           place = f.place;
@@ -109,16 +115,16 @@ module _ (old new : Flat) (names : List (List Step)) (name : List Step) (before 
     each_missed : (place : ℕ) → In place after → IsNameOf new more place
     each_missed place i = was_named place (subst (In place) m.same_row i)
 
-    all_missed : (q : List Step) → In q more → IsListed new after q ⊎ IsStillEnd old new q
+    all_missed : (q : List Step) → In q more → IsListed new after q ⊎ IsCalm old new q
     all_missed q i = go (in_cases names (name ∷ []) q i)
       where
-        earlier : IsListed new before q ⊎ IsStillEnd old new q → IsListed new after q ⊎ IsStillEnd old new q
+        earlier : IsListed new before q ⊎ IsCalm old new q → IsListed new after q ⊎ IsCalm old new q
         earlier (inl l) = inl (record { place = l.place; among = subst (In l.place) (sym m.same_row) l.among; there = l.there })
         earlier (inr still) = inr still
 
-        go : In q names ⊎ In q (name ∷ []) → IsListed new after q ⊎ IsStillEnd old new q
+        go : In q names ⊎ In q (name ∷ []) → IsListed new after q ⊎ IsCalm old new q
         go (inl j) = earlier (so_far.all q j)
-        go (inr (inl e)) = inr (subst (IsStillEnd old new) (sym e) (record { ends = m.ends; same = sym m.changed ∙ stands }))
+        go (inr (inl e)) = inr (subst (IsCalm old new) (sym e) (absent_calm old new name m.ends (sym m.changed ∙ stands)))
         go (inr (inr none)) = absurd none
 
   named_more : IsNamed old new name before after gone → AreNamed old new more after

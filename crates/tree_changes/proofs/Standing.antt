@@ -1,5 +1,6 @@
 -- Tokens of a flat tree in path order, looked for in an earlier one.
-use Rattle.std.proofs.Common.{◌≡◌, ◌≢◌, ℕ, zero, suc, ◌+◌, ◌<◌, ◌≤◌, Bool, true, false, ◌&&◌, T, Ordering, Less, Equal, Greater, List, [], ◌∷◌, ◌++◌, length, get_or, take, Option, Some, None, option_map, refl, sym, ap, subst, ◌∙◌, arith, map-id}
+use Rattle.std.proofs.Common.{◌≡◌, ◌≢◌, ◌⊎◌, inl, inr, ℕ, zero, suc, ◌+◌, ◌<◌, ◌≤◌, Bool, true, false, ◌&&◌, T, Ordering, Less, Equal, Greater, List, [], ◌∷◌, ◌++◌, length, get_or, take, Option, Some, None, option_map, refl, sym, ap, subst, ◌∙◌, arith, map-id}
+use Rattle.std.proofs.lemmas.Bool.{cases_lt}
 use Rattle.std.proofs.lemmas.Cmp.{lists_total}
 use Rattle.std.proofs.lemmas.List.{take_more}
 use Rattle.std.proofs.lemmas.Option.{slice_get-get_or}
@@ -22,7 +23,7 @@ use Rattle.alias_ref.specs.Unchanged.{raw_of, raw_in, DifferDecides}
 use Rattle.alias_ref.specs.Written.{Step}
 use Rattle.tree_changes.specs.Reached.{is_changed}
 use Rattle.tree_changes.specs.Standing.{StandsAt}
-use Rattle.tree_changes.specs.inner.Places.{IsPassed, IsPlaceOf, IsSameAt}
+use Rattle.tree_changes.specs.inner.Places.{ArePassed, IsPassed, IsPlaceOf, IsSameAt}
 use Rattle.tree_changes.proofs.MapEntries.{entry_found}
 
 abbrev total : IsTotalOrder names_cmp
@@ -99,6 +100,22 @@ passes_next tokens path i e sorted within is greater k d from below =
     below_too total key value path tokens i e (in_order tokens sorted) within
     (ap (λ (t : TokenAt). names_cmp t.0 path) (sym is) ∙ turned path e.0 Greater greater) k d (omega (arith, below))
 
+-- what stands before the path stands before each that is behind it
+pub passed_before : (tokens : List TokenAt) (path : List Step) (i : ℕ) → IsPassed tokens path i → ArePassed tokens path i
+passed_before tokens path i passed next less k d from below = total.trans (get_or tokens k d).0 path next (passed k d from below) less
+
+-- .. and so does a token of the path itself
+pub passed_itself : (tokens : List TokenAt) (path : List Step) (i : ℕ) (e : TokenAt) → IsPassed tokens path i → i < length tokens
+    → e ≡ get_or tokens i e → names_cmp path e.0 ≡ Equal → ArePassed tokens path (i + 1)
+passed_itself tokens path i e passed within is tie next less k d from below = go (cases_lt k i)
+  where
+    go : (k < i) ⊎ (i ≤ k) → names_cmp (get_or tokens k d).0 next ≡ Less
+    go (inl h) = passed_before tokens path i passed next less k d from h
+    go (inr h) =
+        let here : k ≡ i = omega (arith, below, h) in
+        ap (λ (t : TokenAt). names_cmp t.0 next) (ap (λ (n : ℕ). get_or tokens n d) here ∙ (same_at tokens i d e within ∙ sym is))
+        ∙ (ap (λ (p : List Step). names_cmp p next) (sym (same_path path e.0 tie)) ∙ less)
+
 -- What is found.
 
 some_is : {X : Type 0} {x y : X} → Some x ≡ Some y → x ≡ y
@@ -150,7 +167,7 @@ above x [] k d h within = absurd (omega (arith, within))
 above x (t ∷ ts) zero d h within = less (names_cmp x t.0) (first (is_lt (names_cmp x t.0)) (below_all names_cmp x ts) h)
 above x (t ∷ ts) (suc k) d h within = above x ts k d (second (is_lt (names_cmp x t.0)) (below_all names_cmp x ts) h) (omega (arith, within))
 
-ascends : (ts : List TokenAt) (i k : ℕ) (c d : TokenAt) → T (is_sorted names_cmp ts) → i < k → k < length ts
+pub ascends : (ts : List TokenAt) (i k : ℕ) (c d : TokenAt) → T (is_sorted names_cmp ts) → i < k → k < length ts
     → names_cmp (get_or ts i c).0 (get_or ts k d).0 ≡ Less
 ascends [] i k c d s h within = absurd (omega (arith, within))
 ascends (t ∷ ts) i zero c d s h within = absurd (omega (arith, h))
@@ -166,10 +183,9 @@ pub all_behind : (tokens olds : List TokenAt) → AreBehind tokens 0 olds 0
 all_behind tokens olds k d from within j e low high = absurd (omega (arith, high))
 
 pub still_behind : (tokens olds : List TokenAt) (i at : ℕ) (token : TokenAt) → T (is_sorted names_cmp tokens) → i < length tokens
-    → token ≡ get_or tokens i token → IsPassed olds token.0 at → AreBehind tokens (i + 1) olds at
-still_behind tokens olds i at token sorted within is behind k d from below j e low high =
-    total.trans (get_or olds j e).0 token.0 (get_or tokens k d).0 (behind j e low high)
-    (ap (λ (x : TokenAt). names_cmp x.0 (get_or tokens k d).0) is ∙ ascends tokens i k token d sorted (omega (arith, from)) below)
+    → token ≡ get_or tokens i token → ArePassed olds token.0 at → AreBehind tokens (i + 1) olds at
+still_behind tokens olds i at token sorted within is behind k d from below =
+    behind (get_or tokens k d).0 (ap (λ (x : TokenAt). names_cmp x.0 (get_or tokens k d).0) is ∙ ascends tokens i k token d sorted (omega (arith, from)) below)
 
 -- what is found of a token of the new tree
 stands : (decides : DifferDecides) (old new : Flat) (token : TokenAt) (o : Option ℕ) → finite.get new token.0 ≡ Some token.1

@@ -1,5 +1,5 @@
 -- Laws over the definitions.
-use Rattle.std.specs.Prelude.{◌≡◌, ◌⊎◌, ◌↔◌, ℕ, List, true, Some}
+use Rattle.std.specs.Prelude.{◌≡◌, ◌⊎◌, ◌↔◌, List, true, Some}
 use Rattle.std.specs.FinMap as finite
 use Rattle.ring.specs.Lists.{In}
 use Rattle.group_inherit.specs.Flattening.{Flattened}

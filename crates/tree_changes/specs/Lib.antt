@@ -1,7 +1,7 @@
 -- A path is changed where two flat trees differ at it, and reached where a walk of references leads
 -- from it to a changed one (`Reached`). `Standing` pairs the tokens of two trees that stand the
--- same, and keeps of these pairs those that are not reached. A token is lone where it names no
--- other (`Lone`).
+-- same, and keeps of these pairs those that are not reached. `Named` is what is known of the tokens
+-- that a token names.
 --
 -- What is promised, with the calls and clauses that carry it:
 -- * a path of a tree is reached from a change exactly where it is changed or refers to one that is
@@ -16,6 +16,6 @@
 
 pub mod Reached
 pub mod Standing
-pub mod Lone
+pub mod Named
 pub mod Laws
 pub mod inner

@@ -1,16 +1,22 @@
 //! The references of a flat tree as edges between the places of its tokens.
 
-ghost use Rattle.std.specs.Prelude.{◌≡◌, ◌+◌, true, false, Some, IfOk, OnOk, is_some, length};
+ghost use Rattle.std.specs.Prelude.{◌≡◌, ◌+◌, ◌<◌, ℕ, false, Option, Some, IfOk, OnOk, length};
 ghost use Rattle.std.specs.FinMap as map;
-ghost use Rattle.std.specs.List.{AllZip, slice_get};
+ghost use Rattle.std.specs.List.{slice_get};
+ghost use Rattle.group_inherit.specs.Flattening.{TokenAt};
 ghost use Rattle.alias_ref.specs.Laws.{Flat as FlatTree};
-ghost use Rattle.tree_changes.specs.Lone.{AreLone, IsLone};
+ghost use Rattle.alias_ref.specs.Refs.{refs_of as names_of};
+ghost use Rattle.tree_changes.specs.Named.{NamesAs};
 ghost use Rattle.tree_changes.specs.Reached.{is_changed};
 ghost use Rattle.tree_changes.specs.Standing.{StandsAt};
-ghost use Rattle.tree_changes.specs.inner.Links.{AreLinks, HasBegun, IsNamed, IsRow};
+ghost use Rattle.tree_changes.specs.inner.Links.{AreLinks, AreNamed, AreTold, AreUnsettled};
+ghost use Rattle.tree_changes.specs.inner.Links.{HasBegun, IsNamed, IsOneTold, IsRow};
+ghost use Rattle.tree_changes.specs.inner.Settling.{AreBeside, AreSettled};
 
+use crate::Named;
 use crate::index::Index;
 use crate::places::{index_of, place_of};
+use crate::settling::{Beside, is_said, moved_to, named_at};
 use alias_ref::{differ_decides, refs_of, source_decides};
 use group_inherit::{Entry, Flat};
 use name_path::Path;
@@ -19,64 +25,28 @@ use std::alloc::Global;
 use tk_io::NoMemory;
 
 /// What spreads a change: each token that stands unchanged has an edge to each token that it names, by their places, but for
-/// those that stand unchanged and name no other. A change begins at the tokens that are changed, and at those that name one that
-/// is not there any more.
+/// those from which no change is reached. A change begins at the tokens that are changed, and at those that name one that is
+/// changed.
 #[derive(Drop)]
 pub(crate) struct Links {
     pub(crate) graph: Graph,
     pub(crate) begins: Vec<usize>,
-    /// Of each token whether it is known to name no other.
-    pub(crate) lone: Vec<bool>,
+    /// What is known of the names of each token.
+    pub(crate) named: Vec<Named>,
 }
 
-// Whether a token that stands unchanged at this place of the earlier tree is known there to name no other.
-fn is_lone<'s>(
-    old: &Flat<'s>,
-    lone: &[bool],
-    place: Option<usize>,
-    token: &(Path<'s>, Entry<'s>),
-) -> bool
-    requires { AreLone (map.entries old.now) lone.now }
-    ensures unchanged { result ≡ true → is_some place ≡ true }
-    ensures lone { (new : FlatTree) → StandsAt old.now new token.now place
-        → IsLone token.now result }
-{
-    source_decides();
-    let Some(at) = place else {
-        return false;
-    };
-    let tokens = old.as_slice();
-    let (Some(there), Some(is_known)) = (tokens.get(at), lone.get(at)) else {
-        return false;
-    };
-    there.1.def.keeps();
-    token.1.def.keeps();
-    *is_known
-}
-
-// Adds the place of the token that is named to the row, unless it stands unchanged and is known to name no other. Whether none
-// stands there, but one stood in the earlier tree. The index is of the tree, whose tokens stand at these places of the earlier
-// one.
+// Adds the place of the token that is named to the row. Whether none stands there, but one stood in the earlier tree.
 fn add_named<'s>(
     old: &Flat<'s>,
-    lone: &[bool],
     new: &Flat<'s>,
-    places: &[Option<usize>],
     index: &Index,
     name: &Path<'s>,
     row: &mut Vec<usize>,
 ) -> Result<bool, NoMemory>
-    requires places { AllZip (StandsAt old.now new.now) (map.entries new.now) places.now }
-    requires lone { AreLone (map.entries old.now) lone.now }
     ensures { IfOk result (IsNamed old.now new.now name.now row.old.items row.new.items) }
 {
-    differ_decides();
-    let tokens = new.as_slice();
-    match place_of(index, tokens, name) {
+    match place_of(index, new.as_slice(), name) {
         Some(i) => {
-            if is_lone(old, lone, places[i], &tokens[i]) {
-                return Ok(false);
-            }
             row.push(i)?;
             Ok(false)
         }
@@ -84,24 +54,20 @@ fn add_named<'s>(
     }
 }
 
-// The places of the tokens of these names, but for those that stand unchanged and are known to name no other: they come in
-// place of what the row held. Whether one is not there any more, where the row is left as it is then.
+// The places of the tokens of these names come in place of what the row held. Whether one is not there any more, where the
+// row is left as it is then.
 fn row_of<'s>(
     old: &Flat<'s>,
-    lone: &[bool],
     new: &Flat<'s>,
-    places: &[Option<usize>],
     index: &Index,
     names: &[Path<'s>],
     row: &mut Vec<usize>,
 ) -> Result<bool, NoMemory>
-    requires places { AllZip (StandsAt old.now new.now) (map.entries new.now) places.now }
-    requires lone { AreLone (map.entries old.now) lone.now }
     ensures { IfOk result (IsRow old.now new.now names.now row.new.items) }
 {
     row.clear();
     for name in names {
-        let is_gone = add_named(old, lone, new, places, index, name, row)?;
+        let is_gone = add_named(old, new, index, name, row)?;
         if is_gone {
             return Ok(true);
         }
@@ -109,16 +75,115 @@ fn row_of<'s>(
     Ok(false)
 }
 
+// What is known of the names of a token that has these, whose tokens stand at these places.
+fn named_by(names: &[Path<'_>], targets: &[usize]) -> Named
+    ensures { (old new : FlatTree) (token : TokenAt) → names_of token.1.def ≡ names.now
+        → AreNamed old new names.now targets.now → NamesAs (map.entries new) token result }
+{
+    match names.len() {
+        0 => Named::Nothing,
+        1 => match targets.first() {
+            Some(place) => Named::one(*place),
+            None => Named::Unknown,
+        },
+        _ => Named::Unknown,
+    }
+}
+
+// The places of the tokens that a token names come in place of what `targets` held, and it is told what is known of its
+// names; or one of them is changed. Its references are read.
+fn read_targets<'s>(
+    alloc: Global,
+    old: &Flat<'s>,
+    new: &Flat<'s>,
+    index: &Index,
+    token: &(Path<'s>, Entry<'s>),
+    targets: &mut Vec<usize>,
+) -> Result<Option<Named>, NoMemory>
+    ensures { IfOk result (AreTold old.now new.now token.now targets.new.items) }
+{
+    let names = refs_of(alloc, &token.1.def)?;
+    let is_lost = row_of(old, new, index, names.as_slice(), targets)?;
+    if is_lost {
+        return Ok(None);
+    }
+    Ok(Some(named_by(names.as_slice(), targets.as_slice())))
+}
+
+// The same of a token that names one alone, which stood at this place of the earlier tree.
+fn one_target(
+    moved: &[Option<usize>],
+    there: usize,
+    targets: &mut Vec<usize>,
+) -> Result<Option<Named>, NoMemory>
+    ensures { (o : Option ℕ) → slice_get moved.now there ≡ Some o
+        → IfOk result (IsOneTold o targets.new.items) }
+{
+    targets.clear();
+    match moved_to(moved, there) {
+        Some(place) => {
+            targets.push(place)?;
+            Ok(Some(Named::one(place)))
+        }
+        None => Ok(None),
+    }
+}
+
+// The same of a token that stands unchanged at this place of the earlier tree. Its references are read where nothing is known
+// of its names.
+fn targets_of<'s>(
+    alloc: Global,
+    side: &Beside<'_, 's>,
+    index: &Index,
+    at: usize,
+    token: &(Path<'s>, Entry<'s>),
+    targets: &mut Vec<usize>,
+) -> Result<Option<Named>, NoMemory>
+    requires beside { AreBeside side.now }
+    requires there { (i : ℕ) × (slice_get (map.entries side.now.new.now) i ≡ Some token.now) }
+    requires stands { StandsAt side.now.old.now side.now.new.now token.now (Some at) }
+    ensures { IfOk result
+        (AreTold side.now.old.now side.now.new.now token.now targets.new.items) }
+{
+    source_decides();
+    differ_decides();
+    match named_at(side.named, at) {
+        Named::Unknown => read_targets(alloc, side.old, side.new, index, token, targets),
+        Named::Nothing => {
+            targets.clear();
+            Ok(Some(Named::Nothing))
+        }
+        Named::One(there) => {
+            let told = one_target(side.moved, there as usize, targets)?;
+            Ok(told)
+        }
+    }
+}
+
+// Those of the places from which a change may be reached come in place of what `edges` held.
+fn unsettled(settled: &[bool], targets: &[usize], edges: &mut Vec<usize>) -> Result<(), NoMemory>
+    ensures { OnOk result (AreUnsettled settled.now targets.now edges.new.items) }
+{
+    edges.clear();
+    for place in targets {
+        if !is_said(settled, *place) {
+            edges.push(*place)?;
+        }
+    }
+    Ok(())
+}
+
 impl Links {
     // Of so many tokens, none of which was looked at.
-    fn new<'s>(alloc: Global, old: &Flat<'s>, new: &Flat<'s>) -> Result<Links, NoMemory>
-        ensures { IfOk result (AreLinks old.now new.now 0) }
+    fn new(alloc: Global, nodes: usize) -> Result<Links, NoMemory>
+        ensures { (old new : FlatTree) → nodes ≡ length (map.entries new)
+            → IfOk result (AreLinks old new 0) }
     {
-        let graph = Graph::new(alloc, new.as_slice().len())?;
+        let graph = Graph::new(alloc, nodes)?;
         Ok(Links {
             graph,
             begins: Vec::new(alloc),
-            lone: Vec::new(alloc),
+            named: Vec::new(alloc),
         })
     }
 
@@ -127,89 +192,120 @@ impl Links {
         ensures { OnOk result (HasBegun self.old i self.new) }
     {
         self.begins.push(i)?;
-        self.lone.push(false)?;
+        self.named.push(Named::Unknown)?;
         Ok(())
     }
 
-    // Adds the i-th token, of which is known whether it stands unchanged, and maybe that it is lone. The row is for its
-    // edges.
+    // Links the i-th token, which stands unchanged, to the tokens that it names, which stand at these places.
+    fn link<'s>(
+        &mut self,
+        side: &Beside<'_, 's>,
+        settled: &[bool],
+        i: usize,
+        token: &(Path<'s>, Entry<'s>),
+        targets: &[usize],
+        named: Named,
+        edges: &mut Vec<usize>,
+    ) -> Result<(), NoMemory>
+        requires settled { AreSettled side.now.old.now side.now.new.now settled.now }
+        requires token { slice_get (map.entries side.now.new.now) i ≡ Some token.now }
+        requires same { is_changed side.now.old.now side.now.new.now token.now.0 ≡ false }
+        requires told { AreTold side.now.old.now side.now.new.now token.now targets.now
+            (Some named) }
+        requires links { AreLinks side.now.old.now side.now.new.now i self.old }
+        ensures { OnOk result
+            (AreLinks side.now.old.now side.now.new.now (i + 1) self.new) }
+    {
+        self.named.push(named)?;
+        unsettled(settled, targets, edges)?;
+        let edges = edges.as_slice();
+        if edges.is_empty() {
+            return Ok(());
+        }
+        self.graph.set_edges(i, edges)?;
+        Ok(())
+    }
+
+    // Adds the i-th token. The rows are for its names and its edges.
     fn add<'s>(
         &mut self,
         alloc: Global,
-        old: &Flat<'s>,
-        lone: &[bool],
-        new: &Flat<'s>,
-        places: &[Option<usize>],
+        side: &Beside<'_, 's>,
+        settled: &[bool],
         index: &Index,
         i: usize,
         token: &(Path<'s>, Entry<'s>),
-        is_same: bool,
-        is_lone: bool,
-        row: &mut Vec<usize>,
+        targets: &mut Vec<usize>,
+        edges: &mut Vec<usize>,
     ) -> Result<(), NoMemory>
-        requires places { AllZip (StandsAt old.now new.now) (map.entries new.now) places.now }
-        requires known { AreLone (map.entries old.now) lone.now }
-        requires token { slice_get (map.entries new.now) i ≡ Some token.now }
-        requires same { is_same ≡ true → is_changed old.now new.now token.now.0 ≡ false }
-        requires other { is_same ≡ false → is_changed old.now new.now token.now.0 ≡ true }
-        requires lone { IsLone token.now is_lone }
-        requires links { AreLinks old.now new.now i self.old }
-        ensures { OnOk result (AreLinks old.now new.now (i + 1) self.new) }
+        requires beside { AreBeside side.now }
+        requires settled { AreSettled side.now.old.now side.now.new.now settled.now }
+        requires token { slice_get (map.entries side.now.new.now) i ≡ Some token.now }
+        requires place { i < length side.now.places.now }
+        requires links { AreLinks side.now.old.now side.now.new.now i self.old }
+        ensures { OnOk result
+            (AreLinks side.now.old.now side.now.new.now (i + 1) self.new) }
     {
-        if !is_same {
+        differ_decides();
+        let Some(at) = side.places[i] else {
             self.begin(i)?;
             return Ok(());
+        };
+        match targets_of(alloc, side, index, at, token, targets)? {
+            Some(named) => { self.link(side, settled, i, token, targets.as_slice(), named, edges) }
+            None => {
+                self.begin(i)?;
+                Ok(())
+            }
         }
-        if is_lone {
-            self.lone.push(true)?;
-            return Ok(());
+    }
+
+    // Adds all tokens of the present tree.
+    fn add_all<'s>(
+        &mut self,
+        alloc: Global,
+        side: &Beside<'_, 's>,
+        settled: &[bool],
+        index: &Index,
+    ) -> Result<(), NoMemory>
+        requires beside { AreBeside side.now }
+        requires settled { AreSettled side.now.old.now side.now.new.now settled.now }
+        requires none { AreLinks side.now.old.now side.now.new.now 0 self.old }
+        ensures { OnOk result (AreLinks side.now.old.now side.now.new.now
+            (length (map.entries side.now.new.now)) self.new) }
+    {
+        let tokens = side.new.as_slice();
+        let mut targets = Vec::new(alloc);
+        let mut edges = Vec::new(alloc);
+        for (i, token) in tokens.iter().enumerate() {
+            self.add(
+                alloc,
+                side,
+                settled,
+                index,
+                i,
+                token,
+                &mut targets,
+                &mut edges,
+            )?;
         }
-        let names = refs_of(alloc, &token.1.def)?;
-        let is_lost = row_of(old, lone, new, places, index, names.as_slice(), row)?;
-        if is_lost {
-            self.begin(i)?;
-            return Ok(());
-        }
-        self.graph.set_edges(i, row.as_slice())?;
-        self.lone.push(names.is_empty())?;
         Ok(())
     }
 }
 
-/// The links of the flat tree, whose tokens stand at these places of the earlier one where they are unchanged. Of some
-/// tokens there is known that they are lone.
+/// The links of the flat tree beside an earlier one. Of some of its tokens it is seen that no change is reached from them.
 pub(crate) fn links_of<'s>(
     alloc: Global,
-    old: &Flat<'s>,
-    lone: &[bool],
-    new: &Flat<'s>,
-    places: &[Option<usize>],
+    side: &Beside<'_, 's>,
+    settled: &[bool],
 ) -> Result<Links, NoMemory>
-    requires places { AllZip (StandsAt old.now new.now) (map.entries new.now) places.now }
-    requires lone { AreLone (map.entries old.now) lone.now }
-    ensures { IfOk result (AreLinks old.now new.now (length (map.entries new.now))) }
+    requires beside { AreBeside side.now }
+    requires settled { AreSettled side.now.old.now side.now.new.now settled.now }
+    ensures { IfOk result (AreLinks side.now.old.now side.now.new.now
+        (length (map.entries side.now.new.now))) }
 {
-    differ_decides();
-    let tokens = new.as_slice();
-    let index = index_of(alloc, lone, new)?;
-    let mut links = Links::new(alloc, old, new)?;
-    let mut row = Vec::new(alloc);
-    for (i, token) in tokens.iter().enumerate() {
-        let place = places[i];
-        let is_lone = is_lone(old, lone, place, token);
-        links.add(
-            alloc,
-            old,
-            lone,
-            new,
-            places,
-            &index,
-            i,
-            token,
-            place.is_some(),
-            is_lone,
-            &mut row,
-        )?;
-    }
+    let index = index_of(alloc, side.named, side.new)?;
+    let mut links = Links::new(alloc, side.new.as_slice().len())?;
+    links.add_all(alloc, side, settled, &index)?;
     Ok(links)
 }

@@ -5,6 +5,7 @@ ghost use Rattle.std.specs.FinMap.Entries.{is_sorted};
 ghost use Rattle.tk_io.specs.Order.{names_cmp};
 ghost use Rattle.tree_changes.specs.inner.Places.{IsPlaceOf};
 
+use crate::Named;
 use crate::index::Index;
 use group_inherit::{Entry, Flat};
 use name_path::Path;
@@ -12,25 +13,34 @@ use std::alloc::Global;
 use std::cmp::Ordering;
 use tk_io::NoMemory;
 
-/// How many tokens of a flat tree there are for each one that may name others, at most, where an index is worth its while.
+/// How many tokens of a flat tree there are for each one whose references are read, at most, where an index is worth its while.
 const TOKENS_A_NAMING: usize = 8;
 
-/// How many of the tokens are known to be lone.
-fn count_lone(lone: &[bool]) -> usize {
+// Whether something is known of the names.
+fn is_known(named: &Named) -> bool {
+    match named {
+        Named::Unknown => false,
+        Named::Nothing => true,
+        Named::One(_) => true,
+    }
+}
+
+/// Of how many tokens the names are known.
+fn count_known(named: &[Named]) -> usize {
     let mut count: usize = 0;
-    for is_lone in lone {
-        if *is_lone {
+    for names in named {
+        if is_known(names) {
             count = count.saturating_add(1);
         }
     }
     count
 }
 
-/// An index of the tokens of a flat tree, where so many of an earlier one may name others that it is worth its while; else an
-/// empty one.
-pub(crate) fn index_of(alloc: Global, lone: &[bool], flat: &Flat<'_>) -> Result<Index, NoMemory> {
+/// An index of the tokens of a flat tree, where the references of so many are to be read that it is worth its while, since
+/// nothing is known of their names in an earlier one; else an empty one.
+pub(crate) fn index_of(alloc: Global, named: &[Named], flat: &Flat<'_>) -> Result<Index, NoMemory> {
     let tokens = flat.as_slice();
-    let naming = tokens.len().saturating_sub(count_lone(lone));
+    let naming = tokens.len().saturating_sub(count_known(named));
     if naming < tokens.len() / TOKENS_A_NAMING {
         return Ok(Index::new(alloc));
     }

@@ -7,7 +7,7 @@ ghost use Rattle.std.specs.List.{AllZip};
 ghost use Rattle.tk_io.specs.Order.{names_cmp};
 ghost use Rattle.alias_ref.specs.Unchanged.{raw_of};
 ghost use Rattle.tree_changes.specs.Standing.{StandsAt};
-ghost use Rattle.tree_changes.specs.inner.Places.{IsPassed, IsPlaceOf, IsSameAt};
+ghost use Rattle.tree_changes.specs.inner.Places.{ArePassed, IsPassed, IsPlaceOf, IsSameAt};
 
 use alias_ref::differ_decides;
 use group_inherit::{Entry, Flat};
@@ -65,7 +65,8 @@ fn is_same(entry: &Entry<'_>, other: &Entry<'_>) -> bool
         && is_same_group_mark(&entry.group_mark, &other.group_mark)
 }
 
-// The place of the path, looked for from `at` on, which is left where the next one is to be looked for. Paths ascend.
+// The place of the path, looked for from `at` on, which is left where the next one is to be looked for: behind the path. Paths
+// ascend.
 fn place_from<'s>(
     tokens: &[(Path<'s>, Entry<'s>)],
     at: &mut usize,
@@ -73,13 +74,17 @@ fn place_from<'s>(
 ) -> Option<usize>
     requires sorted { T (is_sorted names_cmp tokens.now) }
     requires passed { IsPassed tokens.now path.now at.old }
-    ensures passed { IsPassed tokens.now path.now at.new }
+    ensures passed { ArePassed tokens.now path.now at.new }
     ensures found { IsPlaceOf tokens.now path.now result }
 {
     while let Some(token) = tokens.get(*at) {
         match path.cmp(&token.0) {
             Ordering::Less => return None,
-            Ordering::Equal => return Some(*at),
+            Ordering::Equal => {
+                let found = *at;
+                *at += 1;
+                return Some(found);
+            }
             Ordering::Greater => *at += 1,
         }
     }
@@ -89,7 +94,7 @@ fn place_from<'s>(
 // The place at which the token stands unchanged, looked for from `at` on.
 fn same_place<'s>(old: &Flat<'s>, at: &mut usize, token: &(Path<'s>, Entry<'s>)) -> Option<usize>
     requires passed { IsPassed (map.entries old.now) token.now.0 at.old }
-    ensures passed { IsPassed (map.entries old.now) token.now.0 at.new }
+    ensures passed { ArePassed (map.entries old.now) token.now.0 at.new }
     ensures found { IsSameAt old.now token.now result }
 {
     let tokens = old.as_slice();
@@ -118,7 +123,7 @@ pub fn unchanged_places<'s>(
 {
     differ_decides();
     let tokens = new.as_slice();
-    let mut places = Vec::new(alloc);
+    let mut places = Vec::with_capacity(alloc, tokens.len())?;
     let mut at = 0;
     for token in tokens {
         places.push(same_place(old, &mut at, token))?;

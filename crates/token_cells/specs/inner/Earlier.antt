@@ -4,7 +4,7 @@ use Rattle.std.specs.FinMap as finite
 use Rattle.std.specs.List.{slice_get}
 use Rattle.group_inherit.specs.Flattening.{TokenAt}
 use Rattle.alias_ref.specs.Laws.{Flat}
-use Rattle.tree_changes.specs.Lone.{AreLone}
+use Rattle.tree_changes.specs.Named.{AllNameAs}
 use Rattle.transforms.specs.Config.{Settings}
 use Rattle.token_cells.specs.Cell.{IsCell, AreCells}
 use Rattle.token_cells.specs.Evaluated.{KnownTree}
@@ -32,7 +32,7 @@ AreKept flat settings kepts = (i : ℕ) (token : TokenAt) (kept : Kept) → slic
 -- .. and it is known which of them name no other
 pub record IsKept (flat : Flat) (settings : Settings) (kept : KeptRows) : Type 0 where
   pub rows : AreKept flat settings kept.rows.items
-  pub lone : AreLone (finite.entries flat) kept.lone.items
+  pub named : AllNameAs (finite.entries flat) kept.named.items
 
 -- whose cells are those of its tokens
 abbrev pub IsKnown : KnownTree → Type 0

@@ -1,5 +1,5 @@
 -- The references of a flat tree as edges between the places of its tokens, and the places at which a change begins.
-use Rattle.std.specs.Prelude.{◌≡◌, ◌⊎◌, ℕ, ◌+◌, ◌<◌, ◌≤◌, Bool, true, false, List, [], ◌∷◌, ◌++◌, length, take, Some, None, slice_get}
+use Rattle.std.specs.Prelude.{◌≡◌, ◌⊎◌, ℕ, ◌<◌, Bool, true, false, List, [], ◌∷◌, ◌++◌, length, take, Option, Some, None, slice_get}
 use Rattle.std.specs.FinMap as finite
 use Rattle.std.specs.List.{AllZip}
 use Rattle.ring.specs.Lists.{In}
@@ -8,22 +8,23 @@ use Rattle.group_inherit.specs.Flattening.{Flattened, TokenAt}
 use Rattle.alias_ref.specs.Laws.{Flat}
 use Rattle.alias_ref.specs.Refs.{refs_of}
 use Rattle.alias_ref.specs.Written.{Step}
-use Rattle.tree_changes.specs.Lone.{IsLone}
+use Rattle.tree_changes.specs.Named.{NamesAs}
 use Rattle.tree_changes.specs.Reached.{is_changed, IsReached}
 use Rattle.tree_changes.specs.declared.links.Links.{Links}
+use Rattle.tree_changes.specs.declared.named.Named.{Named}
+use Rattle.tree_changes.specs.declared.named.Named.TheVariants.{Unknown, One}
 
 -- a token of the path stands at this place
 abbrev pub IsThere : Flat → List Step → ℕ → Type 0
 IsThere flat path i = (f : Flattened) × (slice_get (finite.entries flat) i ≡ Some (path, f))
 
--- no reference leads on from the path, since no token stands there, or one that names no other
+-- no reference leads on from the path, since no token stands there
 abbrev pub EndsAt : Flat → List Step → Type 0
-EndsAt new path = (f : Flattened) → finite.get new path ≡ Some f → refs_of f.def ≡ []
+EndsAt new path = finite.get new path ≡ None
 
--- .. and it is not changed
-pub record IsStillEnd (old new : Flat) (path : List Step) : Type 0 where
-  pub ends : EndsAt new path
-  pub same : is_changed old new path ≡ false
+-- no walk of references leads from the path to a change
+abbrev pub IsCalm : Flat → Flat → List Step → Type 0
+IsCalm old new path = IsReached old new path → ⊥
 
 -- A name that is looked for: the place of its token came behind those of the row ..
 pub record IsFound (new : Flat) (name : List Step) (before after : List ℕ) (gone : Bool) : Type 0 where
@@ -53,10 +54,10 @@ pub record IsNameOf (new : Flat) (names : List (List Step)) (place : ℕ) : Type
   pub among : In name names
   pub there : IsThere new name place
 
--- the row has the places of these names, but for those that are ends as before
+-- the row has the places of these names, but for those from which no change is reached
 pub record AreNamed (old new : Flat) (names : List (List Step)) (row : List ℕ) : Type 0 where
   pub each : (place : ℕ) → In place row → IsNameOf new names place
-  pub all : (name : List Step) → In name names → IsListed new row name ⊎ IsStillEnd old new name
+  pub all : (name : List Step) → In name names → IsListed new row name ⊎ IsCalm old new name
 
 -- one of the names is changed
 pub record NamesChanged (old new : Flat) (names : List (List Step)) : Type 0 where
@@ -75,10 +76,10 @@ pub record BeginsAt (old new : Flat) (place : ℕ) : Type 0 where
   pub there : IsThere new path place
   pub reached : IsReached old new path
 
--- a token that is not changed itself, whose edges lead to all tokens that it names, but for those that stand as before and name no other
+-- a token that is not changed itself, whose edges lead to all tokens that it names, but for those from which no change is reached
 pub record IsLinked (old new : Flat) (edges : List (List ℕ)) (place : ℕ) (token : TokenAt) : Type 0 where
   pub same : is_changed old new token.0 ≡ false
-  pub all : (name : List Step) → In name (refs_of token.1.def) → IsListed new (targets_of edges place) name ⊎ IsStillEnd old new name
+  pub all : (name : List Step) → In name (refs_of token.1.def) → IsListed new (targets_of edges place) name ⊎ IsCalm old new name
 
 -- The first tokens of the tree were looked at: each is one at which a change begins, or is linked to those that it names.
 -- Edges lead to tokens that are named, and a change begins at tokens that are reached.
@@ -90,13 +91,30 @@ pub record AreLinked (old new : Flat) (looked : ℕ) (edges : List (List ℕ)) (
   pub all : (place : ℕ) (token : TokenAt) → place < looked → slice_get (finite.entries new) place ≡ Some token
       → In place begins ⊎ IsLinked old new edges place token
 
--- .. and it is known of each whether it is lone
+-- .. and something may be known of the names of each
 pub record AreLinks (old new : Flat) (looked : ℕ) (links : Links) : Type 0 where
   pub linked : AreLinked old new looked links.graph links.begins.items
-  pub lone : AllZip IsLone (take looked (finite.entries new)) links.lone.items
+  pub named : AllZip (NamesAs (finite.entries new)) (take looked (finite.entries new)) links.named.items
+
+-- The names of a token: one of them is changed, or these are the places of all, and this is known of them.
+abbrev pub AreTold : Flat → Flat → TokenAt → List ℕ → Option Named → Type 0
+AreTold old new token targets None = NamesChanged old new (refs_of token.1.def)
+AreTold old new token targets (Some named) = AreNamed old new (refs_of token.1.def) targets × NamesAs (finite.entries new) token named
+
+-- .. of a token that names one alone, which stands at this place, or is changed
+abbrev pub IsOneTold : Option ℕ → List ℕ → Option Named → Type 0
+IsOneTold None targets told = told ≡ None
+IsOneTold (Some place) targets told =
+    (targets ≡ place ∷ []) × ((named : Named) × (told ≡ Some named)
+    × ((tokens : List TokenAt) (token : TokenAt) → NamesAs tokens token (One place) → NamesAs tokens token named))
+
+-- the edges are to those of the places from which a change may be reached
+pub record AreUnsettled (settled : List Bool) (targets edges : List ℕ) : Type 0 where
+  pub among : (place : ℕ) → In place edges → In place targets
+  pub others : (place : ℕ) → In place targets → In place edges ⊎ (slice_get settled place ≡ Some true)
 
 -- a change begins at this place too
 pub record HasBegun (before : Links) (place : ℕ) (after : Links) : Type 0 where
   pub graph : after.graph ≡ before.graph
   pub begins : after.begins.items ≡ before.begins.items ++ place ∷ []
-  pub lone : after.lone.items ≡ before.lone.items ++ false ∷ []
+  pub named : after.named.items ≡ before.named.items ++ Unknown ∷ []

@@ -14,6 +14,10 @@ use Rattle.alias_ref.specs.Written.{Step}
 abbrev pub IsPassed : List TokenAt → List Step → ℕ → Type 0
 IsPassed tokens path at = AllWithin (λ token. names_cmp token.0 path ≡ Less) tokens 0 at
 
+-- .. and before each path behind it
+abbrev pub ArePassed : List TokenAt → List Step → ℕ → Type 0
+ArePassed tokens path at = (next : List Step) → names_cmp path next ≡ Less → IsPassed tokens next at
+
 -- at this place, or at none
 abbrev pub IsPlaceOf : List TokenAt → List Step → Option ℕ → Type 0
 IsPlaceOf tokens path None = find names_cmp path tokens ≡ None

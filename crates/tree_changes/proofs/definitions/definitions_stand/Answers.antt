@@ -1,4 +1,4 @@
-use Rattle.std.proofs.Common.{List, ap, sym, subst, ◌∙◌}
+use Rattle.std.proofs.Common.{ap, subst, ◌∙◌}
 use Rattle.token_tree.specs.Promise.{IsDefinition}
 use Rattle.group_inherit.specs.Flattening.{TokenAt}
 use Rattle.tree_changes.proofs.AllDefined.{none_shown, one_shown, all_shown}

@@ -1,4 +1,4 @@
-use Rattle.std.proofs.Common.{ℕ, List, [], refl, sym, subst}
+use Rattle.std.proofs.Common.{List, [], refl, sym, subst}
 use Rattle.std.proofs.lemmas.List.{take_all}
 use Rattle.ring.specs.Lists.{In}
 use Rattle.ring.proofs.ListWords.{has_place_in}

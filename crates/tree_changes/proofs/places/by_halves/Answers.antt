@@ -1,5 +1,4 @@
-use Rattle.std.proofs.Common.{◌≡◌, ◌+◌, ◌-◌, ◌/◌, ◌<◌, ◌≤◌, List, Less, Greater, length, get_or, arith, sym, ap, ◌∙◌, subst}
-use Rattle.std.specs.List.{AllWithin}
+use Rattle.std.proofs.Common.{◌≡◌, ◌+◌, ◌-◌, ◌/◌, ◌<◌, Less, get_or, arith, sym, ap, ◌∙◌}
 use Rattle.tk_io.specs.Order.{names_cmp}
 use Rattle.group_inherit.specs.Flattening.{TokenAt}
 use Rattle.tree_changes.proofs.Standing.{found_place, ahead_from, missed, passes_next}

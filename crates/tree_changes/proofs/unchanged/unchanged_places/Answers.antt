@@ -10,7 +10,7 @@ use Rattle.tree_changes.proofs.unchanged.unchanged_places.Goals as goal
 
 pub loop-token-init : goal.loop-token-init
 loop-token-init c =
-    (subst (λ (ps : List (Option ℕ)). AllZip (StandsAt c.args.old.now c.args.new.now) [] ps) (sym c.new-places.ensures.items) tt, all_behind c.as_slice-tokens.result.now (finite.entries c.args.old.now))
+    (subst (λ (ps : List (Option ℕ)). AllZip (StandsAt c.args.old.now c.args.new.now) [] ps) (sym c.in_ok-places.ensures.items) tt, all_behind c.as_slice-tokens.result.now (finite.entries c.args.old.now))
 
 pub same_place-requires : goal.same_place-requires
 same_place-requires c =

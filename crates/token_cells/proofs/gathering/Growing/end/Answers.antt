@@ -7,7 +7,7 @@ pub new-requires : goal.new-requires
 new-requires c = (c.requires.added.cells, c.requires.added.hold, c.requires.added.shown)
 
 pub new-requires-2 : goal.new-requires-2
-new-requires-2 c = c.requires.lone
+new-requires-2 c = c.requires.named
 
 pub returns-clause-cells : goal.returns-clause-cells
 returns-clause-cells c =

@@ -1,83 +1,42 @@
-use Rattle.std.proofs.Common.{◌≡◌, ◌+◌, ◌<◌, ℕ, Bool, true, List, All, length, set, sym, ap, subst, ◌∙◌}
-use Rattle.group_inherit.specs.Flattening.{TokenAt}
-use Rattle.alias_ref.specs.Refs.{refs_of}
-use Rattle.alias_ref.specs.Written.{Step}
-use Rattle.tree_changes.specs.Reached.{IsReached}
-use Rattle.tree_changes.specs.inner.Links.{AreNamed, AreLinked, NamesChanged}
-use Rattle.tree_changes.proofs.Linking.{begun_more, alone_more, linked_more, row_within, inside, reached_by_name, reached_itself, lone_more, none_lone, no_names}
+use Rattle.std.proofs.Common.{◌+◌, ℕ, List, sym, subst}
+use Rattle.tree_changes.specs.inner.Links.{AreLinked, AreTold}
+use Rattle.tree_changes.proofs.Calm.{said_place, said_none, same_if_stands}
+use Rattle.tree_changes.proofs.Linking.{begun_more, named_more, reached_by_name, reached_itself}
 use Rattle.tree_changes.proofs.links.Links.add.Goals as goal
 
-pub returns-then-not-is_same : goal.returns-then-not-is_same
-returns-then-not-is_same c =
-    let old = c.args.old.now in
-    let new = c.args.new.now in
+pub targets_of-requires-clause-stands : goal.targets_of-requires-clause-stands
+targets_of-requires-clause-stands c =
+    said_place c.args.side.now c.requires.beside c.args.i c.in-Some.at c.args.token.now c.requires.place c.requires.token c.in-Some.is
+
+pub link-requires-clause-same : goal.link-requires-clause-same
+link-requires-clause-same c =
+    same_if_stands c.differ_decides.ensures c.args.side.now.old.now c.args.side.now.new.now c.args.i c.args.token.now c.in-Some.at c.requires.token
+    (said_place c.args.side.now c.requires.beside c.args.i c.in-Some.at c.args.token.now c.requires.place c.requires.token c.in-Some.is)
+
+pub returns-in_default : goal.returns-in_default
+returns-in_default c =
+    let old = c.args.side.now.old.now in
+    let new = c.args.side.now.new.now in
     let token = c.args.token.now in
     let before = c.args.self.now in
     let begun = c.in_ok-begin.ensures in
     record {
       linked = subst (λ (es : List (List ℕ)). AreLinked old new (c.args.i + 1) es c.begin.new.self.begins.items) (sym begun.graph)
           (begun_more old new c.args.i token before.graph before.begins.items c.requires.token c.requires.links.linked _ begun.begins
-          (reached_itself old new token.0 (c.requires.other c.if-not-is_same.true)));
-      lone = lone_more new c.args.i token before.lone.items _ _ c.requires.token c.requires.links.lone (none_lone token) begun.lone;
+          (reached_itself old new token.0 (said_none c.args.side.now c.requires.beside c.args.i token c.requires.place c.requires.token c.in_default.is)));
+      named = named_more new c.args.i token before.named.items _ _ c.requires.token c.requires.links.named tt begun.named;
     }
 
-pub returns-then-is_lone : goal.returns-then-is_lone
-returns-then-is_lone c =
-    let old = c.args.old.now in
-    let new = c.args.new.now in
+pub returns-in_ok-begin-in-None : goal.returns-in_ok-begin-in-None
+returns-in_ok-begin-in-None c =
+    let old = c.args.side.now.old.now in
+    let new = c.args.side.now.new.now in
     let token = c.args.token.now in
     let before = c.args.self.now in
-    let none = c.requires.lone c.if-is_lone.true in
+    let begun = c.in_ok-begin-in-None.ensures in
     record {
-      linked = alone_more old new c.args.i token before.graph before.begins.items c.requires.token c.requires.links.linked (c.requires.same c.if-not-is_same.false) none;
-      lone = lone_more new c.args.i token before.lone.items _ true c.requires.token c.requires.links.lone (λ _. none) c.in_ok-push.ensures.items;
-    }
-
-pub returns-then-is_lost : goal.returns-then-is_lost
-returns-then-is_lost c =
-    let old = c.args.old.now in
-    let new = c.args.new.now in
-    let token = c.args.token.now in
-    let before = c.args.self.now in
-    let begun = c.in_ok-begin-2.ensures in
-    let of_token = c.deref.ensures ∙ ap (λ (t : TokenAt). t.1.def) c.token.view_is in
-    let names = c.as_slice.ensures ∙ (c.in_ok-names.ensures ∙ ap refs_of of_token) in
-    let changed = subst (NamesChanged old new) names (c.in_ok-is_lost.ensures.lost c.if-is_lost.true) in
-    record {
-      linked = subst (λ (es : List (List ℕ)). AreLinked old new (c.args.i + 1) es c.begin-then-is_lost.new.self.begins.items) (sym begun.graph)
+      linked = subst (λ (es : List (List ℕ)). AreLinked old new (c.args.i + 1) es c.begin-in-None.new.self.begins.items) (sym begun.graph)
           (begun_more old new c.args.i token before.graph before.begins.items c.requires.token c.requires.links.linked _ begun.begins
-          (reached_by_name old new c.args.i token c.requires.token changed));
-      lone = lone_more new c.args.i token before.lone.items _ _ c.requires.token c.requires.links.lone (none_lone token) begun.lone;
-    }
-
-pub set_edges-requires : goal.set_edges-requires
-set_edges-requires c =
-    let old = c.args.old.now in
-    let new = c.args.new.now in
-    let token = c.args.token.now in
-    let before = c.args.self.now in
-    let of_token = c.deref.ensures ∙ ap (λ (t : TokenAt). t.1.def) c.token.view_is in
-    let names = c.as_slice.ensures ∙ (c.in_ok-names.ensures ∙ ap refs_of of_token) in
-    let named = subst (λ (ns : List (List Step)). AreNamed old new ns c.row_of.new.row.items) names (c.in_ok-is_lost.ensures.named c.if-is_lost.false) in
-    record {
-      node = inside old new c.args.i token before.graph before.begins.items c.requires.token c.requires.links.linked;
-      within = subst (λ (ws : List ℕ). All (λ w. w < length before.graph) ws) (sym c.as_slice-2.ensures.value)
-          (row_within old new c.args.i token before.graph before.begins.items c.requires.token c.requires.links.linked _ named);
-    }
-
-pub returns : goal.returns
-returns c =
-    let old = c.args.old.now in
-    let new = c.args.new.now in
-    let token = c.args.token.now in
-    let before = c.args.self.now in
-    let of_token = c.deref.ensures ∙ ap (λ (t : TokenAt). t.1.def) c.token.view_is in
-    let names = c.as_slice.ensures ∙ (c.in_ok-names.ensures ∙ ap refs_of of_token) in
-    let named = subst (λ (ns : List (List Step)). AreNamed old new ns c.row_of.new.row.items) names (c.in_ok-is_lost.ensures.named c.if-is_lost.false) in
-    let made = c.in_ok-set_edges.ensures.ok ∙ ap (λ (ws : List ℕ). set before.graph c.args.i ws) c.as_slice-2.ensures.value in
-    record {
-      linked = linked_more old new c.args.i token before.graph before.begins.items c.requires.token c.requires.links.linked c.row_of.new.row.items _ made
-          (c.requires.same c.if-not-is_same.false) named;
-      lone = lone_more new c.args.i token before.lone.items _ _ c.requires.token c.requires.links.lone
-          (λ e. sym (c.in_ok-names.ensures ∙ ap refs_of of_token) ∙ no_names c.in_ok-names.names (sym c.is_empty.ensures ∙ e)) c.in_ok-push-2.ensures.items;
+          (reached_by_name old new c.args.i token c.requires.token (subst (AreTold old new token c.targets_of.new.targets.items) c.in-None.is c.in_ok-named.ensures)));
+      named = named_more new c.args.i token before.named.items _ _ c.requires.token c.requires.links.named tt begun.named;
     }
