@@ -1,6 +1,10 @@
 mod AndroidDenotes
 mod ApartCells
 mod Beside
+mod Parts
+mod Glued
+mod FoundBlocks
+mod CopiedBlocks
 mod PagesGrow
 mod AddedTokens
 mod CellsExist

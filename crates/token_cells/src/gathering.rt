@@ -1,25 +1,27 @@
 //! Tokens that are added to the files, one after another.
 
-ghost use Rattle.std.specs.Prelude.{◌≡◌, ◌+◌, ◌≤◌, ◌∷◌, ◌++◌, List, [], Some, IfOk, IfSome, OnOk, cond, length};
+ghost use Rattle.std.specs.Prelude.{◌≡◌, ◌+◌, ◌≤◌, ◌<◌, ◌∷◌, ◌++◌, List, [], Some, IfOk, IfSome, OnOk, cond, length, take};
 ghost use Rattle.std.specs.FinMap as map;
-ghost use Rattle.std.specs.List.{count_by, slice_get};
+ghost use Rattle.std.specs.List.{AllZip, count_by, slice_get};
 ghost use Rattle.std.specs.Option.{is_none};
 ghost use Rattle.group_inherit.specs.Flattening.{TokenAt};
 ghost use Rattle.alias_ref.specs.Laws.{Flat as FlatTree};
 ghost use Rattle.transforms.specs.Config.{Settings};
 ghost use Rattle.token_cells.specs.Cell.{AreCells, IsCell};
 ghost use Rattle.tree_changes.specs.Named.{AllNameAs};
-ghost use Rattle.token_cells.specs.declared.keeping.Kept.{Kept as KeptRow};
+ghost use Rattle.token_cells.specs.inner.Blocks.{ComesToKept, FitsIn, IsNextOf, IsRun};
 ghost use Rattle.token_cells.specs.inner.Earlier.{AreKept};
-ghost use Rattle.token_cells.specs.inner.Kept.{kept_view};
+ghost use Rattle.token_cells.specs.inner.Kept.{kept_view, texts_of};
 ghost use Rattle.token_cells.specs.inner.Making.{ComesTo};
 ghost use Rattle.token_cells.specs.inner.Turns.{HasAdded};
 ghost use Rattle.token_cells.specs.inner.Typing.{AreTyped};
 
+use crate::block::{Block, block_from};
 use crate::cells::Cells;
 use crate::evaluated::Evaluated;
-use crate::keeping::Kept;
-use crate::pages::{OpenPages, Room};
+use crate::keeping::{Kept, keep_block, kept_of};
+use crate::moving::push_moved;
+use crate::pages::{OpenPages, Pages, Room};
 use crate::row::Row;
 use crate::token_cell::evaluated_row;
 use crate::typing::Workbench;
@@ -32,13 +34,12 @@ use tk_io::{NoMemory, Steps};
 use transforms::Config;
 use tree_changes::Named;
 
-// What is kept of the i-th token.
-fn kept_of<'a, 's>(kepts: &[Option<Kept<'a, 's>>], i: usize) -> Option<Kept<'a, 's>>
-    ensures { (k : KeptRow) → result ≡ Some k → slice_get kepts.now i ≡ Some (Some k) }
+// Counts so many steps.
+fn tick_all<N: Ledger>(evals: &mut Steps<N>, many: usize)
+    ensures { evals.new ≡ evals.old + many }
 {
-    match kepts.get(i) {
-        Some(kept) => *kept,
-        None => None,
+    for _i in 0..many {
+        evals.tick();
     }
 }
 
@@ -159,6 +160,91 @@ impl<'s> Growing<'s> {
         }
     }
 
+    // Adds the tokens of which this is kept, as it stands one behind another in the block of other files. It is no step.
+    fn add_block(
+        &mut self,
+        kepts: &[Option<Kept<'_, 's>>],
+        pages: &Pages,
+        block: &Block,
+    ) -> Result<(), NoMemory>
+        requires run { IsRun (texts_of pages.now) block.now kepts.now }
+        requires fits { FitsIn (texts_of pages.now) block.now }
+        ensures { OnOk result ((flat : FlatTree) (settings : Settings)
+            (so_far tokens : List TokenAt) → AllZip (ComesToKept flat settings) tokens kepts.now
+            → HasAdded flat settings so_far self.old
+            → HasAdded flat settings (so_far ++ tokens) self.new) }
+    {
+        let own = keep_block(&mut self.pages, pages, block)?;
+        push_moved(&mut self.rows, kepts, block, &own)
+    }
+
+    // Adds the i-th token, or those from it on of which this is kept one behind another, and says which is the next. Each is
+    // one step.
+    fn add_next<N: Ledger>(
+        &mut self,
+        alloc: Global,
+        evaluator: &mut Evaluator<'_, 's>,
+        kepts: &[Option<Kept<'_, 's>>],
+        i: usize,
+        tokens: &[(Path<'s>, Entry<'s>)],
+        cfg: &Config,
+        evals: &mut Steps<N>,
+    ) -> Result<usize, NoMemory>
+        requires tokens { tokens.now ≡ map.entries evaluator.old }
+        requires within { i < length tokens.now }
+        requires kept { AreKept evaluator.old cfg.now kepts.now }
+        requires added { HasAdded evaluator.old cfg.now (take i tokens.now) self.old }
+        ensures tree { evaluator.new ≡ evaluator.old }
+        ensures next { IfOk result (λ next. IsNextOf i (length tokens.now) next) }
+        ensures added { IfOk result (λ next.
+            HasAdded evaluator.old cfg.now (take next tokens.now) self.new) }
+        ensures steps { IfOk result (λ next. evals.new + i ≡ evals.old + next) }
+        ensures at_most { evals.new + i ≤ evals.old + length tokens.now }
+    {
+        if let Some(found) = block_from(kepts, i, tokens.len()) {
+            self.add_block(&kepts[i..found.end], found.pages, &found.block)?;
+            tick_all(evals, found.end - i);
+            return Ok(found.end);
+        }
+        let kept = kept_of(kepts, i);
+        self.add(alloc, evaluator, kept, i, &tokens[i], cfg, evals)?;
+        Ok(i + 1)
+    }
+
+    // The same, where this is kept of each token. It is one step for a token of which nothing is kept.
+    fn add_next_since<N: Ledger>(
+        &mut self,
+        alloc: Global,
+        evaluator: &mut Evaluator<'_, 's>,
+        kepts: &[Option<Kept<'_, 's>>],
+        i: usize,
+        tokens: &[(Path<'s>, Entry<'s>)],
+        cfg: &Config,
+        evals: &mut Steps<N>,
+    ) -> Result<usize, NoMemory>
+        requires tokens { tokens.now ≡ map.entries evaluator.old }
+        requires within { i < length tokens.now }
+        requires long { length kepts.now ≡ length tokens.now }
+        requires kept { AreKept evaluator.old cfg.now kepts.now }
+        requires added { HasAdded evaluator.old cfg.now (take i tokens.now) self.old }
+        ensures tree { evaluator.new ≡ evaluator.old }
+        ensures next { IfOk result (λ next. IsNextOf i (length tokens.now) next) }
+        ensures added { IfOk result (λ next.
+            HasAdded evaluator.old cfg.now (take next tokens.now) self.new) }
+        ensures steps { IfOk result (λ next. evals.new + count_by is_none (take i kepts.now)
+            ≡ evals.old + count_by is_none (take next kepts.now)) }
+        ensures at_most { evals.new + count_by is_none (take i kepts.now)
+            ≤ evals.old + count_by is_none kepts.now }
+    {
+        if let Some(found) = block_from(kepts, i, tokens.len()) {
+            self.add_block(&kepts[i..found.end], found.pages, &found.block)?;
+            return Ok(found.end);
+        }
+        let kept = kepts[i];
+        self.add_since(alloc, evaluator, kept, i, &tokens[i], cfg, evals)?;
+        Ok(i + 1)
+    }
+
     // Adds all tokens of the flat tree to none, in path order, of which this is kept. Each is one step.
     fn add_all<N: Ledger>(
         &mut self,
@@ -176,9 +262,9 @@ impl<'s> Growing<'s> {
     {
         let tokens = flat.as_slice();
         let mut evaluator = Evaluator::new(alloc, flat)?;
-        for (i, token) in tokens.iter().enumerate() {
-            let kept = kept_of(kepts, i);
-            self.add(alloc, &mut evaluator, kept, i, token, cfg, evals)?;
+        let mut i = 0;
+        while i < tokens.len() {
+            i = self.add_next(alloc, &mut evaluator, kepts, i, tokens, cfg, evals)?;
         }
         Ok(())
     }
@@ -201,9 +287,9 @@ impl<'s> Growing<'s> {
     {
         let tokens = flat.as_slice();
         let mut evaluator = Evaluator::new(alloc, flat)?;
-        for (i, token) in tokens.iter().enumerate() {
-            let kept = kepts[i];
-            self.add_since(alloc, &mut evaluator, kept, i, token, cfg, evals)?;
+        let mut i = 0;
+        while i < tokens.len() {
+            i = self.add_next_since(alloc, &mut evaluator, kepts, i, tokens, cfg, evals)?;
         }
         Ok(())
     }

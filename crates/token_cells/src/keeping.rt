@@ -1,11 +1,15 @@
 //! Adding what a token gave to other files, where it gives the same again.
 
-ghost use Rattle.std.specs.Prelude.{◌≡◌, ◌++◌, IfOk, OnOk, slice_range};
+ghost use Rattle.std.specs.Prelude.{◌≡◌, ◌++◌, Some, IfOk, OnOk, slice_range};
+ghost use Rattle.std.specs.List.{slice_get};
 ghost use Rattle.transforms.specs.Extent.{text_in};
 ghost use Rattle.token_cells.specs.inner.Kept.{fragment_in, fragments_view, kept_view, texts_of};
+ghost use Rattle.token_cells.specs.declared.keeping.Kept.{Kept as KeptRow};
+ghost use Rattle.token_cells.specs.inner.Blocks.{AddsBlock};
 ghost use Rattle.token_cells.specs.inner.AddedToPages.{AddsNames, AddsFrag, AddsBody, AddsRow, AreNamesAt};
 
 use crate::adding::place;
+use crate::block::Block;
 use crate::pages::{OpenPages, Pages};
 use crate::row::{Fragments, Row, Run, Shown};
 use tk_io::{Body, NoMemory};
@@ -16,6 +20,16 @@ use transforms::{Extent, Sheet, Texts};
 pub(crate) struct Kept<'a, 's> {
     pub(crate) row: &'a Row<'s>,
     pub(crate) pages: &'a Pages,
+}
+
+/// What is kept of the i-th token.
+pub(crate) fn kept_of<'a, 's>(kepts: &[Option<Kept<'a, 's>>], i: usize) -> Option<Kept<'a, 's>>
+    ensures { (k : KeptRow) → result ≡ Some k → slice_get kepts.now i ≡ Some (Some k) }
+{
+    match kepts.get(i) {
+        Some(kept) => *kept,
+        None => None,
+    }
 }
 
 // Adds the names of a run of others to all of them.
@@ -118,6 +132,24 @@ fn keep_fragments(
         android,
         swift,
         json: keep_lines(&mut pages.json, &others.json, fragments.json)?,
+    })
+}
+
+/// Copies the lines and the names of the block out of other pages, and says where they are in these.
+pub(crate) fn keep_block(
+    pages: &mut OpenPages,
+    others: &Pages,
+    block: &Block,
+) -> Result<Block, NoMemory>
+    ensures { IfOk result (λ own. AddsBlock
+        pages.old pages.new own (texts_of others.now) block.now) }
+{
+    Ok(Block {
+        css: keep_lines(&mut pages.css, &others.css, block.css)?,
+        android: keep_lines(&mut pages.android, &others.android, block.android)?,
+        swift: keep_lines(&mut pages.swift, &others.swift, block.swift)?,
+        json: keep_lines(&mut pages.json, &others.json, block.json)?,
+        names: keep_names(&mut pages.names, &others.names, block.names)?,
     })
 }
 

@@ -9,6 +9,7 @@
 #![tactic(auto)]
 
 mod adding;
+mod block;
 mod cells;
 mod drafts;
 mod earlier;
@@ -17,6 +18,7 @@ mod format;
 mod gathering;
 mod keeping;
 mod laws;
+mod moving;
 mod names;
 mod pages;
 mod row;

@@ -11,7 +11,8 @@ use Rattle.token_cells.specs.Evaluated.{KnownTree}
 use Rattle.token_cells.specs.declared.earlier.KeptRows.{KeptRows}
 use Rattle.token_cells.specs.declared.keeping.Kept.{Kept}
 use Rattle.token_cells.specs.declared.row.Row.{Row}
-use Rattle.token_cells.specs.inner.Kept.{PageTexts, kept_view, rows_view}
+use Rattle.token_cells.specs.inner.Blocks.{AreFrom}
+use Rattle.token_cells.specs.inner.Kept.{PageTexts, kept_view, rows_view, texts_of}
 
 -- a place that is kept is one of so many
 abbrev pub IsWithin : ℕ → Option ℕ → Type 0
@@ -22,12 +23,14 @@ IsWithin many (Some i) = i < many
 abbrev pub IsKeptOf : PageTexts → List Row → Option ℕ → Option Kept → Type 0
 IsKeptOf pages rows place None = Unit {0}
 IsKeptOf pages rows place (Some kept) =
-    (i : ℕ) × (place ≡ Some i) × (slice_get (rows_view pages rows) i ≡ Some (kept_view kept))
+    (i : ℕ) × (place ≡ Some i) × (slice_get (rows_view pages rows) i ≡ Some (kept_view kept)) × (texts_of kept.pages.now ≡ pages)
 
--- the tokens of the flat tree come to what is kept at their places, where something is
-abbrev pub AreKept : Flat → Settings → List (Option Kept) → Type 0
-AreKept flat settings kepts = (i : ℕ) (token : TokenAt) (kept : Kept) → slice_get (finite.entries flat) i ≡ Some token
-    → slice_get kepts i ≡ Some (Some kept) → IsCell flat settings token.0 (kept_view kept)
+-- the tokens of the flat tree come to what is kept at their places, where something is, and that stands in the same files
+pub record AreKept (flat : Flat) (settings : Settings) (kepts : List (Option Kept)) : Type 0 where
+  pub cells : (i : ℕ) (token : TokenAt) (kept : Kept) → slice_get (finite.entries flat) i ≡ Some token
+      → slice_get kepts i ≡ Some (Some kept) → IsCell flat settings token.0 (kept_view kept)
+  pub pages : PageTexts
+  pub from : AreFrom pages kepts
 
 -- .. and it is known which of them name no other
 pub record IsKept (flat : Flat) (settings : Settings) (kept : KeptRows) : Type 0 where

@@ -16,4 +16,5 @@ returns-clause-kept c =
       i,
       c.in-Some.is,
       shown_at (texts_of c.args.pages.now) c.args.rows.now i row (slice_get_read c.args.rows.now (length c.args.rows.now) i row refl within c.index-rows-i.is),
+      refl,
     )

@@ -1,10 +1,13 @@
 -- The tokens so far were added, each of which nothing is kept in one step.
-use Rattle.std.proofs.Common.{◌≡◌, ◌+◌, take}
+use Rattle.std.proofs.Common.{◌≡◌, ◌+◌, ◌-◌, ◌≤◌, length, take}
 use Rattle.std.specs.List.{count_by}
 use Rattle.std.specs.Option.{is_none}
 use Rattle.token_cells.specs.inner.Turns.{HasAdded}
 use Rattle.token_cells.proofs.gathering.Growing.add_all_since.Given as goal
 
+abbrev pub decreases-loop-i : goal.decreases-loop-i
+decreases-loop-i g l = length l.tokens - l.i
+
 abbrev pub invariant-loop-i : goal.invariant-loop-i
 invariant-loop-i g l =
-    HasAdded l.flat l.cfg (take l.i l.tokens) l.self × (l.evaluator ≡ l.flat) × (l.evals ≡ l.initial.evals + count_by is_none (take l.i l.kepts))
+    HasAdded l.flat l.cfg (take l.i l.tokens) l.self × (l.evaluator ≡ l.flat) × (l.evals ≡ l.initial.evals + count_by is_none (take l.i l.kepts)) × (l.i ≤ length l.tokens)
