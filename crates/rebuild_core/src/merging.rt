@@ -7,7 +7,7 @@ ghost use Rattle.token_tree.specs.View.{group_view};
 ghost use Rattle.permutations.specs.Permutation.{Permutation};
 ghost use Rattle.file_plan.specs.View.{plan_perm_view, plan_sources_view};
 ghost use Rattle.source_trees.specs.Merges.{IsMergeOf};
-ghost use Rattle.source_trees.specs.Merging.{AllInlineStand, AreKnown};
+ghost use Rattle.source_trees.specs.Merging.{AllInlineStand, AreKnown, IsFront};
 ghost use Rattle.source_trees.specs.declared.merge.Merge.{Merge as MergeData};
 ghost use Rattle.transforms.specs.Config.{Settings};
 ghost use Rattle.build_plain.specs.Breaks.{home_of};
@@ -25,7 +25,7 @@ use crate::past::Shared;
 use alias_ref::differ_decides;
 use build_plain::{Outcome, home_of};
 use file_plan::{Files, PlanPerm};
-use source_trees::{Merge, Merged, Shapes, SourceBreak, merge_of, merged_sources};
+use source_trees::{Front, Merge, Merged, Shapes, SourceBreak, merge_of, merged_behind};
 use std::alloc::Global;
 use std::sync::ledger::Ledger;
 use tk_io::{NoMemory, Steps};
@@ -133,14 +133,15 @@ fn broken_done<'s>(
     })
 }
 
-/// What the permutation comes to, where its sources hold other than before. `old` is its tree before, and `last` that of
-/// another permutation, under this configuration.
-pub(crate) fn merged_anew<'s, M: Ledger, N: Ledger>(
+/// What the permutation comes to, where its sources hold other than before. Those of the front are not laid again. `old` is
+/// its tree before, and `last` that of another permutation, under this configuration.
+pub(crate) fn merged_anew<'a, 's, M: Ledger, N: Ledger>(
     alloc: Global,
     files: &Files<'s>,
     cfg: &Config,
     shapes: &Shapes<'s>,
-    perm: &PlanPerm<'s>,
+    perm: &'a PlanPerm<'s>,
+    front: &mut Front<'a, 's>,
     old: Option<&Evaluated<'s>>,
     last: Option<&Evaluated<'s>>,
     merges: &mut Steps<M>,
@@ -148,8 +149,10 @@ pub(crate) fn merged_anew<'s, M: Ledger, N: Ledger>(
 ) -> Result<Done<'s>, NoMemory>
     requires stand { AllInlineStand (home_of files.now).text (plan_sources_view perm.now.sources) }
     requires known { AreKnown files.now shapes.now (plan_sources_view perm.now.sources) }
+    requires front { IsFront shapes.now (home_of files.now) front.old }
     requires old { IfSome old (λ tree. AreCellsOf cfg.now tree.now) }
     requires last { IfSome last (λ tree. AreCellsOf cfg.now tree.now) }
+    ensures front { IsFront shapes.now (home_of files.now) front.new }
     ensures outcome { IfOk result (λ done.
         IsOutcome cfg.now files.now (plan_perm_view perm.now) (outcome_of done.shared)) }
     ensures work { (kept : Option KeptPerm)
@@ -168,7 +171,7 @@ pub(crate) fn merged_anew<'s, M: Ledger, N: Ledger>(
     laws_below();
     let home = home_of(files);
     let sources = perm.sources.as_slice();
-    match merged_sources(alloc, shapes, home, sources)? {
+    match merged_behind(alloc, shapes, home, sources, front)? {
         Merged::Tree(tree) => tree_done(alloc, files, cfg, &tree, old, last, merges, evals),
         Merged::Broken(found) => broken_done(alloc, files, found),
     }

@@ -6,7 +6,7 @@ ghost use Rattle.std.specs.Option.{option_map};
 ghost use Rattle.tk_io.specs.FilesData.{FilesData};
 ghost use Rattle.permutations.specs.Permutation.{Permutation};
 ghost use Rattle.file_plan.specs.View.{plan_perm_view, plan_sources_view, plan_view};
-ghost use Rattle.source_trees.specs.Merging.{AllInlineStand, AreKnown};
+ghost use Rattle.source_trees.specs.Merging.{AllInlineStand, AreKnown, IsFront};
 ghost use Rattle.transforms.specs.Config.{Settings};
 ghost use Rattle.build_plain.specs.Breaks.{home_of};
 ghost use Rattle.build_plain.specs.Out.{GivesFrom};
@@ -26,7 +26,7 @@ use crate::past::{Past, Shared};
 use crate::putting::put_shared;
 use build_plain::Outcome;
 use file_plan::{Files, PlanPerm};
-use source_trees::{Shapes, merged_by_content};
+use source_trees::{Front, Shapes, alike, merged_by_content};
 use std::alloc::Global;
 use std::sync::ledger::Ledger;
 use tk_io::{NoMemory, Outputs, Steps};
@@ -109,23 +109,26 @@ fn tree_under<'a, 's>(
 }
 
 // What a permutation comes to that stood at this place of the plan before.
-fn renewed_at<'s, M: Ledger, N: Ledger>(
+fn renewed_at<'a, 's, M: Ledger, N: Ledger>(
     alloc: Global,
     files: &Files<'s>,
     cfg: &Config,
     shapes: &Shapes<'s>,
     past: &Past<'s>,
     i: usize,
-    perm: &PlanPerm<'s>,
+    perm: &'a PlanPerm<'s>,
+    front: &mut Front<'a, 's>,
     last: Option<&Evaluated<'s>>,
     merges: &mut Steps<M>,
     evals: &mut Steps<N>,
 ) -> Result<Done<'s>, NoMemory>
     requires stand { AllInlineStand (home_of files.now).text (plan_sources_view perm.now.sources) }
     requires known { AreKnown files.now shapes.now (plan_sources_view perm.now.sources) }
+    requires front { IsFront shapes.now (home_of files.now) front.old }
     requires last { IfSome last (λ tree. AreCellsOf cfg.now tree.now) }
     requires past { (before : Option FilesData) × IsPast before past.now }
     requires there { IsNamedAt past.now.plan perm.now.name i }
+    ensures front { IsFront shapes.now (home_of files.now) front.new }
     ensures outcome { IfOk result (λ done.
         IsOutcome cfg.now files.now (plan_perm_view perm.now) (outcome_of done.shared)) }
     ensures work { (before : Option FilesData) → IsPast before past.now → IfOk result (λ done.
@@ -147,25 +150,30 @@ fn renewed_at<'s, M: Ledger, N: Ledger>(
         return kept_again(alloc, files, cfg, &past.config, kept, last, evals);
     }
     let tree = tree_under(&past.config, cfg, kept.outcome());
-    merged_anew(alloc, files, cfg, shapes, perm, tree, last, merges, evals)
+    merged_anew(
+        alloc, files, cfg, shapes, perm, front, tree, last, merges, evals,
+    )
 }
 
 // What a permutation comes to.
-fn renewed_perm<'s, M: Ledger, N: Ledger>(
+fn renewed_perm<'a, 's, M: Ledger, N: Ledger>(
     alloc: Global,
     files: &Files<'s>,
     cfg: &Config,
     shapes: &Shapes<'s>,
     past: &Past<'s>,
-    perm: &PlanPerm<'s>,
+    perm: &'a PlanPerm<'s>,
+    front: &mut Front<'a, 's>,
     last: Option<&Evaluated<'s>>,
     merges: &mut Steps<M>,
     evals: &mut Steps<N>,
 ) -> Result<Done<'s>, NoMemory>
     requires stand { AllInlineStand (home_of files.now).text (plan_sources_view perm.now.sources) }
     requires known { AreKnown files.now shapes.now (plan_sources_view perm.now.sources) }
+    requires front { IsFront shapes.now (home_of files.now) front.old }
     requires last { IfSome last (λ tree. AreCellsOf cfg.now tree.now) }
     requires past { (before : Option FilesData) × IsPast before past.now }
+    ensures front { IsFront shapes.now (home_of files.now) front.new }
     ensures outcome { IfOk result (λ done.
         IsOutcome cfg.now files.now (plan_perm_view perm.now) (outcome_of done.shared)) }
     ensures work { (before : Option FilesData) → IsPast before past.now → IfOk result (λ done.
@@ -179,13 +187,23 @@ fn renewed_perm<'s, M: Ledger, N: Ledger>(
     laws_below();
     match place_named(past.plan.as_slice(), perm.name.as_str()) {
         Some(i) => renewed_at(
-            alloc, files, cfg, shapes, past, i, perm, last, merges, evals,
+            alloc, files, cfg, shapes, past, i, perm, front, last, merges, evals,
         ),
-        None => merged_anew(alloc, files, cfg, shapes, perm, None, last, merges, evals),
+        None => merged_anew(
+            alloc, files, cfg, shapes, perm, front, None, last, merges, evals,
+        ),
     }
 }
 
-/// What the permutations of a plan come to.
+// With how many of its sources the next permutation begins too.
+fn begun_alike(perm: &PlanPerm<'_>, next: Option<&PlanPerm<'_>>) -> usize {
+    match next {
+        Some(next) => alike(perm.sources.as_slice(), next.sources.as_slice()),
+        None => 0,
+    }
+}
+
+/// What the permutations of a plan come to. Sources with which one begins as the one before it are laid once.
 pub(crate) fn renewed_perms<'s, M: Ledger, N: Ledger>(
     alloc: Global,
     files: &Files<'s>,
@@ -214,9 +232,14 @@ pub(crate) fn renewed_perms<'s, M: Ledger, N: Ledger>(
         merged: 0,
         evaluated: 0,
     };
+    let mut front = Front::none(alloc);
     for perm in plan {
-        let last = last_tree(all.outcomes.as_slice());
-        let done = renewed_perm(alloc, files, cfg, shapes, past, perm, last, merges, evals)?;
+        let so_far = all.outcomes.as_slice();
+        let last = last_tree(so_far);
+        front.keep = begun_alike(perm, plan.get(so_far.len() + 1));
+        let done = renewed_perm(
+            alloc, files, cfg, shapes, past, perm, &mut front, last, merges, evals,
+        )?;
         all.add(done)?;
     }
     Ok(all)

@@ -30,11 +30,11 @@ use Rattle.source_trees.specs.View.{break_view}
 use Rattle.file_plan.specs.View.{plan_source_view, plan_sources_view}
 use Rattle.source_trees.proofs.EachMerge.{missing_found, sources_found}
 
-merged_append : (before : Group) (xs ys : List Group) → merged_over (merged_over before xs) ys ≡ merged_over before (xs ++ ys)
+pub merged_append : (before : Group) (xs ys : List Group) → merged_over (merged_over before xs) ys ≡ merged_over before (xs ++ ys)
 merged_append before [] ys = refl
 merged_append before (x ∷ xs) ys = merged_append (over x before) xs ys
 
-nil_append : {A : Type 0} (xs ys : List A) → xs ≡ [] → xs ++ ys ≡ ys
+pub nil_append : {A : Type 0} (xs ys : List A) → xs ≡ [] → xs ++ ys ≡ ys
 nil_append xs ys e = ap (λ zs. zs ++ ys) e
 
 -- a first source that breaks nothing, and the others over its tree

@@ -11,3 +11,4 @@ mod SourcesHoldTokens
 mod StringsAreTexts
 mod ShapesListed
 mod NeedsInOrder
+pub mod Fronts

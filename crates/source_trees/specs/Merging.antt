@@ -8,6 +8,8 @@ use Rattle.token_tree.specs.Promise.{StandsIn}
 use Rattle.token_tree.specs.View.{group_view}
 use Rattle.token_tree.specs.Tree.{Group}
 use Rattle.group_inherit.specs.Merging.{merged_over, empty_group}
+use Rattle.file_plan.specs.View.{plan_sources_view}
+use Rattle.source_trees.specs.declared.front.Front.{Front}
 use Rattle.source_trees.specs.declared.laying.Merged.{Merged}
 use Rattle.source_trees.specs.declared.laying.Merged.TheVariants.{Tree, Broken}
 use Rattle.source_trees.specs.declared.shape.FileShape.{FileShape}
@@ -51,3 +53,7 @@ IsMergedOf files home sources m = IsLaidOver files home sources empty_group m
 -- .. in any files of which these are the shapes
 abbrev pub IsMergedBy : finite.FinMap text_cmp FileShape → HomeAt → List TokenSource → Merged → Type 0
 IsMergedBy shapes home sources m = (files : FilesData) → AreKnown files shapes sources → IsMergedOf files home sources m
+
+-- the tree of a front is that to which its sources come
+abbrev pub IsFront : finite.FinMap text_cmp FileShape → HomeAt → Front → Type 0
+IsFront shapes home front = IsMergedBy shapes home (plan_sources_view front.sources.now) (Tree front.tree)

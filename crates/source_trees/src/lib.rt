@@ -3,6 +3,7 @@
 //! project's profile).
 #![tactic(auto)]
 
+mod front;
 mod laws;
 mod laying;
 mod merge;
@@ -11,11 +12,12 @@ mod shape;
 mod shapes;
 mod source;
 
+pub use front::{Front, alike};
 pub use laws::{
     each_merge, extension_rule_laws, merged_by_content, merged_tokens, one_merge, shape_rule_laws,
     shapes_known,
 };
-pub use laying::{Merged, merged_sources};
+pub use laying::{Merged, merged_behind, merged_sources};
 pub use merge::{Merge, Merges, merge_of};
 pub use reading::read_named;
 pub use shape::{FileShape, Shapes};

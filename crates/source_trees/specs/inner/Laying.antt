@@ -1,5 +1,5 @@
 -- What one shape comes to, and one source over what is merged before it.
-use Rattle.std.specs.Prelude.{ℕ, List, [], ◌∷◌, map}
+use Rattle.std.specs.Prelude.{◌≡◌, ◌≤◌, ℕ, List, [], ◌∷◌, length, map, take}
 use Rattle.std.specs.FinMap as finite
 use Rattle.json_span.specs.Tree.{Placed}
 use Rattle.json_span.specs.declared.reader.JsonFault.{JsonFault}
@@ -10,9 +10,11 @@ use Rattle.token_tree.specs.Tree.{Group}
 use Rattle.permutations.specs.Permutation.{TokenSource}
 use Rattle.file_plan.specs.Trees.{IsTreeOf}
 use Rattle.file_plan.specs.declared.tree.Tree.TheVariants.{Flawed}
+use Rattle.file_plan.specs.declared.source.PlanSource.{PlanSource}
 use Rattle.source_trees.specs.Merging.{IsKnown, IsLaid}
 use Rattle.source_trees.specs.Sources.{HomeAt, BreakAt, shape_break, SourceFound}
 use Rattle.source_trees.specs.Trees.{IsShapeBy, IsShapeFor}
+use Rattle.source_trees.specs.declared.front.Front.{Front}
 use Rattle.source_trees.specs.declared.laying.Merged.{Merged}
 use Rattle.source_trees.specs.declared.shape.FileShape.{FileShape}
 
@@ -36,3 +38,8 @@ Lays files home source before m =
 -- .. in any files of which these are the shapes
 abbrev pub LaysBy : finite.FinMap text_cmp FileShape → HomeAt → TokenSource → Group → Merged → Type 0
 LaysBy shapes home source before m = (files : FilesData) → IsKnown files shapes source → Lays files home source before m
+
+-- the sources begin with those of the front
+pub record BeginsWith (sources : List PlanSource) (front : Front) : Type 0 where
+  pub within : length front.sources.now ≤ length sources
+  pub begins : front.sources.now ≡ take (length front.sources.now) sources

@@ -72,6 +72,7 @@ merged_anew-requires g c =
     record {
       stand = c.requires.stand;
       known = c.requires.known;
+      front = c.requires.front;
       old = c.tree_under-tree.ensures.cells
           (subst (HoldsCells past.config) (sym c.outcome.ensures) (holds past name c.args.i c.requires.there old kept at beside c.requires.past.0 c.requires.past.1));
       last = c.requires.last;

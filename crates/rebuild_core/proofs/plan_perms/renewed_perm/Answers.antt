@@ -14,6 +14,7 @@ renewed_at-requires g c =
     record {
       stand = c.requires.stand;
       known = c.requires.known;
+      front = c.requires.front;
       last = c.requires.last;
       past = c.requires.past;
       there = subst (λ (n : List ℕ). IsNamedAt c.args.past.now.plan n c.in-Some.i) c.as_str.ensures (subst (λ (l : List PlanPerm). IsNamedAt l c.as_str.result.now c.in-Some.i) c.as_slice.ensures found);

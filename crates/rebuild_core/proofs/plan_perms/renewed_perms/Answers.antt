@@ -1,5 +1,6 @@
 use Rattle.std.proofs.Common.{◌≡◌, ◌+◌, List, drop, take, sym, ap, subst, ◌∙◌, arith}
 use Rattle.file_plan.specs.View.{plan_perm_view, plan_view}
+use Rattle.build_plain.specs.Breaks.{home_of}
 use Rattle.build_plain.specs.Work.{added, work}
 use Rattle.build_plain.specs.inner.Making.{AllKnown, AllStand}
 use Rattle.build_plain.proofs.Works.{added_more, added_none}
@@ -18,7 +19,8 @@ renewed_perm-requires g c =
     record {
       stand = (subst (AllStand files) next c.loop-perm.invariant.stand).0;
       known = (subst (AllKnown files c.args.shapes.now) next c.loop-perm.invariant.known).0;
-      last = c.last_tree-last.ensures c.args.cfg.now files (plan_view (take c.loop-perm.perm-index c.args.plan.now)) (subst (λ (l : List Shared). CameTo c.args.cfg.now files (plan_view (take c.loop-perm.perm-index c.args.plan.now)) l) (sym c.as_slice.ensures.value) c.loop-perm.invariant.came);
+      front = c.loop-perm.invariant.front;
+      last = c.last_tree-last.ensures c.args.cfg.now files (plan_view (take c.loop-perm.perm-index c.args.plan.now)) (subst (λ (l : List Shared). CameTo c.args.cfg.now files (plan_view (take c.loop-perm.perm-index c.args.plan.now)) l) (sym c.as_slice-so_far.ensures.value) c.loop-perm.invariant.came);
       past = c.requires.past;
     }
 
@@ -28,6 +30,7 @@ loop-perm-init g c =
     record {
       stand = c.requires.stand;
       known = c.requires.known;
+      front = c.none-front.ensures c.args.shapes.now (home_of c.args.files.now);
       came = come_start c.args.cfg.now c.args.files.now c.args.plan.now c.new.result.items c.new.ensures.items;
       done = λ before is. done_start before c.args.cfg.now c.args.files.now (plan_view c.args.plan.now);
       counted = added_none start;
@@ -52,6 +55,7 @@ loop-perm-preserved g c =
     record {
       stand = (subst (AllStand files) next c.loop-perm.invariant.stand).1;
       known = (subst (AllKnown files c.args.shapes.now) next c.loop-perm.invariant.known).1;
+      front = c.renewed_perm.ensures.front;
       came = come_more cfg files plan i p c.loop-perm.all.outcomes.items c.add.new.self.outcomes.items c.in_ok-done.done.shared c.loop-perm-test.true c.perm-item.is c.loop-perm.invariant.came
           c.in_ok-done.ensures.outcome c.in_ok-add.ensures.outcomes;
       done = λ old is.
