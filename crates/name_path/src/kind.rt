@@ -5,6 +5,7 @@ ghost use Rattle.name_path.specs.declared.kind.Kind.{Kind};
 ghost use Rattle.name_path.specs.Kinds.{kind_name, is_simple_kind};
 
 use std::fmt;
+use tk_io::is_same;
 
 /// The kind of a token, by which its value is read (Format Module, sections on types).
 #[derive(Clone, Copy, PartialEq, Eq)]
@@ -79,7 +80,7 @@ impl Kind {
             (λ kind. kind_name kind ≡ text.now) }
     {
         for kind in &KINDS {
-            if kind.name() == text {
+            if is_same(kind.name(), text) {
                 return Some(*kind);
             }
         }

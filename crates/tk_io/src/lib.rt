@@ -5,6 +5,7 @@
 mod body;
 mod bytes;
 mod clean;
+mod comparing;
 mod faults;
 mod memory;
 mod outputs;
@@ -20,6 +21,7 @@ mod text_map;
 pub use body::Body;
 pub use bytes::Bytes;
 pub use clean::{CleanSource, NullSink};
+pub use comparing::is_same;
 pub use faults::{Failed, NoMemory};
 pub use memory::{MemSink, MemSource};
 pub use outputs::Outputs;

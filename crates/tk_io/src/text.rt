@@ -14,6 +14,7 @@ ghost use Rattle.std.proofs.Common.{rules};
 ghost use Rattle.tk_io.specs.Order.{text_cmp};
 
 use crate::NoMemory;
+use crate::comparing::{is_same, order_of};
 use std::alloc::Global;
 use std::cmp::Ordering;
 use std::fmt;
@@ -208,7 +209,7 @@ impl<'s> PartialEq for Text<'s> {
     ghost laws = { Cmp.partial_equiv_from_equiv nat_list_eq_equiv };
 
     fn eq(&self, other: &Self) -> bool {
-        self.as_str() == other.as_str()
+        is_same(self.as_str(), other.as_str())
     }
 }
 
@@ -237,7 +238,7 @@ impl<'s> Ord for Text<'s> {
     ghost matches_eq = { λ x y. texts_ties x y };
 
     fn cmp(&self, other: &Self) -> Ordering {
-        self.as_str().cmp(other.as_str())
+        order_of(self.as_str(), other.as_str())
     }
 }
 

@@ -12,13 +12,13 @@ use crate::mark::Mark;
 use json_span::{NodeRef, ValueType};
 use name_path::{Kind, Path, RefStop, read_group};
 use std::alloc::Global;
-use tk_io::NoMemory;
+use tk_io::{NoMemory, is_same};
 
 /// Whether the name is this word.
 pub(crate) fn is_word(name: &str, word: &str) -> bool
     ensures { result ≡ bytes_eq name.now word.now }
 {
-    name == word
+    is_same(name, word)
 }
 
 /// Whether a name begins with `$`.
