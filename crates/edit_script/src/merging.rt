@@ -14,6 +14,7 @@ ghost use Rattle.edit_script.specs.View.{with_line};
 
 use crate::record_line::{file_line, gone_line};
 use crate::{Change, Changes};
+use lane_scan::are_same;
 use std::alloc::Global;
 use std::cmp::Ordering;
 use tk_io::{Body, NoMemory, Outputs};
@@ -101,7 +102,7 @@ fn first_found<'a>(
         Ordering::Less => Some((Found::Gone(old_path), 1, 0)),
         Ordering::Greater => Some((Found::Written(new_path, new_bytes), 0, 1)),
         Ordering::Equal => {
-            if old_bytes == new_bytes {
+            if are_same(old_bytes, new_bytes) {
                 return Some((Found::Same, 1, 1));
             }
             Some((Found::Written(new_path, new_bytes), 1, 1))

@@ -1,2 +1,3 @@
 mod MarkLaws
 mod RunLaws
+mod SameLaws

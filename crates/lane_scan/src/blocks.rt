@@ -1,6 +1,7 @@
 //! One block of 32 bytes as one number: a bit for each byte, the first byte lowest.
 
 ghost use Rattle.std.specs.Prelude.{◌≡◌, ◌+◌, ◌≤◌, ◌==◌, length, take, drop, map, cond, not};
+ghost use Rattle.std.specs.Str.{bytes_eq};
 ghost use Rattle.lane_scan.specs.Bytes.{is_special, is_blank, is_newline};
 ghost use lib.Count.{count_trailing_zeros};
 ghost use lib.Lanes.{mask_l};
@@ -42,6 +43,17 @@ pub(crate) fn newline_bits(bytes: &[u8], at: usize) -> u64
 {
     let block = u8x32::from_slice(&bytes[at..]);
     block.simd_eq(u8x32::splat(b'\n')).to_bitmask()
+}
+
+/// Whether the blocks of the two runs at `at` are the same.
+pub(crate) fn are_same_blocks(left: &[u8], right: &[u8], at: usize) -> bool
+    requires left { at + 32 ≤ length left.now }
+    requires right { at + 32 ≤ length right.now }
+    ensures { result ≡ bytes_eq (take 32 (drop at left.now)) (take 32 (drop at right.now)) }
+{
+    let block = u8x32::from_slice(&left[at..]);
+    let other = u8x32::from_slice(&right[at..]);
+    block.simd_ne(other).to_bitmask() == 0
 }
 
 /// How many bytes of a block come before the first one that is marked.

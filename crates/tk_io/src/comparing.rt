@@ -29,9 +29,10 @@ fn is_same_short(left: &[u8], right: &[u8]) -> bool
 {
     let mut ours = left;
     let mut others = right;
-    while let (Some((byte, rest)), Some((other, more))) =
-        (ours.split_first(), others.split_first())
-    {
+    while let (Some((byte, rest)), Some((other, more))) = (
+        ours.split_first(),
+        others.split_first(),
+    ) {
         if byte != other {
             return false;
         }
@@ -47,9 +48,10 @@ pub(crate) fn order_of(left: &str, right: &str) -> Ordering
 {
     let mut ours = left.as_bytes();
     let mut others = right.as_bytes();
-    while let (Some((byte, rest)), Some((other, more))) =
-        (ours.split_first(), others.split_first())
-    {
+    while let (Some((byte, rest)), Some((other, more))) = (
+        ours.split_first(),
+        others.split_first(),
+    ) {
         if byte != other {
             return byte.cmp(other);
         }
