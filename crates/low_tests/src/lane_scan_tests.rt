@@ -1,7 +1,8 @@
-//! The scans over tables of texts, and against plain loops at every length from 0 to 130 and every start.
+//! The scans over tables of texts, and against plain loops at every length from 0 to 130 and every start; runs of every such
+//! length beside themselves and beside others.
 
 use crate::checks::check_at;
-use lane_scan::{count_newlines, first_special, last_newline, skip_blank};
+use lane_scan::{are_same, count_newlines, first_special, last_newline, skip_blank};
 use std::alloc::Global;
 
 const LONGEST: usize = 130;
@@ -94,6 +95,27 @@ fn same_as_plain_loops(rt: HostRuntime) {
                 *step,
             );
         }
+    }
+}
+
+// Whether a run of this length is the same as itself, and is not once any one of its bytes is another.
+fn same_but_for_one(length: usize) -> bool {
+    let run = [b'x'; LONGEST];
+    let ours = run.get(..length).unwrap_or(&run);
+    for i in 0..length {
+        let mut other = [b'x'; LONGEST];
+        other[i] = b'y';
+        if are_same(ours, other.get(..length).unwrap_or(&other)) {
+            return false;
+        }
+    }
+    are_same(ours, ours) && (length == LONGEST || !are_same(ours, &run))
+}
+
+#[test]
+fn runs_are_the_same_to_the_last_byte(rt: HostRuntime) {
+    for length in 0..LONGEST + 1 {
+        check_at(&rt, same_but_for_one(length), length);
     }
 }
 

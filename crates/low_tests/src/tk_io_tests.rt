@@ -4,7 +4,7 @@ use crate::checks::{check, check_at};
 use std::alloc::Global;
 use tk_io::{
     Bytes, CleanSource, MemSink, MemSource, NoMemory, NullSink, Outputs, ReadStop, Sequence,
-    Source, StdSink, StdSource, Text, TextMap, behind, is_in, read_all, write_all,
+    Source, StdSink, StdSource, Text, TextMap, behind, is_in, is_same, read_all, write_all,
 };
 
 // Whether a source is read, up to the limit, as these bytes.
@@ -120,6 +120,30 @@ fn a_list_in_order_is_looked_through(rt: HostRuntime) {
         );
     }
     assert!(rt; !is_in([].as_slice(), &1u8));
+}
+
+// As many bytes as are looked at one by one, and one more.
+const LONG: &str = "a name of thirty-three characters";
+
+// Texts, and whether they are the same.
+const PAIRS: &[(&str, &str, bool)] = &[
+    ("", "", true),
+    ("a", "a", true),
+    ("a", "b", false),
+    ("ab", "a", false),
+    ("ab", "bb", false),
+    ("ab", "aa", false),
+    (LONG, "a name of thirty-three characters", true),
+    (LONG, "a name of thirty-three characterS", false),
+];
+
+#[test]
+fn texts_are_compared(rt: HostRuntime) {
+    for (i, (left, right, same)) in PAIRS.iter().enumerate() {
+        check_at(&rt, is_same(left, right) == *same, i);
+        let order = Text::of(left).cmp(&Text::of(right));
+        check_at(&rt, order == left.cmp(right), i);
+    }
 }
 
 fn hold_two_pieces(bytes: &mut Bytes) -> bool {

@@ -32,26 +32,13 @@ pub(crate) fn kept_of<'a, 's>(kepts: &[Option<Kept<'a, 's>>], i: usize) -> Optio
     }
 }
 
-// Adds the names of a run of others to all of them.
-fn copy_names(all: &mut Texts, others: &Texts, run: Run) -> Result<(), NoMemory>
-    ensures { OnOk result (all.new ≡ all.old ++ slice_range others.now run.start run.end) }
-{
-    for i in run.start..run.end {
-        let Some(name) = others.at(i as usize) else {
-            return Ok(());
-        };
-        all.push(name)?;
-    }
-    Ok(())
-}
-
 // Adds the names of the run, and says where they stand.
 fn keep_names(all: &mut Texts, others: &Texts, run: Run) -> Result<Run, NoMemory>
     ensures { IfOk result (λ own. AddsNames
         all.old all.new own (slice_range others.now run.start run.end)) }
 {
     let start = place(all.len())?;
-    copy_names(all, others, run)?;
+    all.append(others, run.start as usize, run.end as usize)?;
     let end = place(all.len())?;
     Ok(Run { start, end })
 }

@@ -18,3 +18,4 @@ mod SortedNames
 mod RisingNames
 mod Risen
 mod TextEnds
+mod TextsMoved

@@ -4,7 +4,7 @@ use Rattle.std.proofs.lemmas.List.{take-append-le, drop-append-le, drop_at, take
 use Rattle.std.specs.List.{slice_get, slice_index, slice_range}
 use Rattle.transforms.specs.inner.Ends.{texts_from, start_from, AreEnds}
 
-next_start : (end : ℕ) (ends : List ℕ) (i : ℕ) → slice_index (end ∷ ends) i ≡ start_from end ends i
+pub next_start : (end : ℕ) (ends : List ℕ) (i : ℕ) → slice_index (end ∷ ends) i ≡ start_from end ends i
 next_start end ends zero = refl
 next_start end ends (suc i) = refl
 
@@ -13,7 +13,7 @@ start_behind ends zero h = absurd (h refl)
 start_behind ends (suc i) h = let e : suc i - 1 ≡ i = omega arith in rw e refl
 
 -- the bytes go as far as the first start at least
-start_within : (start : ℕ) (ends : List ℕ) (len : ℕ) → AreEnds start ends len → start ≤ len
+pub start_within : (start : ℕ) (ends : List ℕ) (len : ℕ) → AreEnds start ends len → start ≤ len
 start_within start [] len h = omega (arith, h)
 start_within start (end ∷ ends) len h = omega (arith, h.0, start_within end ends len h.1)
 
@@ -49,7 +49,7 @@ ends_more start [] len end h le = (omega (arith, h, le), refl)
 ends_more start (first ∷ ends) len end h le = (h.0, ends_more first ends len end h.1 le)
 
 -- bytes behind the end of a text leave it as it is
-within : (bytes text : List ℕ) (start end : ℕ) → start ≤ end → end ≤ length bytes → slice_range (bytes ++ text) start end ≡ slice_range bytes start end
+pub within : (bytes text : List ℕ) (start end : ℕ) → start ≤ end → end ≤ length bytes → slice_range (bytes ++ text) start end ≡ slice_range bytes start end
 within bytes text start end le fits =
     ap (take (end - start)) (drop-append-le start bytes text (omega (arith, le, fits)))
     ∙ take-append-le (end - start) (drop start bytes) text (rw length-drop (omega (arith, le, fits)))

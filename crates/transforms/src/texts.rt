@@ -1,8 +1,9 @@
 //! Texts end to end in one buffer.
 
-ghost use Rattle.std.specs.Prelude.{◌≡◌, ◌+◌, ◌≤◌, [], ◌∷◌, ◌++◌, IfOk, OnOk, OnErr, IfSome, length};
+ghost use Rattle.std.specs.Prelude.{◌≡◌, ◌+◌, ◌-◌, ◌^◌, ◌≤◌, ◌<◌, [], ◌∷◌, ◌++◌, All, IfOk, OnOk, OnErr, IfSome, length, map};
 ghost use Rattle.std.specs.Prelude.{option_map, slice_range};
 ghost use Rattle.std.specs.List.{slice_get};
+ghost use Rattle.smallvec.specs.SmallVec.{HasRoomFor};
 ghost use Rattle.transforms.specs.inner.Ends.{texts_from, start_from, AreEnds};
 
 use smallvec::SmallVec;
@@ -20,6 +21,7 @@ pub struct Texts {
 
 impl Model for Texts {
     ghost use Rattle.std.specs.Prelude.{List, ℕ, length};
+    ghost use Rattle.smallvec.specs.SmallVec.{HasRoomFor};
     ghost use Rattle.transforms.specs.inner.Ends.{texts_from, AreEnds};
 
     ghost Value = { List (List ℕ) };
@@ -31,7 +33,8 @@ impl Model for Texts {
 
 // Where a text of this length ends behind others; none from 4 GiB on.
 fn end_behind(start: usize, len: usize) -> Option<u32>
-    ensures { IfSome result (λ end. end ≡ start + len) }
+    ensures end { IfSome result (λ end. end ≡ start + len) }
+    ensures small { IfSome result (λ end. end < 2 ^ 32) }
 {
     let end = start.checked_add(len)?;
     if end > 0xffff_ffff {
@@ -69,6 +72,17 @@ fn text_at<'t>(bytes: &'t [u8], ends: &[u32], i: usize) -> Option<&'t [u8]>
     match ends.get(i) {
         Some(end) => Some(between(bytes, start_of(ends, i), *end as usize)),
         None => None,
+    }
+}
+
+// Adds where texts end that were moved from one place to another. There is room for them.
+fn push_moved(ends: &mut SmallVec<u32, 6>, others: &[u32], from: usize, to: usize)
+    requires room { HasRoomFor ends.old (length others.now) }
+    requires within { All (λ end. (from ≤ end) × (end - from + to < 2 ^ 32)) others.now }
+    ensures { ends.new.items ≡ ends.old.items ++ map (λ end. end - from + to) others.now }
+{
+    for end in others {
+        ends.push_reserved((*end as usize - from + to) as u32);
     }
 }
 
@@ -112,6 +126,29 @@ impl Texts {
         self.ends.reserve(1)?;
         self.bytes.extend_from_slice(text)?;
         self.ends.push_reserved(end);
+        Ok(())
+    }
+
+    /// Adds those of other texts that stand from one place on and before another, counted from 0, at the end. Where memory
+    /// runs out nothing changes; all texts have less than 4 GiB.
+    pub fn append(&mut self, others: &Texts, start: usize, end: usize) -> Result<(), NoMemory>
+        ensures ok { OnOk result (self.new ≡ self.old ++ slice_range others.now start end) }
+        ensures err { OnErr result (self.new ≡ self.old) }
+    {
+        let ends = others.ends.as_slice();
+        let end = end.min(ends.len());
+        if end <= start {
+            return Ok(());
+        }
+        let from = start_of(ends, start);
+        let to = self.bytes.len();
+        let moved = between(others.bytes.as_slice(), from, start_of(ends, end));
+        let Some(_last) = end_behind(to, moved.len()) else {
+            return Err(NoMemory);
+        };
+        self.ends.reserve(end - start)?;
+        self.bytes.extend_from_slice(moved)?;
+        push_moved(&mut self.ends, &ends[start..end], from, to);
         Ok(())
     }
 
