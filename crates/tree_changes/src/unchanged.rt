@@ -11,6 +11,7 @@ ghost use Rattle.tree_changes.specs.inner.Places.{ArePassed, IsPassed, IsPlaceOf
 
 use alias_ref::differ_decides;
 use group_inherit::{Entry, Flat};
+use lane_scan::are_same;
 use name_path::Path;
 use std::alloc::Global;
 use std::cmp::Ordering;
@@ -60,7 +61,7 @@ fn is_same(entry: &Entry<'_>, other: &Entry<'_>) -> bool
     ensures same { result ≡ true → raw_of entry.now ≡ raw_of other.now }
     ensures other { result ≡ false → raw_of entry.now ≢ raw_of other.now }
 {
-    entry.def.source == other.def.source
+    are_same(entry.def.source.as_bytes(), other.def.source.as_bytes())
         && entry.group_kind == other.group_kind
         && is_same_group_mark(&entry.group_mark, &other.group_mark)
 }
