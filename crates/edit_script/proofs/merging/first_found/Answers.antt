@@ -20,12 +20,12 @@ returns-in-Greater c os ns old new =
     step_new os ns c.in-Some-new.new_path.now c.in-Some-new.new_bytes.now (new ∙ ap (option_map lent_view) c.in-Some-new.is)
     (low_next os c.in-Some-new.new_path.now c.in-Some.old_path.now c.in-Some.old_bytes.now (old ∙ ap (option_map lent_view) c.in-Some.is) (turned c.in-Some.old_path.now c.in-Some-new.new_path.now (sym c.cmp.ensures ∙ c.in-Greater.is)))
 
-pub returns-then-eq : goal.returns-then-eq
-returns-then-eq c os ns old new =
+pub returns-then-are_same : goal.returns-then-are_same
+returns-then-are_same c os ns old new =
     step_same os ns c.in-Some.old_path.now c.in-Some.old_bytes.now c.in-Some-new.new_path.now c.in-Some-new.new_bytes.now
-    (old ∙ ap (option_map lent_view) c.in-Some.is) (new ∙ ap (option_map lent_view) c.in-Some-new.is) (sym c.cmp.ensures ∙ c.in-Equal.is) (sym c.eq.ensures ∙ c.if-eq.true)
+    (old ∙ ap (option_map lent_view) c.in-Some.is) (new ∙ ap (option_map lent_view) c.in-Some-new.is) (sym c.cmp.ensures ∙ c.in-Equal.is) (sym c.are_same.ensures ∙ c.if-are_same.true)
 
-pub returns-else-eq : goal.returns-else-eq
-returns-else-eq c os ns old new =
+pub returns-else-are_same : goal.returns-else-are_same
+returns-else-are_same c os ns old new =
     step_other os ns c.in-Some.old_path.now c.in-Some.old_bytes.now c.in-Some-new.new_path.now c.in-Some-new.new_bytes.now
-    (old ∙ ap (option_map lent_view) c.in-Some.is) (new ∙ ap (option_map lent_view) c.in-Some-new.is) (sym c.cmp.ensures ∙ c.in-Equal.is) (sym c.eq.ensures ∙ c.if-eq.false)
+    (old ∙ ap (option_map lent_view) c.in-Some.is) (new ∙ ap (option_map lent_view) c.in-Some-new.is) (sym c.cmp.ensures ∙ c.in-Equal.is) (sym c.are_same.ensures ∙ c.if-are_same.false)
